@@ -1,0 +1,28 @@
+-- Laws of an order of refusals: how code that tests in that order comes to its number. Assumes nothing.
+use mathlib.Core.Path.{_≡_, refl}
+use mathlib.Core.Bool.{Bool, true, false}
+use mathlib.Core.List.{List, [], _∷_}
+use Prim.Native.Nat.{ℕ, _<_}
+use native.Mathlib.Omega.{arith}
+use Rattle.lists.specs.Refusals.{Test, unless, refusal, _orRefuse_}
+
+-- no tests are left
+pub none-left : refusal [] ≡ 0
+unfolding refusal
+none-left = refl
+
+-- a test passes: what comes after decides
+pub go-on : {b : Bool} (n : ℕ) (ts : List Test) → b ≡ true → refusal (b orRefuse n ∷ ts) ≡ refusal ts
+unfolding refusal unless
+go-on n ts e = rw e refl
+
+-- it fails: its number
+pub stop : {b : Bool} (n : ℕ) (ts : List Test) → b ≡ false → refusal (b orRefuse n ∷ ts) ≡ n
+unfolding refusal unless
+stop n ts e = rw e refl
+
+-- no number, so the first test passed and nothing after it refused
+pub passed : (b : Bool) (n : ℕ) (ts : List Test) → 0 < n → refusal (b orRefuse n ∷ ts) ≡ 0 → (b ≡ true) × (refusal ts ≡ 0)
+unfolding refusal unless
+passed true n ts p e = (refl, e)
+passed false n ts p e = absurd (omega arith)

@@ -1,0 +1,8 @@
+-- Whether each of the first n passes a test.
+use mathlib.Core.Bool.{Bool, true, _&&_}
+use Prim.Native.Nat.{ℕ, zero, suc}
+
+-- f 0, f 1, … and f (n - 1)
+unfoldable pub allTo : (ℕ → Bool) → ℕ → Bool
+allTo f zero = true
+allTo f (suc n) = allTo f n && f n

@@ -1,0 +1,7 @@
+pub mod Choice
+pub mod All
+pub mod Sum
+pub mod Table
+pub mod Places
+pub mod Search
+pub mod Refusals

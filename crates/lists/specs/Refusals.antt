@@ -1,0 +1,24 @@
+-- Numbered refusals: tests in a fixed order, the first that fails gives its number.
+use mathlib.Core.Bool.{Bool, true, false}
+use mathlib.Core.List.{List, [], _∷_}
+use Prim.Native.Nat.{ℕ}
+
+-- a test, and the number refused by where it fails
+pub record Test : Type 0 where
+  pub passes : Bool
+  pub number : ℕ
+
+-- the number where the test fails, else what comes after
+unfoldable pub unless : Bool → ℕ → ℕ → ℕ
+unless true number after = after
+unless false number after = number
+
+-- the number of the first test that fails; 0 where all pass
+unfoldable pub refusal : List Test → ℕ
+refusal [] = 0
+refusal (t ∷ ts) = unless (t .passes) (t .number) (refusal ts)
+
+-- a line of an order of refusals
+infixl 70 _orRefuse_
+abbrev pub _orRefuse_ : Bool → ℕ → Test
+passes orRefuse number = record { passes = passes; number = number }

@@ -1,0 +1,51 @@
+// The quotient rounded up, and sums of it over lent columns, cut off at 2 to the 32.
+ghost use mathlib.Core.Path.{_≡_};
+ghost use Prim.Native.Nat.{ℕ, _+_, _*_, _≤_, _<_};
+ghost use Rattle.lists.specs.Places.{nth};
+ghost use Rattle.rounding.specs.Up.{up};
+ghost use Rattle.rounding.specs.Asked.{asked, cut};
+
+// x in 64 bits.
+pub fn wide(x: u32) -> u64
+    ensures { λ r. ⌜ (r ≡ x) × (r < 4294967296) ⌝ }
+{
+    x as u64
+}
+
+// x, cut off.
+pub fn capped(x: u64) -> u64
+    ensures { λ r. ⌜ r ≡ cut x ⌝ }
+{
+    if x < 4294967296 { x } else { 4294967296 }
+}
+
+// a / b rounded up: the divisor less one is added.
+pub fn quotient(a: u32, b: u32) -> u64
+    ensures { λ r. ⌜ r ≡ up a b ⌝ }
+{
+    if b < 1 {
+        return 0;
+    }
+    (wide(a) + (wide(b) - 1)) / wide(b)
+}
+
+// What one asks of a window of v ticks.
+pub fn share(v: u32, every: u32, cost: u32) -> u64
+    ensures { λ r. ⌜ (r ≡ up v every * cost) × (r ≤ 18446744065119617025) ⌝ }
+{
+    quotient(v, every) * wide(cost)
+}
+
+// What the first n ask of a window of v ticks, cut off.
+pub fn asked_of(cost: &[u32; 16], every: &[u32; 16], n: usize, v: u32) -> u64
+    requires { ⌜ n ≤ 16 ⌝ }
+    ensures { λ r. ⌜ r ≡ cut (asked (nth (now (cost .entry))) (nth (now (every .entry))) n v) ⌝ }
+{
+    let mut sum: u64 = 0;
+    let mut k: usize = 0;
+    while k < n {
+        sum = capped(sum + share(v, every[k], cost[k]));
+        k += 1;
+    }
+    sum
+}
