@@ -22,6 +22,15 @@ and-right false b e = absurd (false≢true e)
 pub and-true : {a b : Bool} → a ≡ true → b ≡ true → (a && b) ≡ true
 and-true p q = rw (p, q) refl
 
+-- not both, for want of the left
+pub and-false-left : {a : Bool} (b : Bool) → a ≡ false → (a && b) ≡ false
+and-false-left b e = rw e refl
+
+-- or of the right
+pub and-false-right : (a : Bool) {b : Bool} → b ≡ false → (a && b) ≡ false
+and-false-right true e = e
+and-false-right false e = refl
+
 -- a loop starts
 pub all-none : (f : ℕ → Bool) → allTo f 0 ≡ true
 unfolding allTo

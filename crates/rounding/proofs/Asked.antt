@@ -4,9 +4,9 @@ use Prim.Native.Nat.{ℕ, _+_, _*_, _≤_, _<_}
 use native.Mathlib.Nat.{mul-le-mul-right}
 use native.Mathlib.Omega.{arith}
 use Rattle.lists.specs.Sum.{sumTo}
-use Rattle.lists.proofs.Sum.{sum-none, sum-next, sum-le, sum-same}
 use Rattle.rounding.specs.Up.{up}
 use Rattle.rounding.specs.Asked.{asked, cut}
+use Rattle.lists.proofs.Sum.{sum-none, sum-next, sum-le, sum-same}
 use Rattle.rounding.proofs.Up.{up-mono, le-up}
 
 -- nobody asks nothing

@@ -1,0 +1,48 @@
+-- Laws of the first refusal. Assumes nothing.
+use mathlib.Core.Path.{_≡_, refl}
+use mathlib.Core.Logic.{⊎-elim}
+use Prim.Native.Nat.{ℕ, zero, suc, _+_, _-_, _≤_, _<_}
+use native.Mathlib.Nat.{eq-or-lt-of-le}
+use native.Mathlib.Numerals.{add-one}
+use native.Mathlib.Omega.{arith}
+use Rattle.plan.specs.declared.Refusal.{Refusal}
+use Rattle.plan.specs.First.{refused, fine, orElse, firstRefused}
+
+-- a loop's way out: place k is refused
+pub first-here : (f : ℕ → ℕ) (n k x : ℕ) → k < n → x ≡ f k → 0 < x → refused x k ≡ firstRefused f (n - k) k
+unfolding firstRefused orElse
+first-here f n k zero h e p = absurd (omega arith)
+first-here f n k (suc m) h e p = let q : n - k ≡ suc (n - (k + 1)) = omega arith in rw (q, ← e) refl
+
+-- a loop's turn: it is not
+pub first-next : (f : ℕ → ℕ) (n k x : ℕ) → k < n → x ≡ f k → x ≤ 0 → firstRefused f (n - (k + 1)) (k + 1) ≡ firstRefused f (n - k) k
+unfolding firstRefused orElse
+first-next f n k x h e p =
+    let q : n - k ≡ suc (n - (k + 1)) = omega arith in
+    let z : f k ≡ 0 = omega arith in
+    rw (q, z, add-one) refl
+
+-- a loop's end
+pub first-end : (f : ℕ → ℕ) (n k : ℕ) → n ≤ k → fine ≡ firstRefused f (n - k) k
+unfolding firstRefused
+first-end f n k h = let q : n - k ≡ 0 = omega arith in rw q refl
+
+-- no number here, so what comes after has none
+after-zero : (x k : ℕ) (r : Refusal) → orElse x k r .number ≡ 0 → (x ≡ 0) × (r .number ≡ 0)
+unfolding orElse
+after-zero zero k r e = (refl, e)
+after-zero (suc n) k r e = absurd (omega arith)
+
+-- no refusal, so no place has a number
+pub first-none : (f : ℕ → ℕ) (m k : ℕ) → firstRefused f m k .number ≡ 0 → (z : ℕ) → k ≤ z → z < k + m → f z ≡ 0
+unfolding firstRefused
+first-none f zero k e z l h = absurd (omega arith)
+first-none f (suc m) k e z l h =
+    let p = after-zero (f k) k (firstRefused f m (suc k)) e in
+    ⊎-elim (λ q. rw (← q) (p .0)) (λ q. first-none f m (suc k) (p .1) z q (omega arith)) (eq-or-lt-of-le {n = k} {m = z} l)
+
+-- numbers that agree refuse the same
+pub first-ext : (f g : ℕ → ℕ) (m k : ℕ) → ((z : ℕ) → k ≤ z → z < k + m → f z ≡ g z) → firstRefused f m k ≡ firstRefused g m k
+unfolding firstRefused
+first-ext f g zero k h = refl
+first-ext f g (suc m) k h = rw (h k (omega arith) (omega arith), first-ext f g m (suc k) (λ z l b. h z (omega arith) (omega arith))) refl

@@ -1,0 +1,110 @@
+-- How the code comes to the records' refusal, and what records that pass say. Assumes nothing.
+use mathlib.Core.Path.{_≡_, refl, sym, ap, _∙_}
+use mathlib.Core.Bool.{Bool, true, false, not, _&&_}
+use mathlib.Core.List.{List, []}
+use Prim.Native.Nat.{ℕ, _+_, _≤_, _<_}
+use native.Mathlib.Omega.{arith}
+use lib.Dec.{eqb}
+use borrow.Author.Tests.{le-leb, lt-leb}
+use Rattle.lists.specs.All.{allTo}
+use Rattle.lists.specs.Places.{nth}
+use Rattle.plan.specs.declared.Guest.{Guest}
+use Rattle.plan.specs.declared.Plan.{Plan}
+use Rattle.plan.specs.Records.{guestAt}
+use Rattle.plan.specs.Ranges.{mostGuests, within, guestOk, tasksOk}
+use Rattle.plan.specs.Filled.{Filled}
+use Rattle.plan.specs.First.{refused, firstRefused}
+use Rattle.plan.specs.Order.{newId, numberOf, guestNumber, countedBy, planRefusal}
+use Rattle.lists.proofs.All.{and-left, and-right, and-true, and-false-left, and-false-right, all-turn, all-ext}
+use Rattle.lists.proofs.Refusals.{none-left, go-on, stop, passed}
+use Rattle.plan.proofs.First.{first-none}
+use Rattle.plan.proofs.Ranges.{within-says, GuestIn, guest-says}
+
+-- the order of one guest, by what its tests come to
+module _ (g : Guest) (fresh : Bool) where
+  -- its head is out of range
+  pub four-head : guestOk g ≡ false → 4 ≡ numberOf g fresh
+  unfolding numberOf
+  four-head e = sym (stop 4 _ (and-false-left fresh e))
+
+  -- its id is not new
+  pub four-id : fresh ≡ false → 4 ≡ numberOf g fresh
+  unfolding numberOf
+  four-id e = sym (stop 4 _ (and-false-right (guestOk g) e))
+
+  module _ (p : guestOk g ≡ true) (q : fresh ≡ true) where
+    -- a task is out of range
+    pub six : tasksOk g ≡ false → 6 ≡ numberOf g fresh
+    unfolding numberOf
+    six e = sym (go-on 4 _ (and-true p q) ∙ stop 6 _ e)
+
+    -- nothing is
+    pub none : tasksOk g ≡ true → 0 ≡ numberOf g fresh
+    unfolding numberOf
+    none e = sym (go-on 4 _ (and-true p q) ∙ go-on 6 _ e ∙ none-left)
+
+-- a turn of the loop over the ids before k
+pub new-turn : (ids : List ℕ) (k j id : ℕ) (ok : Bool) → id ≡ nth ids k → ok ≡ allTo (λ i. not (eqb (nth ids i) (nth ids k))) j
+    → (ok && not (eqb (nth ids j) id)) ≡ allTo (λ i. not (eqb (nth ids i) (nth ids k))) (j + 1)
+new-turn ids k j id ok e h = all-turn _ j ok _ h (rw e refl)
+
+-- the ids in a column are the records'
+pub new-id-is : (gs : List Guest) (ids : List ℕ) (k : ℕ) → k < 8 → Filled ids (λ j. guestAt gs j .id) mostGuests → newId (nth ids) k ≡ newId (λ j. guestAt gs j .id) k
+unfolding newId
+new-id-is gs ids k h f = all-ext _ _ k (λ j l. rw (f .holds j (omega arith), f .holds k (omega arith)) refl)
+
+-- so the code's number is the guest's
+pub number-is : (gs : List Guest) (ids : List ℕ) (k : ℕ) → k < 8 → Filled ids (λ j. guestAt gs j .id) mostGuests → {fresh : Bool} {x : ℕ}
+    → fresh ≡ newId (nth ids) k → x ≡ numberOf (guestAt gs k) fresh → x ≡ guestNumber gs k
+unfolding guestNumber
+number-is gs ids k h f e q = q ∙ ap (λ (b : Bool). numberOf (guestAt gs k) b) (e ∙ new-id-is gs ids k h f)
+
+-- no guest
+pub count-few : (p : Plan) → p .count < 1 → refused 1 0 ≡ planRefusal p
+unfolding planRefusal countedBy
+count-few p h = rw (lt-leb 1 (p .count) h) refl
+
+-- more than 8
+pub count-many : (p : Plan) → 1 ≤ p .count → 8 < p .count → refused 1 0 ≡ planRefusal p
+unfolding planRefusal countedBy
+count-many p l h = rw (le-leb 1 (p .count) l, lt-leb (p .count) 8 h) refl
+
+-- 1 to 8 guests: the first refusal
+pub counted : (p : Plan) → 1 ≤ p .count → p .count ≤ 8 → firstRefused (guestNumber (p .guests)) (p .count) 0 ≡ planRefusal p
+unfolding planRefusal countedBy
+counted p l h = rw (le-leb 1 (p .count) l, le-leb (p .count) 8 h) refl
+
+-- records in order
+pub record PlanIn (p : Plan) : Type 0 where
+  pub some : 1 ≤ p .count
+  pub few : p .count ≤ 8
+  pub guests : (k : ℕ) → k < p .count → GuestIn (guestAt (p .guests) k)
+  pub new : (k : ℕ) → k < p .count → newId (λ j. guestAt (p .guests) j .id) k ≡ true
+
+-- a guest that no number refuses is in its ranges, and its id is new
+pub number-none : (gs : List Guest) (k : ℕ) → guestNumber gs k ≡ 0 → GuestIn (guestAt gs k) × (newId (λ j. guestAt gs j .id) k ≡ true)
+unfolding guestNumber numberOf
+number-none gs k e =
+    let a = passed (guestOk (guestAt gs k) && newId (λ j. guestAt gs j .id) k) 4 _ (omega arith) e in
+    let b = passed (tasksOk (guestAt gs k)) 6 [] (omega arith) (a .1) in
+    (guest-says (guestAt gs k) (and-left (guestOk (guestAt gs k)) _ (a .0)) (b .0), and-right (guestOk (guestAt gs k)) _ (a .0))
+
+-- by whether the count is 1 to 8
+counted-none : (b : Bool) (p : Plan) → countedBy b p .number ≡ 0 → (b ≡ true) × (firstRefused (guestNumber (p .guests)) (p .count) 0 .number ≡ 0)
+unfolding countedBy
+counted-none true p e = (refl, e)
+counted-none false p e = absurd (omega arith)
+
+-- records that are not refused are in order
+pub plan-in : (p : Plan) → planRefusal p .number ≡ 0 → PlanIn p
+unfolding planRefusal
+plan-in p e =
+    let c = counted-none (within 1 8 (p .count)) p e in
+    let w = within-says 1 8 (p .count) (c .0) in
+    let each : (k : ℕ) → k < p .count → guestNumber (p .guests) k ≡ 0 = λ k h. first-none (guestNumber (p .guests)) (p .count) 0 (c .1) k (omega arith) (omega arith) in
+    record {
+      some = w .0;
+      few = w .1;
+      guests = λ k h. number-none (p .guests) k (each k h) .0;
+      new = λ k h. number-none (p .guests) k (each k h) .1;
+    }

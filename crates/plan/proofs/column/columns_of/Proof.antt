@@ -1,0 +1,92 @@
+-- `plan::columns_of` meets its contract: each column is filled place by place. Assumes nothing.
+use mathlib.Core.Path.{refl}
+use Prim.Native.Nat.{_≤_, _-_}
+use native.Mathlib.Omega.{arith}
+use lib.ListN.{getD}
+use borrow.Author.Needs.{needs}
+use Rattle.plan.specs.Records.{absent}
+use Rattle.plan.specs.Filled.{Filled}
+use Rattle.plan.proofs.Filled.{filled-next, filled-done}
+use Rattle.plan.proofs.column.columns_of.Statement.{statement}
+use Rattle.plan.proofs.column.columns_of.Tie as tie
+
+abbrev Inv-loop : tie.InvT-loop
+Inv-loop guests ids₀ capacities₀ periods₀ k₀ ids capacities periods k = (k ≤ 8) × (Filled ids (λ i. getD guests i absent .id) k × (Filled capacities (λ i. getD guests i absent .capacity) k × Filled periods (λ i. getD guests i absent .period) k))
+
+abbrev μ-loop : tie.MeasureT-loop
+μ-loop guests ids₀ capacities₀ periods₀ k₀ ids capacities periods k = 8 - k
+
+loop-holds : tie.Need-loop-holds Inv-loop μ-loop
+loop-holds c = (search needs, (record { long = refl; holds = λ z h. absurd (omega arith) }, (record { long = refl; holds = λ z h. absurd (omega arith) }, record { long = refl; holds = λ z h. absurd (omega arith) })))
+
+mul-ids : tie.Need-mul-ids Inv-loop μ-loop
+mul-ids c = search needs
+
+element-copy-out-ids : tie.Need-element-copy-out-ids Inv-loop μ-loop
+element-copy-out-ids c = search needs
+
+mul-ids-2 : tie.Need-mul-ids-2 Inv-loop μ-loop
+mul-ids-2 c = search needs
+
+array-write-ids : tie.Need-array-write-ids Inv-loop μ-loop
+array-write-ids c = search needs
+
+mul-capacities : tie.Need-mul-capacities Inv-loop μ-loop
+mul-capacities c = search needs
+
+element-copy-out-capacities : tie.Need-element-copy-out-capacities Inv-loop μ-loop
+element-copy-out-capacities c = search needs
+
+mul-capacities-2 : tie.Need-mul-capacities-2 Inv-loop μ-loop
+mul-capacities-2 c = search needs
+
+array-write-capacities : tie.Need-array-write-capacities Inv-loop μ-loop
+array-write-capacities c = search needs
+
+mul-periods : tie.Need-mul-periods Inv-loop μ-loop
+mul-periods c = search needs
+
+element-copy-out-periods : tie.Need-element-copy-out-periods Inv-loop μ-loop
+element-copy-out-periods c = search needs
+
+mul-periods-2 : tie.Need-mul-periods-2 Inv-loop μ-loop
+mul-periods-2 c = search needs
+
+array-write-periods : tie.Need-array-write-periods Inv-loop μ-loop
+array-write-periods c = search needs
+
+add-k : tie.Need-add-k Inv-loop μ-loop
+add-k c = search needs
+
+loop-less : tie.Need-loop-less Inv-loop μ-loop
+loop-less c = search needs
+
+loop-again : tie.Need-loop-again Inv-loop μ-loop
+loop-again c = let l = c .before in (search needs, (filled-next _ _ (omega arith) (l .loop .inv .1 .0), (filled-next _ _ (omega arith) (l .loop .inv .1 .1 .0), filled-next _ _ (omega arith) (l .loop .inv .1 .1 .1))))
+
+returns : tie.Need-returns Inv-loop μ-loop
+returns c = let l = c .before in record { ids = filled-done _ _ _ (c .loop-test .left) (l .loop .inv .1 .0); capacities = filled-done _ _ _ (c .loop-test .left) (l .loop .inv .1 .1 .0); periods = filled-done _ _ _ (c .loop-test .left) (l .loop .inv .1 .1 .1) }
+
+pub columns-of-spec : {M : Type 1} → statement M
+columns-of-spec =
+    tie.close
+    (tie.spec
+    Inv-loop
+    μ-loop
+    loop-holds
+    mul-ids
+    element-copy-out-ids
+    mul-ids-2
+    array-write-ids
+    mul-capacities
+    element-copy-out-capacities
+    mul-capacities-2
+    array-write-capacities
+    mul-periods
+    element-copy-out-periods
+    mul-periods-2
+    array-write-periods
+    add-k
+    loop-less
+    loop-again
+    returns)

@@ -1,0 +1,7 @@
+pub mod Records
+pub mod Ranges
+pub mod Charge
+pub mod First
+pub mod Order
+pub mod Filled
+pub mod Promises

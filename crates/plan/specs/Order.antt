@@ -1,0 +1,34 @@
+-- Records handed over as a plan: 1, then 4 and 6 guest by guest.
+use mathlib.Core.Bool.{Bool, true, false, not, _&&_}
+use mathlib.Core.List.{List, [], _∷_}
+use Prim.Native.Nat.{ℕ}
+use lib.Dec.{eqb}
+use Rattle.lists.specs.All.{allTo}
+use Rattle.lists.specs.Refusals.{refusal, _orRefuse_}
+use Rattle.plan.specs.declared.Guest.{Guest}
+use Rattle.plan.specs.declared.Plan.{Plan}
+use Rattle.plan.specs.declared.Refusal.{Refusal}
+use Rattle.plan.specs.Records.{guestAt}
+use Rattle.plan.specs.Ranges.{mostGuests, within, guestOk, tasksOk}
+use Rattle.plan.specs.First.{refused, firstRefused}
+
+-- the id at place k stands at no earlier place
+unfoldable pub newId : (ℕ → ℕ) → ℕ → Bool
+newId id k = allTo (λ j. not (eqb (id j) (id k))) k
+
+-- the number that a guest is refused by, 0 for none; `fresh` says that its id is new
+unfoldable pub numberOf : Guest → Bool → ℕ
+numberOf g fresh = refusal ((guestOk g && fresh) orRefuse 4 ∷ tasksOk g orRefuse 6 ∷ [])
+
+-- of the guest at place k
+unfoldable pub guestNumber : List Guest → ℕ → ℕ
+guestNumber gs k = numberOf (guestAt gs k) (newId (λ j. guestAt gs j .id) k)
+
+-- by whether the count is 1 to 8
+unfoldable pub countedBy : Bool → Plan → Refusal
+countedBy false p = refused 1 0
+countedBy true p = firstRefused (guestNumber (p .guests)) (p .count) 0
+
+-- the records' refusal
+unfoldable pub planRefusal : Plan → Refusal
+planRefusal p = countedBy (within 1 mostGuests (p .count)) p

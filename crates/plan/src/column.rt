@@ -1,0 +1,25 @@
+// The columns of a plan.
+ghost use Rattle.plan.specs.Filled.{ColumnsOf};
+use crate::Columns;
+use crate::Plan;
+
+pub fn columns_of(plan: Plan) -> Columns
+    ensures { λ r. ⌜ ColumnsOf (plan .guests) r ⌝ }
+{
+    let guests = plan.guests;
+    let mut ids = [0u32; 16];
+    let mut capacities = [0u32; 16];
+    let mut periods = [0u32; 16];
+    let mut k: usize = 0;
+    while k < 8 {
+        ids[k] = guests[k].id;
+        capacities[k] = guests[k].capacity;
+        periods[k] = guests[k].period;
+        k += 1;
+    }
+    Columns {
+        ids,
+        capacities,
+        periods,
+    }
+}

@@ -1,0 +1,87 @@
+// A plan's records by value, and the one check on records handed over as a plan.
+ghost use mathlib.Core.Path.{_≡_};
+ghost use Prim.Native.Nat.{ℕ, _≤_, _<_};
+ghost use Rattle.plan.specs.Records.{blank};
+ghost use Rattle.plan.specs.Promises.{Checks};
+
+mod column;
+mod guests;
+mod tests;
+
+pub use column::columns_of;
+pub use tests::charged_run;
+pub use tests::head_ok;
+pub use tests::new_id;
+pub use tests::tasks_ok;
+
+// A guest: its server, and its tasks' columns. `every` is each task's period.
+#[repr(C)]
+pub struct Guest {
+    pub id: u32,
+    pub capacity: u32,
+    pub period: u32,
+    pub tasks: u32,
+    pub charge: u16,
+    pub run: [u32; 16],
+    pub every: [u32; 16],
+    pub deadline: [u32; 16],
+}
+
+// A plan: its first `count` guests, the first with the highest priority.
+#[repr(C)]
+pub struct Plan {
+    pub count: u32,
+    pub guests: [Guest; 8],
+}
+
+// A refusal's number and place; number 0 for none.
+#[repr(C)]
+pub struct Refusal {
+    pub number: u32,
+    pub place: u32,
+}
+
+// One number of each guest.
+pub struct Columns {
+    pub ids: [u32; 16],
+    pub capacities: [u32; 16],
+    pub periods: [u32; 16],
+}
+
+// A record of zeros.
+pub fn blank_guest() -> Guest
+    ensures { λ r. ⌜ r ≡ blank ⌝ }
+{
+    Guest {
+        id: 0,
+        capacity: 0,
+        period: 0,
+        tasks: 0,
+        charge: 0,
+        run: [0; 16],
+        every: [0; 16],
+        deadline: [0; 16],
+    }
+}
+
+// The records' refusal: 1, then 4 and 6 guest by guest.
+pub fn check(plan: Plan) -> Refusal
+    ensures { λ r. ⌜ Checks plan r ⌝ }
+{
+    let n = plan.count;
+    if n < 1 {
+        return Refusal {
+            number: 1,
+            place: 0,
+        };
+    }
+    if 8 < n {
+        return Refusal {
+            number: 1,
+            place: 0,
+        };
+    }
+    let c = columns_of(plan);
+    let ids = c.ids;
+    guests::first_refused(plan, &ids, n as usize)
+}
