@@ -1,6 +1,6 @@
 -- Laws of `least` and `firstFrom`. Assumes nothing.
 use mathlib.Core.Path.{_≡_, refl, sym, _∙_, ap}
-use mathlib.Core.Logic.{_⊎_, inl, inr}
+use mathlib.Core.Logic.{_⊎_, inl, inr, ⊎-elim}
 use mathlib.Core.Bool.{Bool, true, false, false≢true}
 use Prim.Native.Nat.{ℕ, zero, suc, _+_, _-_, _≤_, _<_}
 use native.Mathlib.Nat.{eq-or-lt-of-le}
@@ -151,3 +151,19 @@ first-le-add f (suc m) k = le-by (f k) k m (firstFrom f m (suc k)) (first-le-add
 
 pub first-le : (f : ℕ → Bool) (n : ℕ) → firstFrom f n 0 ≤ n
 first-le f n = omega (arith, first-le-add f n 0)
+
+-- tests that agree find the same place
+pub first-ext : (f g : ℕ → Bool) (m k : ℕ) → ((z : ℕ) → z < k + m → f z ≡ g z) → firstFrom f m k ≡ firstFrom g m k
+unfolding firstFrom
+first-ext f g zero k h = refl
+first-ext f g (suc m) k h = rw (h k (omega arith), first-ext f g m (suc k) (λ z l. h z (omega arith))) refl
+
+-- before the place that was found none passes
+before-by : (f : ℕ → Bool) (k r z : ℕ) (b : Bool) → f k ≡ b → (suc k ≤ z → z < r → f z ≡ false) → k ≤ z → z < pick b k r → f z ≡ false
+before-by f k r z true e g l h = absurd (omega arith)
+before-by f k r z false e g l h = ⊎-elim (λ p. rw (← p) e) (λ p. g p h) (eq-or-lt-of-le {n = k} {m = z} l)
+
+pub first-before : (f : ℕ → Bool) (m k z : ℕ) → k ≤ z → z < firstFrom f m k → f z ≡ false
+unfolding firstFrom
+first-before f zero k z l h = absurd (omega arith)
+first-before f (suc m) k z l h = before-by f k (firstFrom f m (suc k)) z (f k) refl (first-before f m (suc k) z) l h

@@ -3,4 +3,5 @@ pub mod Filled
 pub mod First
 pub mod Ranges
 pub mod Order
+pub mod Place
 pub mod Promises

@@ -9,6 +9,7 @@ mod guests;
 mod tests;
 
 pub use column::columns_of;
+pub use column::place_of;
 pub use tests::charged_run;
 pub use tests::head_ok;
 pub use tests::new_id;

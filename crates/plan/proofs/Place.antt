@@ -1,0 +1,25 @@
+-- A guest's place, as the code finds it in the column of ids. Assumes nothing.
+use mathlib.Core.Path.{_≡_, refl}
+use mathlib.Core.List.{List}
+use Prim.Native.Nat.{ℕ, _≤_}
+use native.Mathlib.Omega.{arith}
+use lib.Dec.{eqb}
+use Rattle.lists.specs.Places.{nth}
+use Rattle.lists.specs.Search.{firstFrom}
+use Rattle.plan.specs.declared.Plan.{Plan}
+use Rattle.plan.specs.Records.{guestAt}
+use Rattle.plan.specs.Ranges.{mostGuests}
+use Rattle.plan.specs.Filled.{Filled}
+use Rattle.plan.specs.Place.{placeOf}
+use Rattle.lists.proofs.Search.{first-ext, first-le}
+
+-- the column's place is the plan's
+pub place-is : (p : Plan) (ids : List ℕ) (id : ℕ) → p .count ≤ 8 → Filled ids (λ j. guestAt (p .guests) j .id) mostGuests
+    → firstFrom (λ k. eqb (nth ids k) id) (p .count) 0 ≡ placeOf p id
+unfolding placeOf
+place-is p ids id h f = first-ext _ _ (p .count) 0 (λ z l. rw (f .holds z (omega arith)) refl)
+
+-- it is one of the guests', or the count
+pub place-le : (p : Plan) (id : ℕ) → placeOf p id ≤ p .count
+unfolding placeOf
+place-le p id = first-le _ (p .count)
