@@ -1,0 +1,29 @@
+-- Fresh start: no job, no wait and no age in any of the 128 places, all positions 0, no capacity left, and the records as handed over.
+use Prim.Native.Nat.{ℕ, zero, suc}
+use lib.ListN.{replicate}
+use Rattle.plan.specs.declared.Plan.{Plan}
+use Rattle.plan.specs.Records.{blankPlan}
+use Rattle.plan.specs.Order.{planRefusal}
+use Rattle.dispatcher.specs.declared.Dispatcher.{Dispatcher}
+use Rattle.dispatcher.specs.declared.Started.{Started}
+
+-- the fresh state of a plan
+unfoldable pub idle : Plan → Dispatcher
+idle p =
+    record {
+      plan = p;
+      left = replicate 8 0;
+      position = replicate 8 0;
+      rest = replicate 128 0;
+      wait = replicate 128 0;
+      age = replicate 128 0;
+    }
+
+-- by the records' number: a refused start is zero throughout, guest count included
+unfoldable pub startedBy : ℕ → Plan → Dispatcher
+startedBy zero p = idle p
+startedBy (suc n) p = idle blankPlan
+
+-- the records' order, then the fresh state
+unfoldable pub fresh : Plan → Started
+fresh p = record { refusal = planRefusal p; state = startedBy (planRefusal p .number) p }

@@ -1,0 +1,9 @@
+pub mod State
+pub mod Valid
+pub mod Fresh
+pub mod Release
+pub mod Tick
+pub mod Answer
+pub mod Run
+pub mod Entries
+pub mod Promises

@@ -1,0 +1,28 @@
+-- What the dispatcher's calls promise: the whole outcome, on refusals too.
+use mathlib.Core.Path.{_≡_}
+use Prim.Native.Nat.{ℕ}
+use Rattle.plan.specs.declared.Plan.{Plan}
+use Rattle.dispatcher.specs.declared.Dispatcher.{Dispatcher}
+use Rattle.dispatcher.specs.declared.Started.{Started}
+use Rattle.dispatcher.specs.declared.Released.{Released}
+use Rattle.dispatcher.specs.declared.Ticked.{Ticked}
+use Rattle.dispatcher.specs.declared.Ran.{Ran}
+use Rattle.dispatcher.specs.Fresh.{fresh}
+use Rattle.dispatcher.specs.Release.{release}
+use Rattle.dispatcher.specs.Entries.{tick, run}
+
+-- fresh start
+abbrev pub Starts : Plan → Started → Type 0
+Starts p r = r ≡ fresh p
+
+-- release of a task, by guest id and task number
+abbrev pub Releases : Dispatcher → ℕ → ℕ → Released → Type 0
+Releases d id task r = r ≡ release d id task
+
+-- one tick
+abbrev pub Ticks : Dispatcher → Ticked → Type 0
+Ticks d r = r ≡ tick d
+
+-- a run of n ticks
+abbrev pub Runs : Dispatcher → ℕ → Ran → Type 0
+Runs d n r = r ≡ run d n

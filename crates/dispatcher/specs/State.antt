@@ -1,0 +1,26 @@
+-- The state seen guest by guest and task by task.
+use Prim.Native.Nat.{ℕ, _+_, _*_}
+use Rattle.lists.specs.Places.{nth}
+use Rattle.plan.specs.declared.Guest.{Guest}
+use Rattle.plan.specs.Records.{guestAt}
+use Rattle.dispatcher.specs.declared.Dispatcher.{Dispatcher}
+
+-- where task t of guest k stands in the flat arrays
+abbrev pub placeAt : ℕ → ℕ → ℕ
+placeAt k t = k * 16 + t
+
+-- guest k
+abbrev pub guestIn : Dispatcher → ℕ → Guest
+guestIn d k = guestAt (d .plan .guests) k
+
+-- run left of task t of guest k
+abbrev pub restAt : Dispatcher → ℕ → ℕ → ℕ
+restAt d k t = nth (d .rest) (placeAt k t)
+
+-- its wait
+abbrev pub waitAt : Dispatcher → ℕ → ℕ → ℕ
+waitAt d k t = nth (d .wait) (placeAt k t)
+
+-- its age
+abbrev pub ageAt : Dispatcher → ℕ → ℕ → ℕ
+ageAt d k t = nth (d .age) (placeAt k t)

@@ -1,0 +1,53 @@
+// The dispatcher: its state by value, and the calls that take it and give it back.
+use plan::Plan;
+use plan::Refusal;
+
+// The plan's records; for each guest the capacity left and the position in its period;
+// for task t of guest g, at place 16 g + t, the run left, the wait and the age.
+#[repr(C)]
+pub struct Dispatcher {
+    pub plan: Plan,
+    pub left: [u32; 8],
+    pub position: [u32; 8],
+    pub rest: [u32; 128],
+    pub wait: [u32; 128],
+    pub age: [u32; 128],
+}
+
+// Who had a tick: nobody; a guest that idled it away; a task; a task that finished, with its age and margin.
+// Silent where there was no tick.
+pub enum Answer {
+    Silent,
+    Nobody,
+    Idled(u32),
+    Worked(u32, u32),
+    Finished {
+        guest: u32,
+        task: u32,
+        age: u32,
+        margin: i32,
+    },
+}
+
+pub struct Started {
+    pub refusal: Refusal,
+    pub state: Dispatcher,
+}
+
+pub struct Released {
+    pub refusal: Refusal,
+    pub state: Dispatcher,
+}
+
+pub struct Ticked {
+    pub refusal: Refusal,
+    pub answer: Answer,
+    pub state: Dispatcher,
+}
+
+pub struct Ran {
+    pub refusal: Refusal,
+    pub done: u32,
+    pub answer: Answer,
+    pub state: Dispatcher,
+}
