@@ -1,0 +1,149 @@
+-- Laws of the bytes of words: words and bytes go over into each other and back. Assumes nothing.
+use mathlib.Core.Path.{_≡_, refl, sym, ap, _∙_}
+use mathlib.Core.Logic.{⊎-elim}
+use mathlib.Core.List.{List, [], _∷_, _++_, append-assoc}
+use Prim.Native.Nat.{ℕ, zero, suc, _+_, _*_, _/_, _%_, _^_, _≤_, _<_}
+use native.Mathlib.Numerals.{add-one}
+use native.Mathlib.Omega.{arith}
+use native.Mathlib.Nat.{eq-or-lt-of-le, div-div-eq-div-mul, mod-eq-of-lt}
+use lib.ListN.{length, getD, take, drop, length-append}
+use Rattle.words.specs.Word.{u32At, word}
+use Rattle.words.specs.Bytes.{bytes4, withU32, bytesOf}
+
+-- four bytes a word
+pub length-bytesOf : (f : ℕ → ℕ) (n : ℕ) → length (bytesOf f n) ≡ 4 * n
+unfolding bytesOf
+length-bytesOf f zero = refl
+length-bytesOf f (suc n) = simp length-append (omega (arith, length-bytesOf f n))
+
+-- four known elements at a seam
+at-seam : (p : List ℕ) (a b c d : ℕ) (t : List ℕ) (n : ℕ) → length p ≡ n →
+    u32At (p ++ (a ∷ b ∷ c ∷ d ∷ t)) n ≡ a + 256 * b + 65536 * c + 16777216 * d
+at-seam [] a b c d t zero e = refl
+at-seam [] a b c d t (suc n) e = absurd (omega arith)
+at-seam (x ∷ p) a b c d t zero e = absurd (omega arith)
+at-seam (x ∷ p) a b c d t (suc n) e =
+    let e2 : length p ≡ n = omega arith in
+    let s1 : suc n + 1 ≡ suc (n + 1) = omega arith in
+    let s2 : suc n + 2 ≡ suc (n + 2) = omega arith in
+    let s3 : suc n + 3 ≡ suc (n + 3) = omega arith in
+    rw (s1, s2, s3) (at-seam p a b c d t n e2)
+
+-- a word is the sum of its bytes
+digits : (w r0 r1 r2 r3 q1 q2 : ℕ) → w ≡ r0 + 256 * q1 → q1 ≡ r1 + 256 * q2 → q2 ≡ r2 + 256 * r3 →
+    r0 + 256 * r1 + 65536 * r2 + 16777216 * r3 ≡ w
+digits w r0 r1 r2 r3 q1 q2 h0 h1 h2 = omega arith
+
+by256 : (x : ℕ) → x ≡ x % 256 + 256 * (x / 256)
+by256 x = omega arith
+
+small : (x : ℕ) → x < 2 ^ 32 → x / 16777216 % 256 ≡ x / 16777216
+small x h = omega arith
+
+join4 : (w : ℕ) → w < 2 ^ 32 → w % 256 + 256 * (w / 256 % 256) + 65536 * (w / 65536 % 256) + 16777216 * (w / 16777216 % 256) ≡ w
+join4 w h =
+    digits w (w % 256) (w / 256 % 256) (w / 65536 % 256) (w / 16777216 % 256) (w / 256) (w / 65536)
+    (by256 w)
+    (by256 (w / 256) ∙ ap (λ (q : ℕ). w / 256 % 256 + 256 * q) (div-div-eq-div-mul w 256 256))
+    (by256 (w / 65536) ∙ ap (λ (q : ℕ). w / 65536 % 256 + 256 * q) (div-div-eq-div-mul w 65536 256 ∙ sym (small w h)))
+
+-- and its bytes are those of the sum
+low : (a y : ℕ) → a < 256 → (a + 256 * y) % 256 ≡ a
+low a y h = omega arith
+
+high : (a y : ℕ) → a < 256 → (a + 256 * y) / 256 ≡ y
+high a y h = omega arith
+
+split4 : (a b c d : ℕ) → a < 256 → b < 256 → c < 256 → d < 256 →
+    bytes4 (a + 256 * b + 65536 * c + 16777216 * d) ≡ a ∷ b ∷ c ∷ d ∷ []
+split4 a b c d ha hb hc hd =
+    let w : ℕ = a + 256 * (b + 256 * (c + 256 * d)) in
+    let e : a + 256 * b + 65536 * c + 16777216 * d ≡ w = omega arith in
+    let q1 : w / 256 ≡ b + 256 * (c + 256 * d) = high a (b + 256 * (c + 256 * d)) ha in
+    let q2 : w / 65536 ≡ c + 256 * d = sym (div-div-eq-div-mul w 256 256) ∙ ap (λ (q : ℕ). q / 256) q1 ∙ high b (c + 256 * d) hb in
+    let q3 : w / 16777216 ≡ d = sym (div-div-eq-div-mul w 65536 256) ∙ ap (λ (q : ℕ). q / 256) q2 ∙ high c d hc in
+    rw (e, q1, q2, q3, low a (b + 256 * (c + 256 * d)) ha, low b (c + 256 * d) hb, low c d hc, mod-eq-of-lt hd)
+
+-- words of the bytes of words
+pub word-bytesOf : (f : ℕ → ℕ) (n : ℕ) (t : List ℕ) (k : ℕ) → k < n → f k < 2 ^ 32 → word (bytesOf f n ++ t) k ≡ f k
+unfolding word bytesOf
+word-bytesOf f zero t k l h = absurd (omega arith)
+word-bytesOf f (suc n) t k l h =
+    rw append-assoc
+    (⊎-elim
+    (λ e. rw e (at-seam (bytesOf f n) (f n % 256) (f n / 256 % 256) (f n / 65536 % 256) (f n / 16777216 % 256) t (4 * n) (length-bytesOf f n)
+    ∙ join4 (f n) (rw e at h)))
+    (λ m. word-bytesOf f n (bytes4 (f n) ++ t) k m h)
+    (eq-or-lt-of-le {n = k} {m = n} (omega arith)))
+
+-- the first elements, and four more
+take4 : (l : List ℕ) (n : ℕ) → n + 4 ≤ length l →
+    take (n + 4) l ≡ take n l ++ (getD l n 0 ∷ getD l (n + 1) 0 ∷ getD l (n + 2) 0 ∷ getD l (n + 3) 0 ∷ [])
+take4 (a ∷ b ∷ c ∷ d ∷ l) zero h = refl
+take4 (x ∷ l) (suc n) h =
+    let s1 : suc n + 1 ≡ suc (n + 1) = omega arith in
+    let s2 : suc n + 2 ≡ suc (n + 2) = omega arith in
+    let s3 : suc n + 3 ≡ suc (n + 3) = omega arith in
+    let s4 : suc n + 4 ≡ suc (n + 4) = omega arith in
+    rw (s1, s2, s3, s4) (ap (λ (r : List ℕ). x ∷ r) (take4 l n (omega arith)))
+take4 [] n h = absurd (omega arith)
+take4 (a ∷ []) zero h = absurd (omega arith)
+take4 (a ∷ b ∷ []) zero h = absurd (omega arith)
+take4 (a ∷ b ∷ c ∷ []) zero h = absurd (omega arith)
+
+-- the bytes of a list's words are the list's
+pub bytesOf-word : (b : List ℕ) (n : ℕ) → 4 * n ≤ length b → ((i : ℕ) → getD b i 0 < 256) → bytesOf (word b) n ≡ take (4 * n) b
+unfolding word bytesOf
+bytesOf-word b zero h bs = refl
+bytesOf-word b (suc n) h bs =
+    let e : 4 * suc n ≡ 4 * n + 4 = omega arith in
+    rw (
+      e,
+      bytesOf-word b n (omega arith) bs,
+      take4 b (4 * n) (omega arith),
+      split4 (getD b (4 * n) 0) (getD b (4 * n + 1) 0) (getD b (4 * n + 2) 0) (getD b (4 * n + 3) 0) (bs _) (bs _) (bs _) (bs _),
+    )
+
+with-seam : (p : List ℕ) (a b c d : ℕ) (t : List ℕ) (w n : ℕ) → length p ≡ n → withU32 (p ++ (a ∷ b ∷ c ∷ d ∷ t)) n w ≡ p ++ (bytes4 w ++ t)
+with-seam [] a b c d t w zero e = refl
+with-seam [] a b c d t w (suc n) e = absurd (omega arith)
+with-seam (x ∷ p) a b c d t w zero e = absurd (omega arith)
+with-seam (x ∷ p) a b c d t w (suc n) e =
+    let s1 : suc n + 1 ≡ suc (n + 1) = omega arith in
+    let s2 : suc n + 2 ≡ suc (n + 2) = omega arith in
+    let s3 : suc n + 3 ≡ suc (n + 3) = omega arith in
+    rw (s1, s2, s3) (ap (λ (r : List ℕ). x ∷ r) (with-seam p a b c d t w n (omega arith)))
+
+drop4 : (l : List ℕ) (n : ℕ) → n + 4 ≤ length l →
+    drop n l ≡ getD l n 0 ∷ getD l (n + 1) 0 ∷ getD l (n + 2) 0 ∷ getD l (n + 3) 0 ∷ drop (n + 4) l
+drop4 (a ∷ b ∷ c ∷ d ∷ l) zero h = refl
+drop4 (x ∷ l) (suc n) h =
+    let s1 : suc n + 1 ≡ suc (n + 1) = omega arith in
+    let s2 : suc n + 2 ≡ suc (n + 2) = omega arith in
+    let s3 : suc n + 3 ≡ suc (n + 3) = omega arith in
+    let s4 : suc n + 4 ≡ suc (n + 4) = omega arith in
+    rw (s1, s2, s3, s4) (drop4 l n (omega arith))
+drop4 [] n h = absurd (omega arith)
+drop4 (a ∷ []) zero h = absurd (omega arith)
+drop4 (a ∷ b ∷ []) zero h = absurd (omega arith)
+drop4 (a ∷ b ∷ c ∷ []) zero h = absurd (omega arith)
+
+-- a turn of the writer
+pub put-step : (f : ℕ → ℕ) (n : ℕ) (b : List ℕ) → 4 * n + 4 ≤ length b →
+    withU32 (bytesOf f n ++ drop (4 * n) b) (4 * n) (f n) ≡ bytesOf f (n + 1) ++ drop (4 * (n + 1)) b
+unfolding bytesOf
+put-step f n b h =
+    let e : 4 * (n + 1) ≡ 4 * n + 4 = omega arith in
+    rw (e, add-one n, append-assoc, drop4 b (4 * n) h)
+    (with-seam (bytesOf f n) (getD b (4 * n) 0) (getD b (4 * n + 1) 0) (getD b (4 * n + 2) 0) (getD b (4 * n + 3) 0) (drop (4 * n + 4) b) (f n) (4 * n) (length-bytesOf f n))
+
+-- the same at a loop's values
+pub put-turn : (f : ℕ → ℕ) (n : ℕ) (b₀ b : List ℕ) (w : ℕ) → 4 * n + 4 ≤ length b₀ → b ≡ bytesOf f n ++ drop (4 * n) b₀ → w ≡ f n →
+    withU32 b (4 * n) w ≡ bytesOf f (n + 1) ++ drop (4 * (n + 1)) b₀
+put-turn f n b₀ b w h e ew = rw (e, ew) (put-step f n b₀ h)
+
+-- bytes of words that agree
+pub bytes-ext : (f g : ℕ → ℕ) (n : ℕ) → ((k : ℕ) → k < n → f k ≡ g k) → bytesOf f n ≡ bytesOf g n
+unfolding bytesOf
+bytes-ext f g zero h = refl
+bytes-ext f g (suc n) h = rw (bytes-ext f g n (λ k l. h k (omega arith)), h n (omega arith))
