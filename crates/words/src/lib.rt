@@ -23,6 +23,14 @@ pub fn get_u32(b: &[u8], i: usize) -> u32
     wide(b[i]) + 256 * wide(b[i + 1]) + 65536 * wide(b[i + 2]) + 16777216 * wide(b[i + 3])
 }
 
+// Word k.
+pub fn word_at(b: &[u8], k: usize) -> u32
+    requires { ⌜ 4 * k + 4 ≤ length (now b) ⌝ }
+    ensures { λ r. ⌜ r ≡ word (now (b .entry)) k ⌝ }
+{
+    get_u32(b, 4 * k)
+}
+
 // The word w put where its bytes start at i.
 pub fn put_u32(b: &mut [u8], i: usize, w: u32)
     requires { ⌜ i + 4 ≤ length (now b) ⌝ }
@@ -42,7 +50,7 @@ pub fn sum_words(b: &[u8], n: usize) -> u32
     let mut sum: u32 = 0;
     let mut k = 0;
     while k < n {
-        sum = std::num::wrapping_add_u32(sum, get_u32(b, 4 * k));
+        sum = std::num::wrapping_add_u32(sum, word_at(b, k));
         k += 1;
     }
     sum

@@ -18,11 +18,8 @@ abbrev μ-loop : tie.MeasureT-loop
 loop-holds : tie.Need-loop-holds Inv-loop μ-loop
 loop-holds c = (search needs, wrapped-none (word (c .before .args .b .now)))
 
-mul-get-u32 : tie.Need-mul-get-u32 Inv-loop μ-loop
-mul-get-u32 c = search needs
-
-get-u32-requires : tie.Need-get-u32-requires Inv-loop μ-loop
-get-u32-requires c κs = search needs
+word-at-requires : tie.Need-word-at-requires Inv-loop μ-loop
+word-at-requires c κs = search needs
 
 wrapping-add-u32-requires : tie.Need-wrapping-add-u32-requires Inv-loop μ-loop
 wrapping-add-u32-requires c κs = search needs
@@ -34,10 +31,9 @@ loop-less : tie.Need-loop-less Inv-loop μ-loop
 loop-less c = search needs
 
 loop-again : tie.Need-loop-again Inv-loop μ-loop
-unfolding word
 loop-again c =
     let l = c .before .before .before in
-    (search needs, c .wrapping-add-u32 .ensures ∙ wrapped-next (word (l .before .before .args .b .now)) (l .loop .k) (l .loop .sum) _ (l .loop .inv .1) (c .before .get-u32 .ensures))
+    (search needs, c .wrapping-add-u32 .ensures ∙ wrapped-next (word (l .before .before .args .b .now)) (l .loop .k) (l .loop .sum) _ (l .loop .inv .1) (c .before .word-at .ensures))
 
 returns : tie.Need-returns Inv-loop μ-loop
 returns c = let e : c .before .loop .k ≡ c .before .before .before .args .n = omega arith in rw (← e) (c .before .loop .inv .1)
@@ -49,8 +45,7 @@ sum-words-spec =
     Inv-loop
     μ-loop
     loop-holds
-    mul-get-u32
-    get-u32-requires
+    word-at-requires
     wrapping-add-u32-requires
     add-k
     loop-less

@@ -1,0 +1,29 @@
+-- `block::reader::zeros_ok` meets its contract: the two ranges that must be zero. Assumes nothing.
+use borrow.Author.Needs.{needs}
+use Rattle.block.proofs.reader.zeros_ok.Statement.{statement}
+use Rattle.block.proofs.reader.zeros_ok.Tie as tie
+
+zero-between-requires : tie.Need-zero-between-requires
+zero-between-requires c κs = search needs
+
+mul-zero-between : tie.Need-mul-zero-between
+mul-zero-between c = search needs
+
+add-zero-between : tie.Need-add-zero-between
+add-zero-between c = search needs
+
+zero-between-requires-2 : tie.Need-zero-between-requires-2
+zero-between-requires-2 c κs = search needs
+
+returns : tie.Need-returns
+returns c = cc
+
+pub zeros-ok-spec : {M : Type 1} → statement M
+zeros-ok-spec =
+    tie.close
+    (tie.spec
+    zero-between-requires
+    mul-zero-between
+    add-zero-between
+    zero-between-requires-2
+    returns)

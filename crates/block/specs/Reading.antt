@@ -1,0 +1,92 @@
+-- What a block says, and the refusals of a block in their order.
+use mathlib.Core.Bool.{Bool, _&&_}
+use mathlib.Core.List.{List, [], _∷_}
+use Prim.Native.Nat.{ℕ, zero, suc, _+_, _-_}
+use lib.Dec.{eqb}
+use Rattle.lists.specs.All.{allTo}
+use Rattle.lists.specs.Table.{table}
+use Rattle.lists.specs.Refusals.{refusal, _orRefuse_}
+use Rattle.words.specs.Word.{word}
+use Rattle.words.specs.Wrap.{wrapped}
+use Rattle.plan.specs.declared.Guest.{Guest}
+use Rattle.plan.specs.Records.{blank}
+use Rattle.plan.specs.Ranges.{mostTasks, guestOk, tasksOk}
+use Rattle.block.specs.Layout.{blockWords, kindPlaceWord, guestKind, idWord, capacityWord, periodWord, tasksChargeWord, spareFrom, spareTo, runWord, everyWord, deadlineWord, unusedFrom, checkWord, lowHalf, highHalf}
+use Rattle.block.specs.declared.Block.{Block}
+
+-- the kind that a block says
+abbrev pub kindIn : List ℕ → ℕ
+kindIn b = lowHalf (word b kindPlaceWord)
+
+-- the place
+abbrev pub placeIn : List ℕ → ℕ
+placeIn b = highHalf (word b kindPlaceWord)
+
+-- the guest's id
+abbrev pub idIn : List ℕ → ℕ
+idIn b = word b idWord
+
+-- the number of tasks
+abbrev pub tasksIn : List ℕ → ℕ
+tasksIn b = lowHalf (word b tasksChargeWord)
+
+-- one number of each of the 16 entries
+unfoldable pub column : List ℕ → (ℕ → ℕ) → List ℕ
+column b at = table (λ i. word b (at i)) mostTasks
+
+-- the record that a block says
+abbrev pub guestOf : List ℕ → Guest
+guestOf b = record {
+  id = idIn b;
+  capacity = word b capacityWord;
+  period = word b periodWord;
+  tasks = tasksIn b;
+  charge = highHalf (word b tasksChargeWord);
+  run = column b runWord;
+  every = column b everyWord;
+  deadline = column b deadlineWord;
+}
+
+-- refusal 2: the sum of the block's 128 words, modulo 4,294,967,296, is zero
+abbrev pub sumsToZero : List ℕ → Bool
+sumsToZero b = eqb (wrapped (word b) blockWords) 0
+
+-- refusal 3: the kind is 1
+abbrev pub kindOk : List ℕ → Bool
+kindOk b = eqb (kindIn b) guestKind
+
+-- and the place is the block's own
+abbrev pub placeOk : List ℕ → ℕ → Bool
+placeOk b place = eqb (placeIn b) place
+
+-- the words from one on, up to another, are zero
+unfoldable pub zeroBetween : List ℕ → (from to : ℕ) → Bool
+zeroBetween b from to = allTo (λ k. eqb (word b (from + k)) 0) (to - from)
+
+-- the bytes that must be zero in a block of n tasks are
+abbrev pub zerosWith : List ℕ → (n : ℕ) → Bool
+zerosWith b n = zeroBetween b spareFrom spareTo && zeroBetween b (unusedFrom n) checkWord
+
+-- refusal 5: those of a block are
+abbrev pub zerosOk : List ℕ → Bool
+zerosOk b = zerosWith b (tasksIn b)
+
+-- the number that a block at its place is refused by, 0 for none; newId says that its id is no earlier block's
+unfoldable pub blockNumber : List ℕ → (place : ℕ) (newId : Bool) → ℕ
+blockNumber b place newId =
+    refusal (
+    sumsToZero b orRefuse 2
+    ∷ (kindOk b && placeOk b place) orRefuse 3
+    ∷ (guestOk (guestOf b) && newId) orRefuse 4
+    ∷ zerosOk b orRefuse 5
+    ∷ tasksOk (guestOf b) orRefuse 6
+    ∷ [])
+
+-- the number and the record; a record of zeros where the number is not 0
+unfoldable pub blockOr : ℕ → Guest → Block
+blockOr zero g = record { number = 0; guest = g }
+blockOr (suc n) g = record { number = suc n; guest = blank }
+
+-- a block read
+abbrev pub readBlock : List ℕ → (place : ℕ) (newId : Bool) → Block
+readBlock b place newId = blockOr (blockNumber b place newId) (guestOf b)

@@ -1,0 +1,27 @@
+// Where the numbers of a block stand, in words, as specs/Layout.antt has it.
+
+pub const WORDS: usize = 128;
+
+pub const KIND_PLACE: usize = 0;
+
+pub const GUEST_KIND: u32 = 1;
+
+pub const ID: usize = 1;
+
+pub const CAPACITY: usize = 2;
+
+pub const PERIOD: usize = 3;
+
+pub const TASKS_CHARGE: usize = 4;
+
+pub const SPARE_FROM: usize = 5;
+
+pub const SPARE_TO: usize = 8;
+
+pub const RUN: usize = 8;
+
+pub const EVERY: usize = 9;
+
+pub const DEADLINE: usize = 10;
+
+pub const CHECK: usize = 127;

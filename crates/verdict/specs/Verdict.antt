@@ -1,0 +1,88 @@
+-- The verdicts of a guest and of a task and the acceptance of a plan, each with its refusals in order.
+use mathlib.Core.Bool.{Bool, true, false, _&&_}
+use mathlib.Core.List.{List, [], _∷_}
+use Prim.Native.Nat.{ℕ, zero, suc, _-_}
+use lib.Dec.{ltb}
+use Rattle.lists.specs.All.{allTo}
+use Rattle.lists.specs.Search.{isAt}
+use Rattle.lists.specs.Refusals.{Test, refusal, _orRefuse_}
+use Rattle.lists.specs.declared.Found.{Found}
+use Rattle.lists.specs.declared.Found.the-variants.{At, Nothing}
+use Rattle.plan.specs.Records.{guestAt}
+use Rattle.plan.specs.Ranges.{within}
+use Rattle.plan.specs.First.{refused, orElse}
+use Rattle.plan.specs.Order.{planRefusal}
+use Rattle.plan.specs.Place.{placeOf}
+use Rattle.plan.specs.declared.Plan.{Plan}
+use Rattle.plan.specs.declared.Refusal.{Refusal}
+use Rattle.verdict.specs.declared.GuestVerdict.{GuestVerdict}
+use Rattle.verdict.specs.declared.GuestVerdict.the-variants.{Fitted, Unfit}
+use Rattle.verdict.specs.declared.TaskVerdict.{TaskVerdict}
+use Rattle.verdict.specs.declared.TaskVerdict.the-variants.{Met, Unmet, Unjudged}
+use Rattle.verdict.specs.declared.Acceptance.{Acceptance}
+use Rattle.verdict.specs.declared.Acceptance.the-variants.{Accepted, NotAccepted}
+use Rattle.verdict.specs.Guest.{guestResponse, fitted, fittedTo}
+use Rattle.verdict.specs.Task.{taskResponse}
+use Rattle.verdict.specs.declared.GuestVerdict.the-variants as guest
+use Rattle.verdict.specs.declared.TaskVerdict.the-variants as task
+use Rattle.verdict.specs.declared.Acceptance.the-variants as plan
+
+-- the guest is in the plan
+unfoldable pub hasGuest : Plan → ℕ → Bool
+hasGuest p id = ltb (placeOf p id) (p .count)
+
+-- it has a task of that number, from 1
+unfoldable pub hasTask : Plan → ℕ → ℕ → Bool
+hasTask p id number = within 1 (guestAt (p .guests) (placeOf p id) .tasks) number
+
+-- the records' refusal, else that of the first of these tests to fail, whose place is 0
+unfoldable pub recordsThen : Plan → List Test → Refusal
+recordsThen p tests = orElse (planRefusal p .number) (planRefusal p .place) (refused (refusal tests) 0)
+
+-- number and place of a refusal, or where the number is 0 the verdict
+unfoldable pub refusedBy : {A : Type 0} → (ℕ → ℕ → A) → ℕ → ℕ → A → A
+refusedBy refuse zero place verdict = verdict
+refusedBy refuse (suc n) place verdict = refuse (suc n) place
+
+-- a refusal, or else the verdict
+abbrev pub refuseOr : {A : Type 0} → (ℕ → ℕ → A) → Refusal → A → A
+refuseOr refuse r verdict = refusedBy refuse (r .number) (r .place) verdict
+
+-- fitted with its response, or unfit
+abbrev pub guestSays : Found → GuestVerdict
+guestSays (At x) = Fitted x
+guestSays Nothing = Unfit
+
+-- the verdict of a guest: the records' order, then 7
+unfoldable pub guestVerdict : Plan → ℕ → GuestVerdict
+guestVerdict p id =
+    refuseOr guest.Refused (recordsThen p (hasGuest p id orRefuse 7 ∷ [])) (guestSays (guestResponse p (placeOf p id)))
+
+-- met with its response or unmet; unjudged where its own guest or one above is unfit
+unfoldable pub taskSays : Bool → Found → TaskVerdict
+taskSays false f = Unjudged
+taskSays true (At r) = Met r
+taskSays true Nothing = Unmet
+
+-- the verdict of a task: the records' order, then 7, then 8
+unfoldable pub taskVerdict : Plan → ℕ → ℕ → TaskVerdict
+taskVerdict p id number =
+    refuseOr task.Refused (recordsThen p (hasGuest p id orRefuse 7 ∷ hasTask p id number orRefuse 8 ∷ []))
+    (taskSays (fittedTo p (placeOf p id)) (taskResponse p (placeOf p id) (number - 1)))
+
+-- all tasks of the guest at place k are met, where it and all above are fitted
+unfoldable pub allMet : Plan → ℕ → Bool
+allMet p k = allTo (λ i. isAt (taskResponse p k i)) (guestAt (p .guests) k .tasks)
+
+-- all guests are fitted and all tasks met
+unfoldable pub accepted : Plan → Bool
+accepted p = allTo (fitted p) (p .count) && allTo (allMet p) (p .count)
+
+-- accepted or not
+unfoldable pub acceptSays : Bool → Acceptance
+acceptSays true = Accepted
+acceptSays false = NotAccepted
+
+-- the acceptance of a plan: the records' order
+unfoldable pub acceptance : Plan → Acceptance
+acceptance p = refuseOr plan.Refused (planRefusal p) (acceptSays (accepted p))

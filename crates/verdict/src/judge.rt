@@ -1,0 +1,206 @@
+// Verdicts off lent columns and one guest's record at a time.
+ghost use mathlib.Core.Path.{_≡_};
+ghost use mathlib.Core.Bool.{true};
+ghost use mathlib.Core.List.{[], _∷_};
+ghost use Prim.Native.Nat.{ℕ, _+_, _-_, _≤_, _<_};
+ghost use Rattle.lists.specs.All.{allTo};
+ghost use Rattle.lists.specs.Refusals.{refusal, _orRefuse_};
+ghost use Rattle.plan.specs.Records.{guestAt};
+ghost use Rattle.plan.specs.Ranges.{within};
+ghost use Rattle.plan.specs.Charge.{charged};
+ghost use Rattle.plan.specs.Filled.{Filled};
+ghost use Rattle.verdict.specs.Verdict.{refusedBy, guestSays, taskSays};
+ghost use Rattle.verdict.specs.Columns.{taken, fittedAt, metUnder, taskOf, acceptedUnder};
+ghost use Rattle.verdict.specs.Ready.{Ready, Ranged, Runs, Sure};
+use crate::GuestVerdict;
+use crate::TaskVerdict;
+use crate::fit::guest_response;
+use crate::fit::response_at;
+use crate::window::task_response;
+use lists::Found;
+use lists::is_at;
+use plan::Guest;
+use plan::Plan;
+use plan::charged_run;
+
+// The verdict of a guest's response.
+pub fn guest_says(f: Found) -> GuestVerdict
+    ensures { λ r. ⌜ r ≡ guestSays f ⌝ }
+{
+    match f {
+        Found::At(x) => GuestVerdict::Fitted(x),
+        Found::Nothing => GuestVerdict::Unfit,
+    }
+}
+
+// The verdict of a task's response under fitted guests.
+fn met_or_not(f: Found) -> TaskVerdict
+    ensures { λ r. ⌜ r ≡ taskSays true f ⌝ }
+{
+    match f {
+        Found::At(r) => TaskVerdict::Met(r),
+        Found::Nothing => TaskVerdict::Unmet,
+    }
+}
+
+// Whether the first n guests are fitted.
+pub fn all_fitted(capacities: &[u32; 16], periods: &[u32; 16], n: usize) -> bool
+    requires { ⌜ (n ≤ 16) × Ranged (now capacities) (now periods) n ⌝ }
+    ensures { λ r. ⌜ r ≡ allTo (fittedAt (now (capacities .entry)) (now (periods .entry))) n ⌝ }
+{
+    let mut k: usize = 0;
+    while k < n {
+        if !is_at(response_at(capacities, periods, k)) {
+            return false;
+        }
+        k += 1;
+    }
+    true
+}
+
+// The charged runs of a guest's tasks.
+pub fn charged_of(g: Guest) -> [u32; 16]
+    requires { ⌜ Runs g ⌝ }
+    ensures { λ r. ⌜ Filled r (charged g) (g .tasks) ⌝ }
+{
+    let run = g.run;
+    let n = g.tasks as usize;
+    let charge = g.charge;
+    let mut r = [0u32; 16];
+    let mut i: usize = 0;
+    while i < n {
+        r[i] = charged_run(run[i], charge) as u32;
+        i += 1;
+    }
+    r
+}
+
+// Whether all tasks of a fitted guest are met.
+pub fn all_met(
+    capacities: &[u32; 16],
+    periods: &[u32; 16],
+    k: usize,
+    capacity: u32,
+    period: u32,
+    run: &[u32; 16],
+    every: &[u32; 16],
+    deadline: &[u32; 16],
+    tasks: usize,
+) -> bool
+    requires { ⌜ (k ≤ 16) × (tasks ≤ 16) ⌝ }
+    requires { ⌜ ((i : ℕ) → i < tasks → Ready (taken (now capacities) (now periods) k) capacity period (now run) i) ⌝ }
+    ensures { λ r. ⌜ r ≡ metUnder (taken (now (capacities .entry)) (now (periods .entry)) k) capacity period (now (run .entry)) (now (every .entry)) (now (deadline .entry)) tasks ⌝ }
+{
+    let mut i: usize = 0;
+    while i < tasks {
+        if !is_at(task_response(
+            capacities,
+            periods,
+            k,
+            capacity,
+            period,
+            run,
+            every,
+            i,
+            deadline[i],
+        )) {
+            return false;
+        }
+        i += 1;
+    }
+    true
+}
+
+// The verdict of task i of the guest g at place k.
+fn judge_task(
+    g: Guest,
+    capacities: &[u32; 16],
+    periods: &[u32; 16],
+    k: usize,
+    i: usize,
+) -> TaskVerdict
+    requires { ⌜ Sure g (now capacities) (now periods) k × (i < g .tasks) ⌝ }
+    ensures { λ r. ⌜ r ≡ taskSays (allTo (fittedAt (now (capacities .entry)) (now (periods .entry))) (k + 1)) (taskOf (taken (now (capacities .entry)) (now (periods .entry)) k) g i) ⌝ }
+{
+    let every = g.every;
+    let deadline = g.deadline;
+    if !all_fitted(capacities, periods, k + 1) {
+        return TaskVerdict::Unjudged;
+    }
+    let run = charged_of(g);
+    met_or_not(task_response(
+        capacities,
+        periods,
+        k,
+        g.capacity,
+        g.period,
+        &run,
+        &every,
+        i,
+        deadline[i],
+    ))
+}
+
+// The verdict of task number `task`, from 1, of the guest g at place k.
+pub fn number_task(
+    g: Guest,
+    capacities: &[u32; 16],
+    periods: &[u32; 16],
+    k: usize,
+    task: u32,
+) -> TaskVerdict
+    requires { ⌜ Sure g (now capacities) (now periods) k ⌝ }
+    ensures { λ r. ⌜ r ≡ refusedBy TaskVerdict.Refused (refusal (within 1 (g .tasks) task orRefuse 8 ∷ [])) 0 (taskSays (allTo (fittedAt (now (capacities .entry)) (now (periods .entry))) (k + 1)) (taskOf (taken (now (capacities .entry)) (now (periods .entry)) k) g (task - 1))) ⌝ }
+{
+    if task < 1 {
+        return TaskVerdict::Refused(8, 0);
+    }
+    let tasks = g.tasks;
+    if tasks < task {
+        return TaskVerdict::Refused(8, 0);
+    }
+    judge_task(g, capacities, periods, k, (task - 1) as usize)
+}
+
+// Whether the guest at place k is fitted and all its tasks are met.
+fn guest_accepted(g: Guest, capacities: &[u32; 16], periods: &[u32; 16], k: usize) -> bool
+    requires { ⌜ Sure g (now capacities) (now periods) k ⌝ }
+    ensures { λ r. ⌜ r ≡ acceptedUnder (taken (now (capacities .entry)) (now (periods .entry)) k) g ⌝ }
+{
+    let every = g.every;
+    let deadline = g.deadline;
+    let n = g.tasks as usize;
+    let f = guest_response(capacities, periods, k, g.capacity, g.period);
+    if !is_at(f) {
+        return false;
+    }
+    let run = charged_of(g);
+    all_met(
+        capacities,
+        periods,
+        k,
+        g.capacity,
+        g.period,
+        &run,
+        &every,
+        &deadline,
+        n,
+    )
+}
+
+// Whether all guests are fitted and all tasks met, one guest after the other.
+pub fn all_accepted(plan: Plan, capacities: &[u32; 16], periods: &[u32; 16]) -> bool
+    requires { ⌜ ((k : ℕ) → k < plan .count → Sure (guestAt (plan .guests) k) (now capacities) (now periods) k) × (plan .count ≤ 8) ⌝ }
+    ensures { λ r. ⌜ r ≡ allTo (λ k. acceptedUnder (taken (now (capacities .entry)) (now (periods .entry)) k) (guestAt (plan .guests) k)) (plan .count) ⌝ }
+{
+    let guests = plan.guests;
+    let n = plan.count as usize;
+    let mut k: usize = 0;
+    while k < n {
+        if !guest_accepted(guests[k], capacities, periods, k) {
+            return false;
+        }
+        k += 1;
+    }
+    true
+}

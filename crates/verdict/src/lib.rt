@@ -1,0 +1,98 @@
+// The verdicts of guests and tasks, and the acceptance of a plan.
+ghost use mathlib.Core.Path.{_≡_};
+ghost use Rattle.verdict.specs.Promises.{GuestJudged, TaskJudged, Accepts};
+use plan::Plan;
+use plan::check;
+use plan::columns_of;
+use plan::place_of;
+
+mod fit;
+mod judge;
+mod window;
+
+pub use fit::guest_response;
+pub use fit::response_at;
+pub use judge::all_fitted;
+pub use judge::all_met;
+pub use judge::charged_of;
+pub use window::task_response;
+
+// Fitted with its response.
+pub enum GuestVerdict {
+    Refused(u32, u32),
+    Fitted(u32),
+    Unfit,
+}
+
+// Met with its response.
+pub enum TaskVerdict {
+    Refused(u32, u32),
+    Met(u32),
+    Unmet,
+    Unjudged,
+}
+
+pub enum Acceptance {
+    Refused(u32, u32),
+    Accepted,
+    NotAccepted,
+}
+
+// The verdict of the guest with an id.
+pub fn guest_verdict(plan: Plan, id: u32) -> GuestVerdict
+    ensures { λ r. ⌜ GuestJudged plan id r ⌝ }
+{
+    let refused = check(plan);
+    if 0 < refused.number {
+        return GuestVerdict::Refused(refused.number, refused.place);
+    }
+    let c = columns_of(plan);
+    let ids = c.ids;
+    let capacities = c.capacities;
+    let periods = c.periods;
+    let n = plan.count as usize;
+    let k = place_of(&ids, n, id);
+    if n <= k {
+        return GuestVerdict::Refused(7, 0);
+    }
+    judge::guest_says(response_at(&capacities, &periods, k))
+}
+
+// The verdict of task number `task`, from 1, of the guest with an id.
+pub fn task_verdict(plan: Plan, id: u32, task: u32) -> TaskVerdict
+    ensures { λ r. ⌜ TaskJudged plan id task r ⌝ }
+{
+    let refused = check(plan);
+    if 0 < refused.number {
+        return TaskVerdict::Refused(refused.number, refused.place);
+    }
+    let c = columns_of(plan);
+    let ids = c.ids;
+    let capacities = c.capacities;
+    let periods = c.periods;
+    let n = plan.count as usize;
+    let k = place_of(&ids, n, id);
+    if n <= k {
+        return TaskVerdict::Refused(7, 0);
+    }
+    let guests = plan.guests;
+    judge::number_task(guests[k], &capacities, &periods, k, task)
+}
+
+// Whether all guests are fitted and all tasks met.
+pub fn accept(plan: Plan) -> Acceptance
+    ensures { λ r. ⌜ Accepts plan r ⌝ }
+{
+    let refused = check(plan);
+    if 0 < refused.number {
+        return Acceptance::Refused(refused.number, refused.place);
+    }
+    let c = columns_of(plan);
+    let capacities = c.capacities;
+    let periods = c.periods;
+    if judge::all_accepted(plan, &capacities, &periods) {
+        Acceptance::Accepted
+    } else {
+        Acceptance::NotAccepted
+    }
+}
