@@ -1,72 +1,67 @@
--- How the code comes to what a block read is, and what a block that passes says. Assumes nothing.
-use mathlib.Core.Path.{_≡_, refl, _∙_}
+-- How the code comes to a block's number, and what a block that passes says. Assumes nothing.
+use mathlib.Core.Path.{_≡_, refl, sym, _∙_}
 use mathlib.Core.Bool.{Bool, true, false, _&&_}
 use mathlib.Core.List.{List, []}
-use Prim.Native.Nat.{ℕ, suc, _+_, _-_, _≤_, _<_}
+use Prim.Native.Nat.{ℕ, _+_, _-_, _≤_, _<_}
 use native.Mathlib.Omega.{arith}
 use lib.Dec.{eqb}
 use borrow.Author.Tests.{eqb-true}
 use Rattle.lists.specs.Places.{nth}
 use Rattle.words.specs.Word.{word}
-use Rattle.plan.specs.declared.Guest.{Guest}
-use Rattle.plan.specs.Records.{blank}
-use Rattle.plan.specs.Ranges.{guestOk, tasksOk}
-use Rattle.block.specs.Reading.{column, guestOf, sumsToZero, kindOk, placeOk, zeroBetween, zerosOk, blockNumber, blockOr, readBlock}
-use Rattle.lists.proofs.All.{all-at}
+use Rattle.plan.specs.Ranges.{guestOk, taskOk, tasksOk}
+use Rattle.block.specs.Reading.{tasksIn, column, guestOf, sumsToZero, kindOk, placeOk, zeroBetween, zerosOk, blockNumber}
+use Rattle.lists.specs.All.{allTo}
+use Rattle.block.specs.Layout.{runWord, everyWord, deadlineWord}
+use Rattle.plan.proofs.Ranges.{head-says}
+use Rattle.lists.proofs.All.{and-left, all-at}
 use Rattle.lists.proofs.Table.{table-at}
 use Rattle.lists.proofs.Refusals.{none-left, go-on, stop, passed}
 
--- a number other than 0: a record of zeros
-or-refused : (n x : ℕ) (g : Guest) → x ≡ suc n → record { number = suc n; guest = blank } ≡ blockOr x g
-unfolding blockOr
-or-refused n x g e = rw e refl
-
--- number 0: the record
-or-fine : (x : ℕ) (g : Guest) → x ≡ 0 → record { number = 0; guest = g } ≡ blockOr x g
-unfolding blockOr
-or-fine x g e = rw e refl
-
 -- the number, by the tests that led to it
 module _ (b : List ℕ) (p : ℕ) (new : Bool) where
-  abbrev pub Refuses : ℕ → Type 0
-  Refuses n = record { number = n; guest = blank } ≡ readBlock b p new
-
   -- the words do not sum to zero
-  pub two : sumsToZero b ≡ false → Refuses 2
+  pub two : sumsToZero b ≡ false → 2 ≡ blockNumber b p new
   unfolding blockNumber
-  two e = or-refused 1 _ _ (stop 2 _ e)
+  two e = sym (stop 2 _ e)
 
   module _ (s : sumsToZero b ≡ true) where
     -- the kind or the place is another
-    pub three : (kindOk b && placeOk b p) ≡ false → Refuses 3
+    pub three : (kindOk b && placeOk b p) ≡ false → 3 ≡ blockNumber b p new
     unfolding blockNumber
-    three e = or-refused 2 _ _ (go-on 2 _ s ∙ stop 3 _ e)
+    three e = sym (go-on 2 _ s ∙ stop 3 _ e)
 
     module _ (k : (kindOk b && placeOk b p) ≡ true) where
       -- the head is out of range, or the id is not new
-      pub four : (guestOk (guestOf b) && new) ≡ false → Refuses 4
+      pub four : (guestOk (guestOf b) && new) ≡ false → 4 ≡ blockNumber b p new
       unfolding blockNumber
-      four e = or-refused 3 _ _ (go-on 2 _ s ∙ go-on 3 _ k ∙ stop 4 _ e)
+      four e = sym (go-on 2 _ s ∙ go-on 3 _ k ∙ stop 4 _ e)
 
       module _ (h : (guestOk (guestOf b) && new) ≡ true) where
         -- a byte that must be zero is not
-        pub five : zerosOk b ≡ false → Refuses 5
+        pub five : zerosOk b ≡ false → 5 ≡ blockNumber b p new
         unfolding blockNumber
-        five e = or-refused 4 _ _ (go-on 2 _ s ∙ go-on 3 _ k ∙ go-on 4 _ h ∙ stop 5 _ e)
+        five e = sym (go-on 2 _ s ∙ go-on 3 _ k ∙ go-on 4 _ h ∙ stop 5 _ e)
 
         module _ (z : zerosOk b ≡ true) where
           -- a task is out of range
-          pub six : tasksOk (guestOf b) ≡ false → Refuses 6
+          pub six : tasksOk (guestOf b) ≡ false → 6 ≡ blockNumber b p new
           unfolding blockNumber
-          six e = or-refused 5 _ _ (go-on 2 _ s ∙ go-on 3 _ k ∙ go-on 4 _ h ∙ go-on 5 _ z ∙ stop 6 _ e)
+          six e = sym (go-on 2 _ s ∙ go-on 3 _ k ∙ go-on 4 _ h ∙ go-on 5 _ z ∙ stop 6 _ e)
 
           -- nothing is refused
-          pub number-zero : tasksOk (guestOf b) ≡ true → blockNumber b p new ≡ 0
+          pub none : tasksOk (guestOf b) ≡ true → 0 ≡ blockNumber b p new
           unfolding blockNumber
-          number-zero e = go-on 2 _ s ∙ go-on 3 _ k ∙ go-on 4 _ h ∙ go-on 5 _ z ∙ go-on 6 _ e ∙ none-left
+          none e = sym (go-on 2 _ s ∙ go-on 3 _ k ∙ go-on 4 _ h ∙ go-on 5 _ z ∙ go-on 6 _ e ∙ none-left)
 
-          pub accepted : tasksOk (guestOf b) ≡ true → record { number = 0; guest = guestOf b } ≡ readBlock b p new
-          accepted e = or-fine _ _ (number-zero e)
+-- so there are at most 16 tasks where the head passes
+pub few-tasks : (b : List ℕ) (new : Bool) → (guestOk (guestOf b) && new) ≡ true → tasksIn b ≤ 16
+few-tasks b new e = head-says _ _ _ _ (and-left (guestOk (guestOf b)) new e) .few
+
+-- the tasks' test on columns that are the block's
+pub tasks-are : (b r e d : List ℕ) (n : ℕ) → r ≡ column b runWord → e ≡ column b everyWord → d ≡ column b deadlineWord → n ≡ tasksIn b
+    → allTo (λ i. taskOk (nth r i) (nth e i) (nth d i)) n ≡ tasksOk (guestOf b)
+unfolding tasksOk
+tasks-are b r e d n p q s t = rw (p, q, s, t) refl
 
 -- a block that no number refuses passes every test
 pub record BlockIn (b : List ℕ) (p : ℕ) (new : Bool) : Type 0 where

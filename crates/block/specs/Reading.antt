@@ -1,7 +1,7 @@
 -- What a block says, and the refusals of a block in their order.
 use mathlib.Core.Bool.{Bool, _&&_}
 use mathlib.Core.List.{List, [], _∷_}
-use Prim.Native.Nat.{ℕ, zero, suc, _+_, _-_}
+use Prim.Native.Nat.{ℕ, _+_, _-_}
 use lib.Dec.{eqb}
 use Rattle.lists.specs.All.{allTo}
 use Rattle.lists.specs.Table.{table}
@@ -9,10 +9,8 @@ use Rattle.lists.specs.Refusals.{refusal, _orRefuse_}
 use Rattle.words.specs.Word.{word}
 use Rattle.words.specs.Wrap.{wrapped}
 use Rattle.plan.specs.declared.Guest.{Guest}
-use Rattle.plan.specs.Records.{blank}
 use Rattle.plan.specs.Ranges.{mostTasks, guestOk, tasksOk}
 use Rattle.block.specs.Layout.{blockWords, kindPlaceWord, guestKind, idWord, capacityWord, periodWord, tasksChargeWord, spareFrom, spareTo, runWord, everyWord, deadlineWord, unusedFrom, checkWord, lowHalf, highHalf}
-use Rattle.block.specs.declared.Block.{Block}
 
 -- the kind that a block says
 abbrev pub kindIn : List ℕ → ℕ
@@ -63,13 +61,9 @@ placeOk b place = eqb (placeIn b) place
 unfoldable pub zeroBetween : List ℕ → (from to : ℕ) → Bool
 zeroBetween b from to = allTo (λ k. eqb (word b (from + k)) 0) (to - from)
 
--- the bytes that must be zero in a block of n tasks are
-abbrev pub zerosWith : List ℕ → (n : ℕ) → Bool
-zerosWith b n = zeroBetween b spareFrom spareTo && zeroBetween b (unusedFrom n) checkWord
-
--- refusal 5: those of a block are
+-- refusal 5: the bytes that must be zero are
 abbrev pub zerosOk : List ℕ → Bool
-zerosOk b = zerosWith b (tasksIn b)
+zerosOk b = zeroBetween b spareFrom spareTo && zeroBetween b (unusedFrom (tasksIn b)) checkWord
 
 -- the number that a block at its place is refused by, 0 for none; newId says that its id is no earlier block's
 unfoldable pub blockNumber : List ℕ → (place : ℕ) (newId : Bool) → ℕ
@@ -81,12 +75,3 @@ blockNumber b place newId =
     ∷ zerosOk b orRefuse 5
     ∷ tasksOk (guestOf b) orRefuse 6
     ∷ [])
-
--- the number and the record; a record of zeros where the number is not 0
-unfoldable pub blockOr : ℕ → Guest → Block
-blockOr zero g = record { number = 0; guest = g }
-blockOr (suc n) g = record { number = suc n; guest = blank }
-
--- a block read
-abbrev pub readBlock : List ℕ → (place : ℕ) (newId : Bool) → Block
-readBlock b place newId = blockOr (blockNumber b place newId) (guestOf b)

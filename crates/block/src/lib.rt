@@ -9,14 +9,9 @@ mod layout;
 mod reader;
 mod writer;
 
+pub use reader::block_number;
+pub use reader::decode;
 pub use reader::id_of;
-pub use reader::read_block;
-
-// A block read: the number that it is refused by, 0 for none, and its record, or on a refusal one of zeros.
-pub struct Block {
-    pub number: u32,
-    pub guest: Guest,
-}
 
 // Numbers 2 to 6 come with the place, all others with place 0.
 fn with_place(number: u32, place: u32) -> Refusal

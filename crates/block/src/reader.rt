@@ -1,14 +1,12 @@
-// A block read: tested in the order of the refusals, and made a record.
+// A block read: tested in the order of the refusals, and its record.
 ghost use mathlib.Core.Path.{_≡_};
 ghost use mathlib.Core.Bool.{_&&_};
 ghost use Prim.Native.Nat.{ℕ, _+_, _*_, _≤_, _<_};
 ghost use lib.ListN.{length};
 ghost use Rattle.words.specs.Word.{word};
-ghost use Rattle.plan.specs.Records.{blank};
-ghost use Rattle.plan.specs.Ranges.{mostTasks};
+ghost use Rattle.plan.specs.Ranges.{mostTasks, guestOk, tasksOk};
 ghost use Rattle.block.specs.Layout.{blockSize, blockWords};
-ghost use Rattle.block.specs.Reading.{idIn, column, guestOf, kindOk, placeOk, zeroBetween, zerosWith, readBlock};
-use crate::Block;
+ghost use Rattle.block.specs.Reading.{idIn, tasksIn, column, guestOf, kindOk, placeOk, zeroBetween, zerosOk, blockNumber};
 use crate::layout;
 use plan::Guest;
 
@@ -36,11 +34,20 @@ fn zero_between(b: &[u8], from: usize, to: usize) -> bool
     ok
 }
 
-// Whether the bytes that must be zero are; n is the block's number of tasks.
-fn zeros_ok(b: &[u8], n: usize) -> bool
-    requires { ⌜ (n ≤ mostTasks) × (length (now b) ≡ blockSize) ⌝ }
-    ensures { λ r. ⌜ r ≡ zerosWith (now (b .entry)) n ⌝ }
+// The number of tasks.
+fn tasks_of(b: &[u8]) -> u32
+    requires { ⌜ length (now b) ≡ blockSize ⌝ }
+    ensures { λ r. ⌜ r ≡ tasksIn (now (b .entry)) ⌝ }
 {
+    words::word_at(b, layout::TASKS_CHARGE) % 65536
+}
+
+// Whether the bytes that must be zero are.
+fn zeros_ok(b: &[u8]) -> bool
+    requires { ⌜ (length (now b) ≡ blockSize) × (tasksIn (now b) ≤ mostTasks) ⌝ }
+    ensures { λ r. ⌜ r ≡ zerosOk (now (b .entry)) ⌝ }
+{
+    let n = tasks_of(b) as usize;
     zero_between(b, layout::SPARE_FROM, layout::SPARE_TO)
         & zero_between(b, layout::RUN + 3 * n, layout::CHECK)
 }
@@ -59,12 +66,20 @@ fn column_of(b: &[u8], first: usize) -> [u32; 16]
     x
 }
 
+// The guest's id alone.
+pub fn id_of(b: &[u8]) -> u32
+    requires { ⌜ length (now b) ≡ blockSize ⌝ }
+    ensures { λ r. ⌜ r ≡ idIn (now (b .entry)) ⌝ }
+{
+    words::word_at(b, layout::ID)
+}
+
 // The record that the words of a block say, whatever they are.
-fn decode(b: &[u8]) -> Guest
+pub fn decode(b: &[u8]) -> Guest
     requires { ⌜ length (now b) ≡ blockSize ⌝ }
     ensures { λ r. ⌜ r ≡ guestOf (now (b .entry)) ⌝ }
 {
-    let id = words::word_at(b, layout::ID);
+    let id = id_of(b);
     let capacity = words::word_at(b, layout::CAPACITY);
     let period = words::word_at(b, layout::PERIOD);
     let w = words::word_at(b, layout::TASKS_CHARGE);
@@ -85,51 +100,46 @@ fn decode(b: &[u8]) -> Guest
     }
 }
 
-// The guest's id alone.
-pub fn id_of(b: &[u8]) -> u32
+// Whether the head is in its ranges.
+fn head_in(b: &[u8]) -> bool
     requires { ⌜ length (now b) ≡ blockSize ⌝ }
-    ensures { λ r. ⌜ r ≡ idIn (now (b .entry)) ⌝ }
+    ensures { λ r. ⌜ r ≡ guestOk (guestOf (now (b .entry))) ⌝ }
 {
-    words::word_at(b, layout::ID)
+    let capacity = words::word_at(b, layout::CAPACITY);
+    let period = words::word_at(b, layout::PERIOD);
+    plan::head_ok(id_of(b), capacity, period, tasks_of(b))
 }
 
-// A refused block.
-fn refuse(number: u32) -> Block
-    ensures { λ r. ⌜ r ≡ record { number = number; guest = blank } ⌝ }
+// Whether the tasks are in their ranges.
+fn tasks_in(b: &[u8]) -> bool
+    requires { ⌜ (length (now b) ≡ blockSize) × (tasksIn (now b) ≤ mostTasks) ⌝ }
+    ensures { λ r. ⌜ r ≡ tasksOk (guestOf (now (b .entry))) ⌝ }
 {
-    Block {
-        number,
-        guest: plan::blank_guest(),
-    }
+    let run = column_of(b, layout::RUN);
+    let every = column_of(b, layout::EVERY);
+    let deadline = column_of(b, layout::DEADLINE);
+    plan::tasks_ok(&run, &every, &deadline, tasks_of(b) as usize)
 }
 
-// The block b at its place; `fresh` says that its id is no earlier block's.
-pub fn read_block(b: &[u8], place: u32, fresh: bool) -> Block
+// The number that the block b at its place is refused by, 0 for none; `fresh` says that its id is no earlier block's.
+pub fn block_number(b: &[u8], place: u32, fresh: bool) -> u32
     requires { ⌜ length (now b) ≡ blockSize ⌝ }
-    ensures { λ r. ⌜ r ≡ readBlock (now (b .entry)) place fresh ⌝ }
+    ensures { λ r. ⌜ r ≡ blockNumber (now (b .entry)) place fresh ⌝ }
 {
     if words::sum_words(b, layout::WORDS) != 0 {
-        return refuse(2);
+        return 2;
     }
     if !opening_ok(b, place) {
-        return refuse(3);
+        return 3;
     }
-    let g = decode(b);
-    if !(plan::head_ok(g.id, g.capacity, g.period, g.tasks) & fresh) {
-        return refuse(4);
+    if !(head_in(b) & fresh) {
+        return 4;
     }
-    let n = g.tasks as usize;
-    if !zeros_ok(b, n) {
-        return refuse(5);
+    if !zeros_ok(b) {
+        return 5;
     }
-    let run = g.run;
-    let every = g.every;
-    let deadline = g.deadline;
-    if !plan::tasks_ok(&run, &every, &deadline, n) {
-        return refuse(6);
+    if !tasks_in(b) {
+        return 6;
     }
-    Block {
-        number: 0,
-        guest: g,
-    }
+    0
 }

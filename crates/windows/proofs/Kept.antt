@@ -6,35 +6,34 @@ use native.Mathlib.Omega.{arith}
 use Rattle.rounding.specs.Asked.{asked}
 use Rattle.windows.specs.GuestTick.{Moved, GuestTick}
 use Rattle.windows.specs.Supply.{Supply}
-use Rattle.windows.specs.Equation.{load, right, response}
+use Rattle.windows.specs.Equation.{loadAfter, systemAt, response}
 use Rattle.windows.specs.TaskTick.{Tasks, TaskTick, Taken, Same}
 use Rattle.windows.specs.Kept.{Quoted, Kept}
 use Rattle.lists.proofs.Sum.{sum-zero}
 use Rattle.windows.proofs.GuestTick.{moved-inside}
 use Rattle.windows.proofs.Supply.{supply-tick, used-up, supply-fresh, supplied}
-use Rattle.windows.proofs.Equation.{Parts, parts}
+use Rattle.windows.proofs.Equation.{Lies, lies}
 use Rattle.windows.proofs.Clock.{clock-tick, clock-taken, clock-same}
 use Rattle.windows.proofs.Window.{Given, restart, window-tick}
 use Rattle.windows.proofs.Release.{window-same, window-taken}
 
 -- a load is never nothing
-load-some : (run every : ℕ → ℕ) (i j w : ℕ) → 0 < run i → 0 < load run every i j w
-unfolding load
+load-some : (run every : ℕ → ℕ) (i j w : ℕ) → 0 < run i → 0 < loadAfter run every i j w
+unfolding loadAfter
 load-some run every i j w h = omega arith
 
 module _ {cap per : ℕ → ℕ} {g x : ℕ} {run every : ℕ → ℕ} {i w : ℕ} (Q : Quoted cap per g x run every i w) where
   -- how the solution lies in periods of the guest
-  parts-of : Parts (asked cap per g) (cap g) (per g) (load run every i (per g - cap g) w) w
-  unfolding right
-  parts-of =
-      parts (asked cap per g) (cap g) (per g) (load run every i (per g - cap g) w) w (Q .fitted .some) (Q .cap-per)
-      (load-some run every i (per g - cap g) w (Q .solves .works)) (Q .solves .equal)
+  lies-of : Lies (asked cap per g) (cap g) (per g) (loadAfter run every i (per g - cap g) w) w
+  lies-of =
+      lies (systemAt cap per g run every i) w (Q .fitted .some) (Q .cap-per) (load-some run every i (per g - cap g) w (Q .solves .works))
+      (Q .solves .equal)
 
   -- what the guest part gives the task part
   given : (held pos : ℕ → ℕ) → Supply cap per g x held pos → pos g < per g
-      → Given (asked cap per g) (cap g) (per g) (load run every i (per g - cap g) w) w x (pos g) (held g)
+      → Given (asked cap per g) (cap g) (per g) (loadAfter run every i (per g - cap g) w) w x (pos g) (held g)
   given held pos S p = record {
-    parts = parts-of;
+    lies = lies-of;
     some = Q .solves .some;
     cap = Q .cap-per;
     resp = Q .fitted .inside;
@@ -42,7 +41,7 @@ module _ {cap per : ℕ → ℕ} {g x : ℕ} {run every : ℕ → ℕ} {i w : �
     most = S .most;
     pace = S .pace;
     full = omega (arith, supplied cap per g x held pos (Q .fitted) S (cap g) x (omega arith) (Q .fitted .solves));
-    last = supplied cap per g x held pos (Q .fitted) S (parts-of .l) (parts-of .v) (parts-of .fits) (parts-of .solves);
+    last = supplied cap per g x held pos (Q .fitted) S (lies-of .l) (lies-of .v) (lies-of .fits) (lies-of .solves);
   }
 
   -- A tick keeps it: guest k has the tick.

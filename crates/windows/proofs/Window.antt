@@ -8,17 +8,17 @@ use native.Mathlib.Omega.{arith}
 use Rattle.lists.specs.Sum.{sumTo}
 use Rattle.windows.specs.GuestTick.{Moved}
 use Rattle.windows.specs.GuestTick.Moved.{on, over}
-use Rattle.windows.specs.Equation.{load}
+use Rattle.windows.specs.Equation.{loadAfter}
 use Rattle.windows.specs.TaskTick.{Tasks, TaskTick}
 use Rattle.windows.specs.Clock.{Clock}
 use Rattle.windows.specs.Window.{Window}
 use Rattle.lists.proofs.Sum.{sum-last, sum-le, sum-zero, sum-at}
 use Rattle.rounding.proofs.Asked.{asked-counts}
-use Rattle.windows.proofs.Equation.{Parts, enough}
+use Rattle.windows.proofs.Equation.{Lies, enough}
 
 -- What the guest part gives at a state: x is the guest's response.
 pub record Given (inter : ℕ → ℕ) (C T L w x p h : ℕ) : Type 0 where
-  pub parts : Parts inter C T L w
+  pub lies : Lies inter C T L w
   pub some : 0 < w
   pub cap : C ≤ T
   pub resp : x ≤ T
@@ -26,7 +26,7 @@ pub record Given (inter : ℕ → ℕ) (C T L w x p h : ℕ) : Type 0 where
   pub most : h ≤ C
   pub pace : C ≤ h + p
   pub full : h ≤ x - p
-  pub last : parts .l + h ≤ C + (parts .v - p)
+  pub last : lies .l + h ≤ C + (lies .v - p)
 
 -- Where no task up to i has run left, a window starts.
 pub restart :
@@ -66,7 +66,7 @@ turned h a k s e (over u v z) la dr had = (suc k, omega arith, omega (arith, dr 
 -- A tick keeps the invariant.
 module _ {inter : ℕ → ℕ} {C T w x p l p' h' : ℕ} (h a i : ℕ) (run every : ℕ → ℕ) (v v' : Tasks)
     (M : Moved C T p l p' h') (la : l + a ≡ h) (dr : p + 1 ≡ T → l ≡ 0)
-    (G : Given inter C T (load run every i (T - C) w) w x p' h')
+    (G : Given inter C T (loadAfter run every i (T - C) w) w x p' h')
     (pos : (j : ℕ) → j < i → 0 < every j)
     (K : Clock i every v)
     (t : TaskTick i a v v') where
@@ -76,8 +76,8 @@ module _ {inter : ℕ → ℕ} {C T w x p l p' h' : ℕ} (h a i : ℕ) (run ever
       → n i ≤ 1
       → b < T + w + (T - C) + 1
       → ((j : ℕ) → j < i → n j * every j + T ≤ b + v' .wait j)
-      → sumTo (λ j. n j * run j) (suc i) ≤ load run every i (T - C) w
-  unfolding load
+      → sumTo (λ j. n j * run j) (suc i) ≤ loadAfter run every i (T - C) w
+  unfolding loadAfter
   asked-le n b one most counts =
       omega (
         arith,
@@ -127,12 +127,12 @@ module _ {inter : ℕ → ℕ} {C T w x p l p' h' : ℕ} (h a i : ℕ) (run ever
           later : (j : ℕ) → j < i → W .n j * every j + T ≤ k' * T + p' + W .d + v' .wait j
           later j r = omega (arith, W .counts j r, t .waited j (omega arith))
 
-          most : sumTo (λ j. W .n j * run j) (suc i) ≤ load run every i (T - C) w
+          most : sumTo (λ j. W .n j * run j) (suc i) ≤ loadAfter run every i (T - C) w
           most = asked-le (W .n) (k' * T + p' + W .d) (W .own) (omega (arith, W .inside, W .gap)) later
 
-          all : W .e + k' * T + p' ≡ T + w → load run every i (T - C) w ≤ W .s + a
+          all : W .e + k' * T + p' ≡ T + w → loadAfter run every i (T - C) w ≤ W .s + a
           all =
-              enough inter C T (load run every i (T - C) w) w x k' (W .e) p' h' (W .s + a) (G .parts) (G .cap) (G .resp) (W .early)
+              enough inter C T (loadAfter run every i (T - C) w) w x k' (W .e) p' h' (W .s + a) (G .lies) (G .cap) (G .resp) (W .early)
               (G .pos) (G .most) (G .full) (G .last) had
 
   -- a tick keeps the window, or starts a new one

@@ -1,18 +1,17 @@
--- The task equation of document 01, over columns of numbers: capacity and period of each guest, charged run and period of each task.
+-- The task's equation, over columns of numbers: capacity and period of each guest, charged run and period of each task.
 use mathlib.Core.Path.{_≡_}
-use Prim.Native.Nat.{ℕ, _+_, _-_, _*_, _<_}
-use Rattle.rounding.specs.Up.{up}
+use Prim.Native.Nat.{ℕ, _+_, _-_, _<_}
 use Rattle.rounding.specs.Asked.{asked}
+use Rattle.equation.specs.System.{System, right}
 
 -- the load of task i in a window w, after a gap j: its own run, and what the tasks above it ask
-unfoldable pub load : (run every : ℕ → ℕ) → ℕ → ℕ → ℕ → ℕ
-load run every i j w = run i + asked run every i (w + j)
+unfoldable pub loadAfter : (run every : ℕ → ℕ) → ℕ → ℕ → ℕ → ℕ
+loadAfter run every i j w = run i + asked run every i (w + j)
 
--- the right side of the equation: a load l takes (up l cap - 1) whole periods of the guest, and a last one that guests above disturb
-unfoldable pub right : (cap per : ℕ → ℕ) → ℕ → ℕ → ℕ → ℕ
-right cap per g l w =
-    let n = up l (cap g) - 1 in
-    l + n * (per g - cap g) + asked cap per g (w - n * per g)
+-- the equation of task i of guest g, under the guests above g
+abbrev pub systemAt : (cap per : ℕ → ℕ) → ℕ → (run every : ℕ → ℕ) → ℕ → System
+systemAt cap per g run every i =
+    record { capacity = cap g; period = per g; interference = asked cap per g; load = loadAfter run every i (per g - cap g) }
 
 -- the response that a window w stands for: the first gap of the guest, then the window
 unfoldable pub response : (cap per : ℕ → ℕ) → ℕ → ℕ → ℕ
@@ -22,5 +21,5 @@ response cap per g w = w + (per g - cap g)
 pub record Solves (cap per : ℕ → ℕ) (g : ℕ) (run every : ℕ → ℕ) (i w : ℕ) : Type 0 where
   pub some : 0 < w
   pub works : 0 < run i
-  pub equal : w ≡ right cap per g (load run every i (per g - cap g) w) w
+  pub equal : w ≡ right (systemAt cap per g run every i) w
   pub periods : (j : ℕ) → j < i → 0 < every j

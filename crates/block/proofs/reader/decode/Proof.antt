@@ -3,6 +3,9 @@ use borrow.Author.Needs.{needs}
 use Rattle.block.proofs.reader.decode.Statement.{statement}
 use Rattle.block.proofs.reader.decode.Tie as tie
 
+id-of-requires : tie.Need-id-of-requires
+id-of-requires c κs = search needs
+
 word-at-requires : tie.Need-word-at-requires
 word-at-requires c κs = search needs
 
@@ -11,9 +14,6 @@ word-at-requires-2 c κs = search needs
 
 word-at-requires-3 : tie.Need-word-at-requires-3
 word-at-requires-3 c κs = search needs
-
-word-at-requires-4 : tie.Need-word-at-requires-4
-word-at-requires-4 c κs = search needs
 
 cast-charge : tie.Need-cast-charge
 cast-charge c = search needs
@@ -34,10 +34,10 @@ pub decode-spec : {M : Type 1} → statement M
 decode-spec =
     tie.close
     (tie.spec
+    id-of-requires
     word-at-requires
     word-at-requires-2
     word-at-requires-3
-    word-at-requires-4
     cast-charge
     column-of-requires
     column-of-requires-2

@@ -3,6 +3,12 @@ use borrow.Author.Needs.{needs}
 use Rattle.block.proofs.reader.zeros_ok.Statement.{statement}
 use Rattle.block.proofs.reader.zeros_ok.Tie as tie
 
+tasks-of-requires : tie.Need-tasks-of-requires
+tasks-of-requires c κs = search needs
+
+cast-n : tie.Need-cast-n
+cast-n c = search needs
+
 zero-between-requires : tie.Need-zero-between-requires
 zero-between-requires c κs = search needs
 
@@ -22,6 +28,8 @@ pub zeros-ok-spec : {M : Type 1} → statement M
 zeros-ok-spec =
     tie.close
     (tie.spec
+    tasks-of-requires
+    cast-n
     zero-between-requires
     mul-zero-between
     add-zero-between

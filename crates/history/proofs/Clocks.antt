@@ -1,0 +1,104 @@
+-- Waits and ages over histories from a fresh start, of any task of any plan whose records are in order. Assumes nothing.
+use mathlib.Core.Path.{_≡_, refl, sym, ap, subst, _∙_}
+use mathlib.Core.List.{List}
+use Prim.Native.Nat.{ℕ, suc, _-_, _<_, min}
+use native.Mathlib.Nat.{zero-add}
+use native.Mathlib.Omega.{arith}
+use Rattle.plan.specs.declared.Plan.{Plan}
+use Rattle.plan.specs.Records.{guestAt, everyOf}
+use Rattle.plan.specs.Order.{planRefusal}
+use Rattle.plan.specs.Place.{placeOf}
+use Rattle.dispatcher.specs.declared.Dispatcher.{Dispatcher}
+use Rattle.dispatcher.specs.State.{restAt, waitAt, ageAt}
+use Rattle.dispatcher.specs.Release.{taken, release}
+use Rattle.history.specs.Calls.{Call, releasing, start, after, play, released, ticksIn, NoneTaken}
+use Rattle.plan.proofs.Order.{plan-in}
+use Rattle.history.proofs.Took.{Free, release-number, release-none, release-free}
+use Rattle.history.proofs.Play.{Sound, sound-play, sound-after}
+use Rattle.history.proofs.Fresh.{fresh-idle, sound-idle, idle-rest, idle-wait}
+use Rattle.history.proofs.Ids.{idOf, found-id}
+use Rattle.history.proofs.Since.{Since, Never, since-taken, since-play, never-play}
+
+-- the fresh start is a state of the plan
+pub sound-start : (p : Plan) → planRefusal p .number ≡ 0 → Sound p (start p)
+sound-start p e = rw (fresh-idle p e) (sound-idle p e)
+
+-- and so is every state that a history reaches
+pub sound-reached : (p : Plan) → planRefusal p .number ≡ 0 → (cs : List Call) → Sound p (play cs (start p))
+sound-reached p e cs = sound-play cs (start p) (sound-start p e)
+
+-- A taken release: its guest and task are in the plan, and free.
+module _ (p : Plan) (d : Dispatcher) (D : Sound p d) (id number : ℕ) (taken-it : release d id number .refusal .number ≡ 0) where
+  -- the task is free
+  pub free-task : Free d id number (placeOf p id) (number - 1)
+  free-task =
+      subst (λ (z : Plan). Free d id number (placeOf z id) (number - 1)) (D .plan)
+      (release-none d id number (sym (release-number d id number) ∙ taken-it))
+
+  -- its guest is in the plan
+  pub guest-in : placeOf p id < p .count
+  guest-in = rw (D .plan) at (free-task .in-plan)
+
+  -- and it in the guest
+  pub task-in : number - 1 < guestAt (p .guests) (placeOf p id) .tasks
+  task-in = rw (D .plan) at (free-task .in-guest)
+
+  -- the guest has the id
+  pub id-is : idOf p (placeOf p id) ≡ id
+  id-is = found-id p id (placeOf p id) refl guest-in
+
+  -- the state after it has the new job
+  pub new-job : after (releasing id number) d ≡ taken d (placeOf p id) (number - 1)
+  unfolding after
+  new-job =
+      ap (λ (n : ℕ). release d id n .state) (free-task .number)
+      ∙ release-free d id (placeOf p id) (number - 1) (subst (λ (z : ℕ). Free d id z (placeOf p id) (number - 1)) (free-task .number) free-task)
+
+  -- so no tick is done since it
+  pub since-new : Since p (placeOf p id) (number - 1) 0 (after (releasing id number) d)
+  since-new = rw new-job (since-taken p (placeOf p id) (number - 1) guest-in task-in d D (free-task .due) (free-task .free))
+
+  -- and after a history without another one taken, its ticks are
+  pub since-then :
+      (ds : List Call)
+      → NoneTaken id number ds (after (releasing id number) d)
+      → Since p (placeOf p id) (number - 1) (ticksIn ds (after (releasing id number) d)) (play ds (after (releasing id number) d))
+  since-then ds none =
+      rw zero-add at
+      (since-play p (placeOf p id) (number - 1) guest-in task-in ds 0 (after (releasing id number) d) (sound-after (releasing id number) d D)
+      (subst (λ (z : ℕ). NoneTaken z (suc (number - 1)) ds (after (releasing id number) d)) (sym id-is)
+      (subst (λ (z : ℕ). NoneTaken id z ds (after (releasing id number) d)) (free-task .number) none))
+      since-new)
+
+module _ (p : Plan) (order : planRefusal p .number ≡ 0) (id number : ℕ) where
+  module _ (cs : List Call) (taken-it : release (play cs (start p)) id number .refusal .number ≡ 0) (ds : List Call)
+      (none : NoneTaken id number ds (released p id number cs)) where
+    -- The wait is what is left of the period since the last taken release.
+    pub wait-since :
+        waitAt (play ds (released p id number cs)) (placeOf p id) (number - 1)
+        ≡ everyOf (guestAt (p .guests) (placeOf p id)) (number - 1) - ticksIn ds (released p id number cs)
+    wait-since = since-then p (play cs (start p)) (sound-reached p order cs) id number taken-it ds none .waits
+
+    -- The age of an unfinished job is the number of ticks since, capped.
+    pub age-since :
+        0 < restAt (play ds (released p id number cs)) (placeOf p id) (number - 1)
+        → ageAt (play ds (released p id number cs)) (placeOf p id) (number - 1) ≡ min (ticksIn ds (released p id number cs)) 1000000
+    age-since = since-then p (play cs (start p)) (sound-reached p order cs) id number taken-it ds none .age
+
+  -- Before any is taken, a task has no job and no wait.
+  pub before-any :
+      placeOf p id < p .count
+      → number - 1 < guestAt (p .guests) (placeOf p id) .tasks
+      → number ≡ suc (number - 1)
+      → (cs : List Call)
+      → NoneTaken id number cs (start p)
+      → Never (placeOf p id) (number - 1) (play cs (start p))
+  before-any h l q cs none =
+      let P = plan-in p order in
+      let g8 : placeOf p id < 8 = omega (arith, P .few) in
+      let t16 : number - 1 < 16 = omega (arith, P .guests (placeOf p id) h .head .few) in
+      never-play p (placeOf p id) (number - 1) h l cs (start p) (sound-start p order)
+      (subst (λ (z : ℕ). NoneTaken z (suc (number - 1)) cs (start p)) (sym (found-id p id (placeOf p id) refl h))
+      (subst (λ (z : ℕ). NoneTaken id z cs (start p)) q none))
+      (rw (fresh-idle p order)
+      (record { free = idle-rest p (placeOf p id) (number - 1) g8 t16; due = idle-wait p (placeOf p id) (number - 1) g8 t16 }))

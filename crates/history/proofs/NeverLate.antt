@@ -1,0 +1,67 @@
+-- Demand 3 for answers: no call ever hands back that a quoted task is finished at an age past R. Assumes nothing.
+use mathlib.Core.Path.{_≡_, refl, ap, _∙_}
+use mathlib.Core.List.{List, []}
+use Prim.Native.Nat.{ℕ, suc, _-_, _≤_}
+use native.Mathlib.Omega.{arith}
+use lib.IntN.{ℤ, pos}
+use Rattle.plan.specs.declared.Plan.{Plan}
+use Rattle.plan.specs.Place.{placeOf}
+use Rattle.dispatcher.specs.declared.Answer.the-variants.{Silent, Finished}
+use Rattle.dispatcher.specs.Answer.{marginOf, finishes}
+use Rattle.windows.specs.Equation.{response}
+use Rattle.verdict.specs.declared.TaskVerdict.the-variants.{Met}
+use Rattle.verdict.specs.Verdict.{taskVerdict}
+use Rattle.history.specs.Calls.{Call, start, after, play, singles, ticksOf, answerOf}
+use Rattle.history.specs.Named.{deadlineBy}
+use Rattle.plan.proofs.Order.{PlanIn, plan-in}
+use Rattle.history.proofs.Seen.{capOf, perOf}
+use Rattle.history.proofs.Play.{Any, after-keeps}
+use Rattle.history.proofs.Ids.{idOf, found-id}
+use Rattle.history.proofs.InTime.{TimelyIn, timely-next, timely-release}
+use Rattle.history.proofs.Told.{told-last}
+use Rattle.history.proofs.Clocks.{sound-reached}
+use Rattle.history.proofs.Verdict.{Judged, task-judged}
+use Rattle.history.proofs.FinishedBy.{margin-left, kept-reached}
+
+module _ (p : Plan) (id number R : ℕ) (met : taskVerdict p id number ≡ Met R) (cs : List Call) (c : Call) where
+  -- what the verdict says
+  abbrev J : Judged p id number R
+  J = task-judged p id number R met
+
+  -- the records are in order
+  abbrev P : PlanIn p
+  P = plan-in p (J .order)
+
+  -- every answer of the call's ticks is timely
+  timely :
+      TimelyIn p P (J .fits) (singles (ticksOf c (play cs (start p))) (play cs (start p)))
+      (after c (play cs (start p)))
+  timely =
+      after-keeps p (TimelyIn p P (J .fits)) Any (timely-next p P (J .fits))
+      (λ L e id' task k t D a F I. timely-release p P (J .fits) L e id' task k t D F I) c [] (play cs (start p)) tt
+      record {
+        sound = sound-reached p (J .order) cs;
+        holds = record { kept = kept-reached p id number R met cs; timely = λ m age margin q. none age margin q };
+      }
+      .holds
+    where
+      none : (age : ℕ) (margin : ℤ) → Silent ≡ Finished (idOf p (placeOf p id)) (suc (number - 1)) age margin
+          → (age ≤ response (capOf p) (perOf p) (placeOf p id) (J .w))
+          × (margin ≡ marginOf (deadlineBy p id number) age)
+      none age margin q = (let z : _≡_ {A = ℕ} 0 1 = cc in absurd (omega arith))
+
+  -- An answer handed back that says finished: the age is at most R, and the margin what the deadline leaves.
+  pub never-late :
+      (age : ℕ) (margin : ℤ)
+      → answerOf c (play cs (start p)) ≡ Finished id number age margin
+      → (age ≤ R) × (margin ≡ pos (deadlineBy p id number - age))
+  unfolding finishes
+  never-late age margin e =
+      let (m, h, q) = told-last c (play cs (start p)) (sound-reached p (J .order) cs .ok) (ap finishes e) in
+      let r = timely .timely m age margin (q ∙ e ∙ named) in (
+        omega (arith, r .0, J .quotes),
+        r .1 ∙ margin-left (deadlineBy p id number) age (omega (arith, r .0, J .quotes, J .in-time)),
+      )
+    where
+      named : Finished id number age margin ≡ Finished (idOf p (placeOf p id)) (suc (number - 1)) age margin
+      named = rw (found-id p id (placeOf p id) refl (J .fits .guest .in-plan), ← J .task) refl

@@ -1,0 +1,61 @@
+-- A state that is refused stays so: every call gives 14 and changes nothing, so a refused start is of no use. Assumes nothing.
+use mathlib.Core.Path.{_≡_, refl, ap, _∙_}
+use mathlib.Core.Bool.{false}
+use mathlib.Core.List.{List, [], _∷_}
+use Prim.Native.Nat.{ℕ, zero, suc, _-_, _<_}
+use native.Mathlib.Omega.{arith}
+use Rattle.lists.specs.Refusals.{refusal}
+use Rattle.plan.specs.declared.Plan.{Plan}
+use Rattle.plan.specs.Order.{countedBy, planRefusal}
+use Rattle.plan.specs.Place.{placeOf}
+use Rattle.plan.specs.Records.{blankPlan}
+use Rattle.dispatcher.specs.declared.Dispatcher.{Dispatcher}
+use Rattle.dispatcher.specs.Valid.{stateOk}
+use Rattle.dispatcher.specs.Fresh.{idle, startedBy, fresh}
+use Rattle.dispatcher.specs.Release.{releaseNumber, releasedBy, release}
+use Rattle.dispatcher.specs.Entries.{tickedBy, tick, ranBy, run}
+use Rattle.history.specs.Calls.{Call, releasing, ticking, running, start, after, play, callNumber}
+use Rattle.lists.proofs.Refusals.{stop}
+
+-- the number that a release is refused by
+release-14 : (d : Dispatcher) (id task : ℕ) → stateOk d ≡ false → releaseNumber d id task ≡ 14
+unfolding releaseNumber
+release-14 d id task e = stop 14 _ e
+
+-- Every call of such a state is refused as 14,
+pub refused-14 : (c : Call) (d : Dispatcher) → stateOk d ≡ false → callNumber c d ≡ 14
+unfolding callNumber release releasedBy tick tickedBy run ranBy
+refused-14 (releasing id task) d e = ap (λ (n : ℕ). releasedBy n d (placeOf (d .plan) id) (task - 1) .refusal .number) (release-14 d id task e)
+refused-14 ticking d e = ap (λ (n : ℕ). tickedBy n d .refusal .number) (stop 14 [] e)
+refused-14 (running n) d e = ap (λ (x : ℕ). ranBy x d n .refusal .number) (stop 14 _ e)
+
+-- and changes nothing.
+pub refused-same : (c : Call) (d : Dispatcher) → stateOk d ≡ false → after c d ≡ d
+unfolding after release releasedBy tick tickedBy run ranBy
+refused-same (releasing id task) d e = ap (λ (n : ℕ). releasedBy n d (placeOf (d .plan) id) (task - 1) .state) (release-14 d id task e)
+refused-same ticking d e = ap (λ (n : ℕ). tickedBy n d .state) (stop 14 [] e)
+refused-same (running n) d e = ap (λ (x : ℕ). ranBy x d n .state) (stop 14 _ e)
+
+-- so does any history
+refused-played : (cs : List Call) (d : Dispatcher) → stateOk d ≡ false → play cs d ≡ d
+unfolding play
+refused-played [] d e = refl
+refused-played (c ∷ cs) d e = ap (play cs) (refused-same c d e) ∙ refused-played cs d e
+
+-- no guest is no plan
+blank-refused : stateOk (idle blankPlan) ≡ false
+unfolding stateOk idle planRefusal countedBy
+blank-refused = refl
+
+-- a refused start
+start-by : (n : ℕ) (p : Plan) → 0 < n → startedBy n p ≡ idle blankPlan
+unfolding startedBy
+start-by zero p h = absurd (omega arith)
+start-by (suc n) p h = refl
+
+-- After a start that was refused, every call of any history is refused as 14.
+pub refused-start : (p : Plan) → 0 < planRefusal p .number → (cs : List Call) (c : Call) → callNumber c (play cs (start p)) ≡ 14
+unfolding fresh
+refused-start p h cs c =
+    let e : stateOk (start p) ≡ false = ap stateOk (start-by (planRefusal p .number) p h) ∙ blank-refused in
+    refused-14 c (play cs (start p)) (ap stateOk (refused-played cs (start p) e) ∙ e)

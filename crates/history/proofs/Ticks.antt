@@ -1,0 +1,235 @@
+-- A tick and a run of a state that is not refused, as single ticks of the rule. Assumes nothing.
+use mathlib.Core.Path.{_≡_, refl, ap, _∙_}
+use mathlib.Core.Bool.{Bool, true, false}
+use mathlib.Core.List.{[], _∷_}
+use Prim.Native.Nat.{ℕ, zero, suc, _+_, _≤_, _<_}
+use native.Mathlib.Decide.{decLe}
+use native.Mathlib.Omega.{arith}
+use lib.Dec.{leb, ltb}
+use lib.ListN.{length, getD}
+use borrow.Author.Tests.{le-leb, lt-leb}
+use Rattle.lists.specs.Choice.{pick}
+use Rattle.lists.specs.Refusals.{refusal, _orRefuse_}
+use Rattle.plan.specs.First.{refused}
+use Rattle.dispatcher.specs.declared.Dispatcher.{Dispatcher}
+use Rattle.dispatcher.specs.declared.Answer.{Answer}
+use Rattle.dispatcher.specs.declared.Answer.the-variants.{Silent}
+use Rattle.dispatcher.specs.declared.Ran.{Ran}
+use Rattle.dispatcher.specs.State.{restAt}
+use Rattle.dispatcher.specs.Valid.{stateOk}
+use Rattle.dispatcher.specs.Tick.{holder, isHeld, worker, isWorked, next}
+use Rattle.dispatcher.specs.Answer.{answerBy, answer, finishes}
+use Rattle.dispatcher.specs.Run.{ticks, ranTo, runFrom, runOf}
+use Rattle.dispatcher.specs.Entries.{longestRun, tickedBy, tick, ranBy, run}
+use Rattle.history.specs.Calls.{told, singles}
+use Rattle.lists.proofs.Refusals.{none-left, go-on, stop}
+use Rattle.history.proofs.Valid.{ok-next}
+
+-- ---- a tick
+-- it is not refused
+tick-number : (d : Dispatcher) → stateOk d ≡ true → refusal (stateOk d orRefuse 14 ∷ []) ≡ 0
+tick-number d e = go-on 14 [] e ∙ none-left
+
+module _ (d : Dispatcher) (ok : stateOk d ≡ true) where
+  -- its answer
+  pub tick-answer : tick d .answer ≡ answer d
+  unfolding tick tickedBy
+  tick-answer = ap (λ (n : ℕ). tickedBy n d .answer) (tick-number d ok)
+
+  -- its state
+  pub tick-state : tick d .state ≡ next d
+  unfolding tick tickedBy
+  tick-state = ap (λ (n : ℕ). tickedBy n d .state) (tick-number d ok)
+
+  -- its refusal
+  pub tick-fine : tick d .refusal .number ≡ 0
+  unfolding tick tickedBy
+  tick-fine = ap (λ (n : ℕ). tickedBy n d .refusal .number) (tick-number d ok)
+
+-- a tick always answers
+told-by : (a b c : Bool) (d : Dispatcher) → told (answerBy a b c d) ≡ answerBy a b c d ∷ []
+unfolding told answerBy
+told-by false b c d = refl
+told-by true false c d = refl
+told-by true true true d = refl
+told-by true true false d = refl
+
+-- so what is told of it is its answer
+pub told-answer : (d : Dispatcher) → told (answer d) ≡ answer d ∷ []
+unfolding answer
+told-answer d = told-by (isHeld d) (isWorked d) (ltb 1 (restAt d (holder d) (worker d))) d
+
+-- the answers of one tick more
+pub singles-next : (n : ℕ) (d : Dispatcher) → stateOk d ≡ true → singles (suc n) d ≡ answer d ∷ singles n (next d)
+unfolding singles
+singles-next n d ok = rw (tick-answer d ok, tick-state d ok, told-answer d) refl
+
+-- no tick, no answer
+pub singles-none : (d : Dispatcher) → singles 0 d ≡ []
+unfolding singles
+singles-none d = refl
+
+-- as many answers as ticks
+pub singles-length : (n : ℕ) (d : Dispatcher) → stateOk d ≡ true → length (singles n d) ≡ n
+singles-length zero d ok = ap length (singles-none d)
+singles-length (suc n) d ok = ap length (singles-next n d ok) ∙ ap suc (singles-length n (next d) (ok-next d ok))
+
+-- ---- a run
+-- What a run is: so many single ticks; it stops after the first that finishes a job, or when the number is used up.
+pub record RunBy (n : ℕ) (d : Dispatcher) (r : Ran) : Type 0 where
+  pub fine : r .refusal .number ≡ 0
+  pub most : r .done ≤ n
+  pub state : r .state ≡ ticks (r .done) d
+  pub nothing : r .done ≡ 0 → (n ≡ 0) × (r .answer ≡ Silent)
+  pub last : (m : ℕ) → r .done ≡ suc m → r .answer ≡ getD (singles (r .done) d) m Silent
+  pub early : (m : ℕ) → suc m < r .done → finishes (getD (singles (r .done) d) m Silent) ≡ false
+  pub ends : r .done < n → finishes (r .answer) ≡ true
+
+-- The same of the ticks that are still to do, after k were done and the last of them answered a; j of them are done.
+record From (n k : ℕ) (a : Answer) (d : Dispatcher) (r : Ran) : Type 0 where
+  j : ℕ
+  done : r .done ≡ k + j
+  most : j ≤ n
+  fine : r .refusal .number ≡ 0
+  state : r .state ≡ ticks j d
+  nothing : j ≡ 0 → (n ≡ 0) × (r .answer ≡ a)
+  last : (m : ℕ) → j ≡ suc m → r .answer ≡ getD (singles j d) m Silent
+  early : (m : ℕ) → suc m < j → finishes (getD (singles j d) m Silent) ≡ false
+  ends : j < n → finishes (r .answer) ≡ true
+
+-- nothing is to do
+from-none : (k : ℕ) (a : Answer) (d : Dispatcher) → From 0 k a d (ranTo k a d)
+unfolding ticks
+from-none k a d = record {
+  j = 0;
+  done = omega arith;
+  most = omega arith;
+  fine = refl;
+  state = refl;
+  nothing = λ e. (refl, refl);
+  last = λ m e. absurd (omega arith);
+  early = λ m l. absurd (omega arith);
+  ends = λ l. absurd (omega arith);
+}
+
+-- the first of them finishes a job
+from-stop :
+    (n k : ℕ) (a : Answer) (d : Dispatcher)
+    → stateOk d ≡ true
+    → finishes (answer d) ≡ true
+    → From (suc n) k a d (ranTo (k + 1) (answer d) (next d))
+unfolding ticks
+from-stop n k a d ok e = record {
+  j = 1;
+  done = refl;
+  most = omega arith;
+  fine = refl;
+  state = refl;
+  nothing = λ q. absurd (omega arith);
+  last = λ m q. (let z : m ≡ 0 = omega arith in rw (z, singles-next 0 d ok) refl);
+  early = λ m l. absurd (omega arith);
+  ends = λ l. e;
+}
+
+-- it does not, and the rest is done
+from-on :
+    (n k : ℕ) (a : Answer) (d : Dispatcher) (r : Ran)
+    → stateOk d ≡ true
+    → finishes (answer d) ≡ false
+    → From n (k + 1) (answer d) (next d) r
+    → From (suc n) k a d r
+unfolding ticks
+from-on n k a d r ok e F = record {
+  j = suc (F .j);
+  done = omega (arith, F .done);
+  most = omega (arith, F .most);
+  fine = F .fine;
+  state = F .state;
+  nothing = λ q. absurd (omega arith);
+  last = λ m q. rw (singles-next (F .j) d ok) (last-at (F .j) m (omega arith) (F .nothing) (F .last));
+  early = λ m l. rw (singles-next (F .j) d ok) (early-at m (omega arith) (F .early));
+  ends = λ l. F .ends (omega arith);
+}
+  where
+    last-at :
+        (j m : ℕ)
+        → j ≡ m
+        → (j ≡ 0 → (n ≡ 0) × (r .answer ≡ answer d))
+        → ((m : ℕ) → j ≡ suc m → r .answer ≡ getD (singles j (next d)) m Silent)
+        → r .answer ≡ getD (answer d ∷ singles j (next d)) m Silent
+    last-at j zero q none more = none (omega arith) .1
+    last-at j (suc m) q none more = more m (omega arith)
+
+    early-at :
+        (m : ℕ)
+        → m < F .j
+        → ((m : ℕ) → suc m < F .j → finishes (getD (singles (F .j) (next d)) m Silent) ≡ false)
+        → finishes (getD (answer d ∷ singles (F .j) (next d)) m Silent) ≡ false
+    early-at zero l more = e
+    early-at (suc m) l more = more m (omega arith)
+
+-- any number of them
+from-by : (n k : ℕ) (a : Answer) (d : Dispatcher) → stateOk d ≡ true → From n k a d (runFrom n k a d)
+unfolding runFrom
+from-by zero k a d ok = from-none k a d
+from-by (suc n) k a d ok = by (finishes (answer d)) refl (from-by n (k + 1) (answer d) (next d) (ok-next d ok))
+  where
+    by : (b : Bool) → finishes (answer d) ≡ b → From n (k + 1) (answer d) (next d) (runFrom n (k + 1) (answer d) (next d))
+        → From (suc n) k a d (pick b (ranTo (k + 1) (answer d) (next d)) (runFrom n (k + 1) (answer d) (next d)))
+    by true e F = from-stop n k a d ok e
+    by false e F = from-on n k a d (runFrom n (k + 1) (answer d) (next d)) ok e F
+
+-- a run that is not refused
+runs-by : (n : ℕ) (d : Dispatcher) → stateOk d ≡ true → RunBy n d (runOf n d)
+unfolding runOf
+runs-by n d ok =
+    let F = from-by n 0 Silent d ok in
+    let e : runFrom n 0 Silent d .done ≡ F .j = omega (arith, F .done) in
+    record {
+      fine = F .fine;
+      most = rw e (F .most);
+      state = rw e (F .state);
+      nothing = λ q. F .nothing (omega arith);
+      last = λ m q. rw e (F .last m (omega arith));
+      early = λ m l. rw e (F .early m (omega arith));
+      ends = λ l. F .ends (omega arith);
+    }
+
+-- its number of ticks is not refused
+run-number : (n : ℕ) (d : Dispatcher) → stateOk d ≡ true → n ≤ 1000000 → refusal (stateOk d orRefuse 14 ∷ leb n longestRun orRefuse 13 ∷ []) ≡ 0
+run-number n d ok h = go-on 14 _ ok ∙ go-on 13 [] (le-leb n longestRun h) ∙ none-left
+
+-- it is
+run-refused : (n : ℕ) (d : Dispatcher) → stateOk d ≡ true → 1000000 < n → refusal (stateOk d orRefuse 14 ∷ leb n longestRun orRefuse 13 ∷ []) ≡ 13
+run-refused n d ok h = go-on 14 _ ok ∙ stop 13 [] (lt-leb n longestRun h)
+
+-- the call
+pub run-fine : (n : ℕ) (d : Dispatcher) → stateOk d ≡ true → n ≤ 1000000 → run d n ≡ runOf n d
+unfolding run ranBy
+run-fine n d ok h = ap (λ (x : ℕ). ranBy x d n) (run-number n d ok h)
+
+-- A run of at most 1,000,000 ticks is its single ticks.
+pub run-by : (n : ℕ) (d : Dispatcher) → stateOk d ≡ true → n ≤ 1000000 → RunBy n d (run d n)
+run-by n d ok h = rw (run-fine n d ok h) (runs-by n d ok)
+
+-- A longer one is refused, and does nothing.
+pub run-13 :
+    (n : ℕ) (d : Dispatcher)
+    → stateOk d ≡ true
+    → 1000000 < n
+    → run d n ≡ record { refusal = refused 13 0; done = 0; answer = Silent; state = d }
+unfolding run ranBy
+run-13 n d ok h = ap (λ (x : ℕ). ranBy x d n) (run-refused n d ok h)
+
+-- In either case the state is that of the ticks that it reports.
+pub run-state : (n : ℕ) (d : Dispatcher) → stateOk d ≡ true → run d n .state ≡ ticks (run d n .done) d
+unfolding ticks
+run-state n d ok =
+    elim (decLe n 1000000) [
+      | yes h ↦ run-by n d ok h .state
+      | no h ↦ rw (run-13 n d ok (omega arith)) refl
+    ]
+
+-- and so is that of a tick
+pub tick-one : (d : Dispatcher) → stateOk d ≡ true → length (told (tick d .answer)) ≡ 1
+tick-one d ok = ap (λ (a : Answer). length (told a)) (tick-answer d ok) ∙ ap length (told-answer d)

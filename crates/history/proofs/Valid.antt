@@ -1,0 +1,192 @@
+-- A state that is not refused as 14 stays so over a tick and over a taken release: each number stays in its range. Assumes nothing.
+use mathlib.Core.Path.{_≡_, refl, sym, ap, _∙_}
+use mathlib.Core.Logic.{⊎-elim}
+use mathlib.Core.Bool.{Bool, true, false, false≢true}
+use mathlib.Core.List.{List}
+use Prim.Native.Nat.{ℕ, _+_, _-_, _≤_, _<_, min}
+use native.Mathlib.Decide.{ℕ-discrete}
+use native.Mathlib.Omega.{arith}
+use lib.Dec.{ltb, eqb}
+use lib.ListN.{set}
+use lib.Seq.{getD-set-other}
+use borrow.Author.Tests.{ltb-true, ltb-false, lt-ltb}
+use Rattle.lists.specs.Choice.{pick}
+use Rattle.lists.specs.Places.{nth}
+use Rattle.plan.specs.Records.{everyOf}
+use Rattle.plan.specs.Ranges.{longest}
+use Rattle.plan.specs.Charge.{charged}
+use Rattle.plan.specs.Order.{planRefusal}
+use Rattle.dispatcher.specs.declared.Dispatcher.{Dispatcher}
+use Rattle.dispatcher.specs.State.{placeAt, guestIn, restAt, waitAt, ageAt}
+use Rattle.dispatcher.specs.Valid.{tasksIn, guestOk, taskOk, stateOk}
+use Rattle.dispatcher.specs.Tick.{lessAt, refilled, holder, isHeld, leftAfter, worker, isWorked, restAfter, ageAfter, waitAfter, positionAfter, next}
+use Rattle.dispatcher.specs.Release.{taken}
+use Rattle.lists.proofs.Places.{upTo-rest, upTo-get, set-get}
+use Rattle.history.proofs.Seen.{posAt, leftAt}
+use Rattle.history.proofs.Next.{next-plan}
+use Rattle.history.proofs.Ranges.{ok-plan, ok-guest, ok-task, ok-by, server-by, job-by}
+
+-- ---- a tick
+-- one less at a place leaves no place more
+set-less : (l : List ℕ) (i k : ℕ) → nth (set l i (nth l i - 1)) k ≤ nth l k
+set-less l i k =
+    elim (ℕ-discrete k i) [
+      | yes e ↦ rw e (⊎-elim (λ p. omega arith) (λ p. omega arith) (set-get l i (nth l i - 1) i))
+      | no e ↦ omega (arith, getD-set-other l i k (nth l i - 1) 0 e)
+    ]
+
+-- where the test holds or not
+less-le : (b : Bool) (l : List ℕ) (i k : ℕ) → nth (lessAt b l i) k ≤ nth l k
+unfolding lessAt
+less-le true l i k = set-less l i k
+less-le false l i k = omega arith
+
+-- the one or the other, both within a bound
+pick-le : (b : Bool) (x y n : ℕ) → x ≤ n → y ≤ n → pick b x y ≤ n
+pick-le true x y n p q = p
+pick-le false x y n p q = q
+
+-- a position that moves on stays inside the period
+moved-lt : (x t : ℕ) (b : Bool) → ltb (x + 1) t ≡ b → 0 < t → pick b (x + 1) 0 < t
+moved-lt x t true e h = ltb-true _ _ e
+moved-lt x t false e h = h
+
+module _ (d : Dispatcher) where
+  -- a guest has no more than its capacity
+  left-within : (k : ℕ) → leftAt d k ≤ guestIn d k .capacity → leftAt (next d) k ≤ guestIn d k .capacity
+  unfolding next leftAfter refilled
+  left-within k h =
+      let m = less-le (isHeld d) (refilled d) (holder d) k in
+      let c = pick-le (eqb (posAt d k) 0) (guestIn d k .capacity) (leftAt d k) (guestIn d k .capacity) (omega arith) h in
+      ⊎-elim (λ e. omega arith) (λ e. omega arith)
+      (upTo-get (λ k left. pick (eqb (nth (d .position) k) 0) (guestIn d k .capacity) left) (d .plan .count) (d .left) k)
+
+  -- and nothing past the guests
+  left-past : (k : ℕ) → d .plan .count ≤ k → leftAt d k ≡ 0 → leftAt (next d) k ≡ 0
+  unfolding next leftAfter refilled
+  left-past k h e =
+      omega (
+        arith,
+        less-le (isHeld d) (refilled d) (holder d) k,
+        upTo-rest (λ k left. pick (eqb (nth (d .position) k) 0) (guestIn d k .capacity) left) (d .plan .count) (d .left) k h,
+      )
+
+  -- its position is inside the period
+  position-within : (k : ℕ) → posAt d k < guestIn d k .period → posAt (next d) k < guestIn d k .period
+  unfolding next positionAfter
+  position-within k h =
+      ⊎-elim (λ e. rw e (moved-lt (posAt d k) (guestIn d k .period) _ refl (omega arith))) (λ e. rw e h)
+      (upTo-get (λ k position. pick (ltb (position + 1) (guestIn d k .period)) (position + 1) 0) (d .plan .count) (d .position) k)
+
+  -- and 0 past the guests
+  position-past : (k : ℕ) → d .plan .count ≤ k → posAt d k ≡ 0 → posAt (next d) k ≡ 0
+  unfolding next positionAfter
+  position-past k h e =
+      upTo-rest (λ k position. pick (ltb (position + 1) (guestIn d k .period)) (position + 1) 0) (d .plan .count) (d .position) k h ∙ e
+
+  -- no run left grows
+  rest-le : (k t : ℕ) → restAt (next d) k t ≤ restAt d k t
+  unfolding next restAfter
+  rest-le k t = less-le (isWorked d) (d .rest) (placeAt (holder d) (worker d)) (placeAt k t)
+
+  -- no wait grows
+  wait-le : (k t : ℕ) → waitAt (next d) k t ≤ waitAt d k t
+  unfolding next waitAfter
+  wait-le k t = ⊎-elim (λ e. omega arith) (λ e. omega arith) (upTo-get (λ k wait. wait - 1) 128 (d .wait) (placeAt k t))
+
+  -- no age passes 1,000,000
+  age-within : (k t : ℕ) → ageAt d k t ≤ 1000000 → ageAt (next d) k t ≤ 1000000
+  unfolding next ageAfter
+  age-within k t h =
+      ⊎-elim (λ e. rw e (pick-le (ltb 0 (restAt d k t)) _ _ 1000000 (omega arith) h)) (λ e. omega arith)
+      (upTo-get (λ k age. pick (ltb 0 (nth (d .rest) k)) (min (age + 1) longest) age) 128 (d .age) (placeAt k t))
+
+  -- and where there is no job it stands
+  age-stands : (k t : ℕ) → restAt d k t ≡ 0 → ageAt (next d) k t ≡ ageAt d k t
+  unfolding next ageAfter
+  age-stands k t h =
+      ⊎-elim (λ e. e ∙ ap (λ (n : ℕ). pick (ltb 0 n) (min (ageAt d k t + 1) longest) (ageAt d k t)) h) (λ e. e)
+      (upTo-get (λ k age. pick (ltb 0 (nth (d .rest) k)) (min (age + 1) longest) age) 128 (d .age) (placeAt k t))
+
+  -- a guest
+  guest-next : (k : ℕ) → guestOk d k ≡ true → guestOk (next d) k ≡ true
+  unfolding guestOk next
+  guest-next k e =
+      server-by (ltb k (d .plan .count)) (guestIn d k .capacity) (guestIn d k .period) (leftAt d k) (posAt d k) (leftAt (next d) k)
+      (posAt (next d) k) (λ q l p. (left-within k l, position-within k p))
+      (λ q l p. (left-past k (ltb-false _ _ q) l, position-past k (ltb-false _ _ q) p)) e
+
+  -- a task
+  task-next : (k t : ℕ) → taskOk d k t ≡ true → taskOk (next d) k t ≡ true
+  unfolding taskOk tasksIn next
+  task-next k t e =
+      job-by (ltb t (tasksIn d k)) (charged (guestIn d k) t) (everyOf (guestIn d k) t) (restAt d k t) (waitAt d k t) (ageAt d k t)
+      (restAt (next d) k t) (waitAt (next d) k t) (ageAt (next d) k t)
+      (λ q j. record { work = omega (arith, rest-le k t, j .work); due = omega (arith, wait-le k t, j .due); old = age-within k t (j .old) })
+      (λ q j a. (
+        record { work = omega (arith, rest-le k t, j .work); due = omega (arith, wait-le k t, j .due); old = omega arith },
+        age-stands k t (omega (arith, j .work)) ∙ a,
+      ))
+      e
+
+  -- the state
+  pub ok-next : stateOk d ≡ true → stateOk (next d) ≡ true
+  ok-next e =
+      ok-by (next d) (rw (next-plan d) (ok-plan d e)) (λ k h. guest-next k (ok-guest d e k h)) (λ k t h l. task-next k t (ok-task d e k t h l))
+
+-- ---- a taken release
+-- the records stand
+pub taken-plan : (d : Dispatcher) (k t : ℕ) → taken d k t .plan ≡ d .plan
+unfolding taken
+taken-plan d k t = refl
+
+-- and the guests' numbers
+taken-guest : (d : Dispatcher) (k t g : ℕ) → guestOk (taken d k t) g ≡ guestOk d g
+unfolding taken guestOk
+taken-guest d k t g = refl
+
+module _ (d : Dispatcher) (k t : ℕ) (in-plan : k < d .plan .count) (in-guest : t < guestIn d k .tasks) (few : guestIn d k .tasks ≤ 16) where
+  -- the released task itself
+  task-new : taskOk d k t ≡ true → taskOk (taken d k t) k t ≡ true
+  unfolding taskOk tasksIn taken
+  task-new e =
+      job-by (ltb t (tasksIn d k)) (charged (guestIn d k) t) (everyOf (guestIn d k) t) (restAt d k t) (waitAt d k t) (ageAt d k t)
+      (restAt (taken d k t) k t) (waitAt (taken d k t) k t) (ageAt (taken d k t) k t)
+      (λ q j. record {
+        work = ⊎-elim (λ p. omega arith) (λ p. omega (arith, j .work)) (set-get (d .rest) (placeAt k t) (charged (guestIn d k) t) (placeAt k t));
+        due = ⊎-elim (λ p. omega arith) (λ p. omega (arith, j .due)) (set-get (d .wait) (placeAt k t) (everyOf (guestIn d k) t) (placeAt k t));
+        old = ⊎-elim (λ p. omega arith) (λ p. omega (arith, j .old)) (set-get (d .age) (placeAt k t) 0 (placeAt k t));
+      })
+      (λ q j a. absurd (false≢true (sym (rw (lt-ltb k (d .plan .count) in-plan) at q) ∙ lt-ltb t (guestIn d k .tasks) in-guest)))
+      e
+
+  -- any other task is as it was
+  task-other : (g j : ℕ) → (placeAt g j ≡ placeAt k t → ⊥) → taskOk d g j ≡ true → taskOk (taken d k t) g j ≡ true
+  unfolding taskOk tasksIn taken
+  task-other g j n e =
+      rw (
+        getD-set-other (d .rest) (placeAt k t) (placeAt g j) (charged (guestIn d k) t) 0 n,
+        getD-set-other (d .wait) (placeAt k t) (placeAt g j) (everyOf (guestIn d k) t) 0 n,
+        getD-set-other (d .age) (placeAt k t) (placeAt g j) 0 0 n,
+      )
+      e
+
+  -- the state
+  pub ok-taken : stateOk d ≡ true → stateOk (taken d k t) ≡ true
+  ok-taken e = ok-by (taken d k t) plan guest task
+    where
+      plan : planRefusal (taken d k t .plan) .number ≡ 0
+      plan = rw (taken-plan d k t) (ok-plan d e)
+
+      guest : (g : ℕ) → g < 8 → guestOk (taken d k t) g ≡ true
+      guest g h = rw (taken-guest d k t g) (ok-guest d e g h)
+
+      task : (g j : ℕ) → g < 8 → j < 16 → taskOk (taken d k t) g j ≡ true
+      task g j h l =
+          elim (ℕ-discrete (placeAt g j) (placeAt k t)) [
+            | yes q ↦
+                (let a : g ≡ k = omega arith in
+                let b : j ≡ t = omega arith in
+                rw (a, b) (task-new (rw (a, b) at (ok-task d e g j h l))))
+            | no n ↦ task-other g j n (ok-task d e g j h l)
+          ]

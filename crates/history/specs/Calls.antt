@@ -1,0 +1,98 @@
+-- Histories of calls: releases, ticks and runs in any order, with any arguments, refused or not.
+use mathlib.Core.Path.{_≡_}
+use mathlib.Core.List.{List, [], _∷_, _++_}
+use Prim.Native.Nat.{ℕ, zero, suc, _+_}
+use lib.ListN.{length}
+use Rattle.plan.specs.declared.Plan.{Plan}
+use Rattle.dispatcher.specs.declared.Dispatcher.{Dispatcher}
+use Rattle.dispatcher.specs.declared.Answer.{Answer}
+use Rattle.dispatcher.specs.declared.Answer.the-variants.{Silent, Nobody, Idled, Worked, Finished}
+use Rattle.dispatcher.specs.Fresh.{fresh}
+use Rattle.dispatcher.specs.Release.{release}
+use Rattle.dispatcher.specs.Entries.{tick, run}
+
+-- the fresh dispatcher of a plan's records
+abbrev pub start : Plan → Dispatcher
+start p = fresh p .state
+
+-- a call of the dispatcher
+pub data Call : Type 0 where
+  releasing : (guest task : ℕ) → Call
+  ticking : Call
+  running : (budget : ℕ) → Call
+
+-- the state after a call
+unfoldable pub after : Call → Dispatcher → Dispatcher
+after (releasing guest task) d = release d guest task .state
+after ticking d = tick d .state
+after (running n) d = run d n .state
+
+-- the state after a history of calls
+unfoldable pub play : List Call → Dispatcher → Dispatcher
+play [] d = d
+play (c ∷ cs) d = play cs (after c d)
+
+-- the state after a history from the fresh start, and then a release of the task
+abbrev pub released : Plan → (guest task : ℕ) → List Call → Dispatcher
+released p guest task cs = after (releasing guest task) (play cs (start p))
+
+-- n calls of a tick
+unfoldable pub times : ℕ → List Call
+times zero = []
+times (suc n) = ticking ∷ times n
+
+-- the answer of a tick, if there was one
+unfoldable pub told : Answer → List Answer
+told Silent = []
+told Nobody = Nobody ∷ []
+told (Idled guest) = Idled guest ∷ []
+told (Worked guest task) = Worked guest task ∷ []
+told (Finished guest task age margin) = Finished guest task age margin ∷ []
+
+-- the answers of n single ticks, in order
+unfoldable pub singles : ℕ → Dispatcher → List Answer
+singles zero d = []
+singles (suc n) d = told (tick d .answer) ++ singles n (tick d .state)
+
+-- how many ticks a call does: a refused tick none, and a run says it itself
+unfoldable pub ticksOf : Call → Dispatcher → ℕ
+ticksOf (releasing guest task) d = 0
+ticksOf ticking d = length (told (tick d .answer))
+ticksOf (running n) d = run d n .done
+
+-- how many ticks a history does
+unfoldable pub ticksIn : List Call → Dispatcher → ℕ
+ticksIn [] d = 0
+ticksIn (c ∷ cs) d = ticksOf c d + ticksIn cs (after c d)
+
+-- the answers of the ticks of a history, in order; a run's are those of its single ticks
+unfoldable pub answers : List Call → Dispatcher → List Answer
+answers [] d = []
+answers (c ∷ cs) d = singles (ticksOf c d) d ++ answers cs (after c d)
+
+-- the answer that a call hands back: a tick's own, a run's last, and none of a release
+unfoldable pub answerOf : Call → Dispatcher → Answer
+answerOf (releasing guest task) d = Silent
+answerOf ticking d = tick d .answer
+answerOf (running n) d = run d n .answer
+
+-- the number that a call is refused by, 0 where it is not
+unfoldable pub callNumber : Call → Dispatcher → ℕ
+callNumber (releasing guest task) d = release d guest task .refusal .number
+callNumber ticking d = tick d .refusal .number
+callNumber (running n) d = run d n .refusal .number
+
+-- the call is a release of that task, and it is taken
+unfoldable pub Takes : Call → Dispatcher → (guest task : ℕ) → Type 0
+Takes (releasing g t) d guest task = (g ≡ guest) × ((t ≡ task) × (release d g t .refusal .number ≡ 0))
+Takes ticking d guest task = ⊥
+Takes (running n) d guest task = ⊥
+
+-- something holds of each call of a history and the state that it meets
+unfoldable pub Throughout : (Call → Dispatcher → Type 0) → List Call → Dispatcher → Type 0
+Throughout P [] d = Unit {0}
+Throughout P (c ∷ cs) d = P c d × Throughout P cs (after c d)
+
+-- no release of that task is taken in the history
+abbrev pub NoneTaken : (guest task : ℕ) → List Call → Dispatcher → Type 0
+NoneTaken guest task = Throughout (λ c d. Takes c d guest task → ⊥)

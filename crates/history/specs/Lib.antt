@@ -1,0 +1,6 @@
+pub mod Calls
+pub mod Named
+pub mod Share
+pub mod Runs
+pub mod Finished
+pub mod PlanA

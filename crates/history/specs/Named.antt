@@ -1,0 +1,33 @@
+-- A guest and a task as callers name them: by the guest's id, and the task's number from 1.
+use Prim.Native.Nat.{ℕ, _-_}
+use Rattle.plan.specs.declared.Guest.{Guest}
+use Rattle.plan.specs.declared.Plan.{Plan}
+use Rattle.plan.specs.Place.{placeOf}
+use Rattle.plan.specs.Records.{guestAt}
+use Rattle.dispatcher.specs.declared.Dispatcher.{Dispatcher}
+use Rattle.dispatcher.specs.State.{restAt, waitAt, ageAt}
+use Rattle.plan.specs.Records as records
+
+-- the guest with that id
+abbrev pub guestBy : Plan → (id : ℕ) → Guest
+guestBy p id = guestAt (p .guests) (placeOf p id)
+
+-- period of its task
+abbrev pub everyBy : Plan → (id number : ℕ) → ℕ
+everyBy p id number = records.everyOf (guestBy p id) (number - 1)
+
+-- deadline of its task
+abbrev pub deadlineBy : Plan → (id number : ℕ) → ℕ
+deadlineBy p id number = records.deadlineOf (guestBy p id) (number - 1)
+
+-- run left of its task, in a state of the plan
+abbrev pub restBy : Plan → (id number : ℕ) → Dispatcher → ℕ
+restBy p id number d = restAt d (placeOf p id) (number - 1)
+
+-- wait of its task
+abbrev pub waitBy : Plan → (id number : ℕ) → Dispatcher → ℕ
+waitBy p id number d = waitAt d (placeOf p id) (number - 1)
+
+-- age of its task
+abbrev pub ageBy : Plan → (id number : ℕ) → Dispatcher → ℕ
+ageBy p id number d = ageAt d (placeOf p id) (number - 1)

@@ -1,0 +1,30 @@
+-- How many ticks a guest had, by the answers.
+use mathlib.Core.Bool.{Bool, true, false}
+use mathlib.Core.List.{List}
+use Prim.Native.Nat.{ℕ, _+_}
+use lib.Dec.{eqb}
+use lib.ListN.{getD}
+use Rattle.lists.specs.Sum.{sumTo}
+use Rattle.dispatcher.specs.declared.Answer.{Answer}
+use Rattle.dispatcher.specs.declared.Answer.the-variants.{Silent, Nobody, Idled, Worked, Finished}
+
+-- 1 for a test that holds
+unfoldable pub bit : Bool → ℕ
+bit true = 1
+bit false = 0
+
+-- 1 where the answer names the guest, with a task or idle
+unfoldable pub names : (id : ℕ) → Answer → ℕ
+names id Silent = 0
+names id Nobody = 0
+names id (Idled guest) = bit (eqb guest id)
+names id (Worked guest task) = bit (eqb guest id)
+names id (Finished guest task age margin) = bit (eqb guest id)
+
+-- the answer of tick m, from 0
+abbrev pub answerAt : List Answer → ℕ → Answer
+answerAt l m = getD l m Silent
+
+-- of the n ticks from tick m on, how many the guest had
+unfoldable pub share : (id : ℕ) → List Answer → ℕ → ℕ → ℕ
+share id l m n = sumTo (λ j. names id (answerAt l (m + j))) n

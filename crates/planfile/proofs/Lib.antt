@@ -1,0 +1,5 @@
+-- Laws, each file named after the definition file that it is about.
+pub mod File
+pub mod Records
+pub mod Finder
+pub mod Promises

@@ -1,0 +1,4 @@
+pub mod File
+pub mod Records
+pub mod Finder
+pub mod Promises

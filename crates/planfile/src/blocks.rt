@@ -1,0 +1,115 @@
+// The blocks of a plan one by one, in order.
+ghost use mathlib.Core.Path.{_≡_};
+ghost use Prim.Native.Nat.{ℕ, _+_, _*_, _≤_, _<_};
+ghost use lib.ListN.{length};
+ghost use Rattle.plan.specs.First.{firstRefused};
+ghost use Rattle.plan.specs.Order.{newId};
+ghost use Rattle.block.specs.Reading.{guestOf};
+ghost use Rattle.planfile.specs.File.{blockAt, idAt, sizeOk, numberAt, fileRefusal};
+ghost use Rattle.planfile.specs.Records.{recordsOf};
+use plan::Guest;
+use plan::Refusal;
+
+// Refusal 1's test.
+pub fn size_ok(n: usize) -> bool
+    ensures { λ r. ⌜ r ≡ sizeOk n ⌝ }
+{
+    ((1 <= n) & (n <= 4096)) & (n % 512 == 0)
+}
+
+// The guest id in block k.
+pub fn id_at(s: &[u8], k: usize) -> u32
+    requires { ⌜ (k < 8) × (512 * k + 512 ≤ length (now s)) ⌝ }
+    ensures { λ r. ⌜ r ≡ idAt (now (s .entry)) k ⌝ }
+{
+    let a = 512 * k;
+    let e = a + 512;
+    block::id_of(&s[a..e])
+}
+
+// Whether block k's id is no earlier block's.
+fn is_new(s: &[u8], k: usize) -> bool
+    requires { ⌜ (k < 8) × (512 * k + 512 ≤ length (now s)) ⌝ }
+    ensures { λ r. ⌜ r ≡ newId (idAt (now (s .entry))) k ⌝ }
+{
+    let id = id_at(s, k);
+    let mut ok = true;
+    let mut j: usize = 0;
+    while j < k {
+        ok = ok & !(id_at(s, j) == id);
+        j += 1;
+    }
+    ok
+}
+
+// The number that block k is refused by.
+fn number_at(s: &[u8], k: usize) -> u32
+    requires { ⌜ (k < 8) × (512 * k + 512 ≤ length (now s)) ⌝ }
+    ensures { λ r. ⌜ r ≡ numberAt (now (s .entry)) k ⌝ }
+{
+    let fresh = is_new(s, k);
+    let a = 512 * k;
+    let e = a + 512;
+    block::block_number(&s[a..e], k as u32, fresh)
+}
+
+// The record of block k.
+fn guest_at(s: &[u8], k: usize) -> Guest
+    requires { ⌜ (k < 8) × (512 * k + 512 ≤ length (now s)) ⌝ }
+    ensures { λ r. ⌜ r ≡ guestOf (blockAt (now (s .entry)) k) ⌝ }
+{
+    let a = 512 * k;
+    let e = a + 512;
+    block::decode(&s[a..e])
+}
+
+// The records of the first n blocks, and records of zeros.
+pub fn records_of(s: &[u8], n: usize) -> [Guest; 8]
+    requires { ⌜ (n ≤ 8) × (512 * n ≤ length (now s)) ⌝ }
+    ensures { λ r. ⌜ r ≡ recordsOf (now (s .entry)) n ⌝ }
+{
+    let mut guests = [plan::blank_guest(); 8];
+    let mut k: usize = 0;
+    while k < n {
+        let g = guest_at(s, k);
+        guests[k] = g;
+        k += 1;
+    }
+    guests
+}
+
+// The first refusal of the first n blocks.
+fn first_refused(s: &[u8], n: usize) -> Refusal
+    requires { ⌜ (n ≤ 8) × (512 * n ≤ length (now s)) ⌝ }
+    ensures { λ r. ⌜ r ≡ firstRefused (numberAt (now (s .entry))) n 0 ⌝ }
+{
+    let mut k: usize = 0;
+    while k < n {
+        let number = number_at(s, k);
+        if 0 < number {
+            return Refusal {
+                number,
+                place: k as u32,
+            };
+        }
+        k += 1;
+    }
+    Refusal {
+        number: 0,
+        place: 0,
+    }
+}
+
+// The refusal of reading.
+pub fn refusal_of(s: &[u8]) -> Refusal
+    ensures { λ r. ⌜ r ≡ fileRefusal (now (s .entry)) ⌝ }
+{
+    if size_ok(s.len()) {
+        first_refused(s, s.len() / 512)
+    } else {
+        Refusal {
+            number: 1,
+            place: 0,
+        }
+    }
+}

@@ -1,0 +1,68 @@
+// A plan's bytes: read into records, and a guest's block found in them.
+ghost use mathlib.Core.Path.{_≡_};
+ghost use Prim.Native.Nat.{ℕ, _*_, _≤_};
+ghost use lib.ListN.{length};
+ghost use Rattle.planfile.specs.Records.{recordsOf};
+ghost use Rattle.planfile.specs.Promises.{Reads, Finds, FindsPlace};
+use plan::Plan;
+use plan::Refusal;
+
+mod blocks;
+mod search;
+
+// A plan read: the refusal, number 0 for none, and the records, or on a refusal zeros.
+#[repr(C)]
+pub struct Reading {
+    pub refusal: Refusal,
+    pub plan: Plan,
+}
+
+// The records of the first n blocks under a refusal.
+fn with_records(bytes: &[u8], n: usize, refusal: Refusal) -> Reading
+    requires { ⌜ (n ≤ 8) × (512 * n ≤ length (now bytes)) ⌝ }
+    ensures { λ r. ⌜ r ≡ record { refusal = refusal; plan = record { count = n; guests = recordsOf (now (bytes .entry)) n } } ⌝ }
+{
+    let guests = blocks::records_of(bytes, n);
+    Reading {
+        refusal,
+        plan: Plan {
+            count: n as u32,
+            guests,
+        },
+    }
+}
+
+// Reads a plan's bytes: 1, then block by block 2, 3, 4, 5, 6.
+pub fn read(bytes: &[u8]) -> Reading
+    ensures { λ r. ⌜ Reads (now (bytes .entry)) r ⌝ }
+{
+    let refusal = blocks::refusal_of(bytes);
+    if 0 < refusal.number {
+        return with_records(bytes, 0, refusal);
+    }
+    with_records(bytes, bytes.len() / 512, refusal)
+}
+
+// The place of a guest's block, or the refusal: the reading order, then 7.
+pub fn find_place(bytes: &[u8], id: u32) -> Refusal
+    ensures { λ r. ⌜ FindsPlace (now (bytes .entry)) id r ⌝ }
+{
+    let r = blocks::refusal_of(bytes);
+    if 0 < r.number {
+        return r;
+    }
+    search::placed_at(search::place_of(bytes, id, bytes.len() / 512))
+}
+
+// The guest's block as it stands in the bytes; an empty part on a refusal.
+pub fn find(bytes: &[u8], id: u32) -> &[u8]
+    ensures { λ r. ⌜ Finds (now (bytes .entry)) id (now r) ⌝ }
+{
+    let r = find_place(bytes, id);
+    if 0 < r.number {
+        return &bytes[..0];
+    }
+    let a = 512 * (r.place as usize);
+    let e = a + 512;
+    &bytes[a..e]
+}

@@ -1,0 +1,42 @@
+// The search for a guest's block by the guest's id.
+ghost use mathlib.Core.Path.{_≡_};
+ghost use Prim.Native.Nat.{ℕ, _*_, _≤_};
+ghost use lib.ListN.{length};
+ghost use lib.Dec.{eqb};
+ghost use Rattle.lists.specs.Search.{least};
+ghost use Rattle.planfile.specs.File.{idAt};
+ghost use Rattle.planfile.specs.Finder.{placed};
+use crate::blocks::id_at;
+use lists::Found;
+use plan::Refusal;
+
+// The first of the first n blocks that has the id.
+pub fn place_of(s: &[u8], id: u32, n: usize) -> Found
+    requires { ⌜ (n ≤ 8) × (512 * n ≤ length (now s)) ⌝ }
+    ensures { λ r. ⌜ r ≡ least (λ k. eqb (idAt (now (s .entry)) k) id) n 0 ⌝ }
+{
+    let mut k: usize = 0;
+    while k < n {
+        if id_at(s, k) == id {
+            return Found::At(k as u32);
+        }
+        k += 1;
+    }
+    Found::Nothing
+}
+
+// As number and place.
+pub fn placed_at(f: Found) -> Refusal
+    ensures { λ r. ⌜ r ≡ placed f ⌝ }
+{
+    match f {
+        Found::At(k) => Refusal {
+            number: 0,
+            place: k,
+        },
+        Found::Nothing => Refusal {
+            number: 7,
+            place: 0,
+        },
+    }
+}
