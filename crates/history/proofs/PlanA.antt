@@ -15,9 +15,9 @@ use Rattle.plan.specs.Place.{placeOf}
 use Rattle.equation.specs.Solve.{solve}
 use Rattle.verdict.specs.declared.GuestVerdict.the-variants.{Fitted}
 use Rattle.verdict.specs.declared.TaskVerdict.the-variants.{Met}
-use Rattle.verdict.specs.Interference.{jitter, interference}
-use Rattle.verdict.specs.Guest.{guestRight, guestResponse, fitted, fittedTo}
-use Rattle.verdict.specs.Task.{gap, load, periods, taskRight, limit, taskResponse}
+use Rattle.response.specs.Interference.{jitter, interference}
+use Rattle.response.specs.Guest.{guestRight, guestResponse, fitted, fittedTo}
+use Rattle.response.specs.Task.{gap, load, periods, taskRight, limit, taskResponse}
 use Rattle.verdict.specs.Verdict.{hasGuest, hasTask, recordsThen, refusedBy, guestVerdict, taskSays, taskVerdict}
 use Rattle.dispatcher.specs.Release.{release}
 use Rattle.history.specs.Calls.{Call, releasing, start, after, play, ticksIn, answers, Throughout}

@@ -25,9 +25,9 @@ use Rattle.verdict.specs.declared.GuestVerdict.{GuestVerdict}
 use Rattle.verdict.specs.declared.TaskVerdict.{TaskVerdict}
 use Rattle.verdict.specs.declared.GuestVerdict.the-variants.{Fitted}
 use Rattle.verdict.specs.declared.TaskVerdict.the-variants.{Met}
-use Rattle.verdict.specs.Interference.{jitter, interference}
-use Rattle.verdict.specs.Guest.{guestRight, guestResponse, fitted, fittedTo}
-use Rattle.verdict.specs.Task.{gap, load, periods, taskRight, limit, later, taskResponse}
+use Rattle.response.specs.Interference.{jitter, interference}
+use Rattle.response.specs.Guest.{guestRight, guestResponse, fitted, fittedTo}
+use Rattle.response.specs.Task.{gap, load, periods, taskRight, limit, later, taskResponse}
 use Rattle.verdict.specs.Verdict.{hasGuest, hasTask, recordsThen, refusedBy, guestSays, guestVerdict, taskSays, taskVerdict}
 use Rattle.windows.specs.Equation.{loadAfter, systemAt, response}
 use Rattle.lists.proofs.All.{all-at}

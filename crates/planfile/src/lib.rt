@@ -1,4 +1,4 @@
-// A plan's bytes: read into records, and a guest's block found in them.
+// Plan files: read into records, records checked, a guest's block written, and found by the guest's id.
 ghost use mathlib.Core.Path.{_≡_};
 ghost use Prim.Native.Nat.{ℕ, _*_, _≤_};
 ghost use lib.ListN.{length};
@@ -9,6 +9,9 @@ use plan::Refusal;
 
 mod blocks;
 mod search;
+
+pub use block::write;
+pub use plan::check;
 
 // A plan read: the refusal, number 0 for none, and the records, or on a refusal zeros.
 #[repr(C)]

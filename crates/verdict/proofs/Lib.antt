@@ -1,7 +1,3 @@
 -- Laws, each file named after the definition that it is about.
-pub mod Guest
-pub mod Task
-pub mod Columns
-pub mod Ready
 pub mod Verdict
 pub mod Promises

@@ -23,14 +23,14 @@ use Rattle.plan.specs.declared.Refusal.{Refusal}
 use Rattle.verdict.specs.declared.GuestVerdict.{GuestVerdict}
 use Rattle.verdict.specs.declared.TaskVerdict.{TaskVerdict}
 use Rattle.verdict.specs.declared.TaskVerdict.the-variants.{Unjudged}
-use Rattle.verdict.specs.Guest.{guestResponse, fittedTo}
-use Rattle.verdict.specs.Task.{taskResponse}
+use Rattle.response.specs.Guest.{guestResponse, fittedTo}
+use Rattle.response.specs.Task.{taskResponse}
 use Rattle.verdict.specs.Verdict.{hasGuest, hasTask, recordsThen, refusedBy, refuseOr, guestSays, guestVerdict, taskSays, taskVerdict, acceptSays, acceptance}
-use Rattle.verdict.specs.Columns.{taken, guestUnder, fittedAt, taskOf, acceptedUnder}
+use Rattle.response.specs.Columns.{taken, guestUnder, fittedAt, taskOf, acceptedUnder}
 use Rattle.lists.proofs.Refusals.{none-left, go-on, stop}
 use Rattle.plan.proofs.Order.{PlanIn, plan-in}
 use Rattle.plan.proofs.Place.{place-is}
-use Rattle.verdict.proofs.Columns.{columns-take, columns-respond, columns-fit, columns-accept, task-response-is}
+use Rattle.response.proofs.Columns.{columns-take, columns-respond, columns-fit-to, columns-accept, task-response-is}
 use Rattle.verdict.specs.declared.GuestVerdict.the-variants as guest
 use Rattle.verdict.specs.declared.TaskVerdict.the-variants as task
 use Rattle.verdict.specs.declared.Acceptance.the-variants as plan
@@ -143,7 +143,7 @@ module _ (p : Plan) {r : Refusal} (e : r ≡ planRefusal p) (h : r .number ≤ 0
     task-judged number l q =
         let few : k < 8 = omega (arith, in-order .few) in
         q
-        ∙ ap (λ (b : Bool). refusedBy task.Refused (refusal (within 1 (guestAt (p .guests) k .tasks) number orRefuse 8 ∷ [])) 0 (taskSays b (taskOf (taken (c .capacities) (c .periods) k) (guestAt (p .guests) k) (number - 1)))) (columns-fit p c f k few)
+        ∙ ap (λ (b : Bool). refusedBy task.Refused (refusal (within 1 (guestAt (p .guests) k .tasks) number orRefuse 8 ∷ [])) 0 (taskSays b (taskOf (taken (c .capacities) (c .periods) k) (guestAt (p .guests) k) (number - 1)))) (columns-fit-to p c f k few)
         ∙ ap (λ (above : ℕ → ℕ). refusedBy task.Refused (refusal (within 1 (guestAt (p .guests) k .tasks) number orRefuse 8 ∷ [])) 0 (taskSays (fittedTo p k) (taskOf above (guestAt (p .guests) k) (number - 1)))) (columns-take p c f k (omega arith))
         ∙ ap (λ (x : Found). refusedBy task.Refused (refusal (within 1 (guestAt (p .guests) k .tasks) number orRefuse 8 ∷ [])) 0 (taskSays (fittedTo p k) x)) (task-response-is p k (number - 1))
         ∙ ap (λ (j : ℕ). refusedBy task.Refused (refusal (within 1 (guestAt (p .guests) j .tasks) number orRefuse 8 ∷ [])) 0 (taskSays (fittedTo p j) (taskResponse p j (number - 1)))) place-found

@@ -21,8 +21,9 @@ use Rattle.verdict.specs.declared.TaskVerdict.{TaskVerdict}
 use Rattle.verdict.specs.declared.TaskVerdict.the-variants.{Met, Unmet, Unjudged}
 use Rattle.verdict.specs.declared.Acceptance.{Acceptance}
 use Rattle.verdict.specs.declared.Acceptance.the-variants.{Accepted, NotAccepted}
-use Rattle.verdict.specs.Guest.{guestResponse, fitted, fittedTo}
-use Rattle.verdict.specs.Task.{taskResponse}
+use Rattle.response.specs.Guest.{guestResponse, fitted, fittedTo}
+use Rattle.response.specs.Task.{taskResponse}
+use Rattle.response.specs.Met.{accepted}
 use Rattle.verdict.specs.declared.GuestVerdict.the-variants as guest
 use Rattle.verdict.specs.declared.TaskVerdict.the-variants as task
 use Rattle.verdict.specs.declared.Acceptance.the-variants as plan
@@ -69,14 +70,6 @@ unfoldable pub taskVerdict : Plan → ℕ → ℕ → TaskVerdict
 taskVerdict p id number =
     refuseOr task.Refused (recordsThen p (hasGuest p id orRefuse 7 ∷ hasTask p id number orRefuse 8 ∷ []))
     (taskSays (fittedTo p (placeOf p id)) (taskResponse p (placeOf p id) (number - 1)))
-
--- all tasks of the guest at place k are met, where it and all above are fitted
-unfoldable pub allMet : Plan → ℕ → Bool
-allMet p k = allTo (λ i. isAt (taskResponse p k i)) (guestAt (p .guests) k .tasks)
-
--- all guests are fitted and all tasks met
-unfoldable pub accepted : Plan → Bool
-accepted p = allTo (fitted p) (p .count) && allTo (allMet p) (p .count)
 
 -- accepted or not
 unfoldable pub acceptSays : Bool → Acceptance

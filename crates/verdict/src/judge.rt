@@ -7,21 +7,20 @@ ghost use Rattle.lists.specs.All.{allTo};
 ghost use Rattle.lists.specs.Refusals.{refusal, _orRefuse_};
 ghost use Rattle.plan.specs.Records.{guestAt};
 ghost use Rattle.plan.specs.Ranges.{within};
-ghost use Rattle.plan.specs.Charge.{charged};
-ghost use Rattle.plan.specs.Filled.{Filled};
 ghost use Rattle.verdict.specs.Verdict.{refusedBy, guestSays, taskSays};
-ghost use Rattle.verdict.specs.Columns.{taken, fittedAt, metUnder, taskOf, acceptedUnder};
-ghost use Rattle.verdict.specs.Ready.{Ready, Ranged, Runs, Sure};
+ghost use Rattle.response.specs.Columns.{taken, fittedAt, taskOf, acceptedUnder};
+ghost use Rattle.response.specs.Ready.{Sure};
 use crate::GuestVerdict;
 use crate::TaskVerdict;
-use crate::fit::guest_response;
-use crate::fit::response_at;
-use crate::window::task_response;
 use lists::Found;
 use lists::is_at;
 use plan::Guest;
 use plan::Plan;
-use plan::charged_run;
+use response::all_fitted;
+use response::all_met;
+use response::charged_of;
+use response::guest_response;
+use response::task_response;
 
 // The verdict of a guest's response.
 pub fn guest_says(f: Found) -> GuestVerdict
@@ -41,74 +40,6 @@ fn met_or_not(f: Found) -> TaskVerdict
         Found::At(r) => TaskVerdict::Met(r),
         Found::Nothing => TaskVerdict::Unmet,
     }
-}
-
-// Whether the first n guests are fitted.
-pub fn all_fitted(capacities: &[u32; 16], periods: &[u32; 16], n: usize) -> bool
-    requires { ⌜ (n ≤ 16) × Ranged (now capacities) (now periods) n ⌝ }
-    ensures { λ r. ⌜ r ≡ allTo (fittedAt (now (capacities .entry)) (now (periods .entry))) n ⌝ }
-{
-    let mut k: usize = 0;
-    while k < n {
-        if !is_at(response_at(capacities, periods, k)) {
-            return false;
-        }
-        k += 1;
-    }
-    true
-}
-
-// The charged runs of a guest's tasks.
-pub fn charged_of(g: Guest) -> [u32; 16]
-    requires { ⌜ Runs g ⌝ }
-    ensures { λ r. ⌜ Filled r (charged g) (g .tasks) ⌝ }
-{
-    let run = g.run;
-    let n = g.tasks as usize;
-    let charge = g.charge;
-    let mut r = [0u32; 16];
-    let mut i: usize = 0;
-    while i < n {
-        r[i] = charged_run(run[i], charge) as u32;
-        i += 1;
-    }
-    r
-}
-
-// Whether all tasks of a fitted guest are met.
-pub fn all_met(
-    capacities: &[u32; 16],
-    periods: &[u32; 16],
-    k: usize,
-    capacity: u32,
-    period: u32,
-    run: &[u32; 16],
-    every: &[u32; 16],
-    deadline: &[u32; 16],
-    tasks: usize,
-) -> bool
-    requires { ⌜ (k ≤ 16) × (tasks ≤ 16) ⌝ }
-    requires { ⌜ ((i : ℕ) → i < tasks → Ready (taken (now capacities) (now periods) k) capacity period (now run) i) ⌝ }
-    ensures { λ r. ⌜ r ≡ metUnder (taken (now (capacities .entry)) (now (periods .entry)) k) capacity period (now (run .entry)) (now (every .entry)) (now (deadline .entry)) tasks ⌝ }
-{
-    let mut i: usize = 0;
-    while i < tasks {
-        if !is_at(task_response(
-            capacities,
-            periods,
-            k,
-            capacity,
-            period,
-            run,
-            every,
-            i,
-            deadline[i],
-        )) {
-            return false;
-        }
-        i += 1;
-    }
-    true
 }
 
 // The verdict of task i of the guest g at place k.

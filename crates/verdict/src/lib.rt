@@ -5,17 +5,9 @@ use plan::Plan;
 use plan::check;
 use plan::columns_of;
 use plan::place_of;
+use response::response_at;
 
-mod fit;
 mod judge;
-mod window;
-
-pub use fit::guest_response;
-pub use fit::response_at;
-pub use judge::all_fitted;
-pub use judge::all_met;
-pub use judge::charged_of;
-pub use window::task_response;
 
 // Fitted with its response.
 pub enum GuestVerdict {

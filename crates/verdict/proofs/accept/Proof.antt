@@ -1,7 +1,7 @@
 -- `verdict::accept` meets its promise: the records' refusal, else one pass over the guests off the columns. Assumes nothing.
 use borrow.Author.Needs.{needs}
 use Rattle.verdict.specs.Verdict.{acceptSays}
-use Rattle.verdict.proofs.Ready.{sure-at}
+use Rattle.response.proofs.Ready.{sure-at}
 use Rattle.verdict.proofs.Verdict.{in-order, plan-accepted, plan-refuses}
 use Rattle.verdict.proofs.accept.Statement.{statement}
 use Rattle.verdict.proofs.accept.Tie as tie

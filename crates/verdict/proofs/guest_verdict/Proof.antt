@@ -3,7 +3,7 @@ use native.Mathlib.Omega.{arith}
 use borrow.Author.Needs.{needs}
 use Rattle.verdict.specs.Verdict.{guestVerdict}
 use Rattle.verdict.specs.declared.GuestVerdict.the-variants.{Refused}
-use Rattle.verdict.proofs.Ready.{sure-at}
+use Rattle.response.proofs.Ready.{sure-at}
 use Rattle.verdict.proofs.Verdict.{records-refuse, in-order, guest-missing, guest-judged}
 use Rattle.verdict.proofs.guest_verdict.Statement.{statement}
 use Rattle.verdict.proofs.guest_verdict.Tie as tie

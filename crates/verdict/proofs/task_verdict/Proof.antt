@@ -3,7 +3,7 @@ use native.Mathlib.Omega.{arith}
 use borrow.Author.Needs.{needs}
 use Rattle.verdict.specs.Verdict.{taskVerdict}
 use Rattle.verdict.specs.declared.TaskVerdict.the-variants.{Refused}
-use Rattle.verdict.proofs.Ready.{sure-at}
+use Rattle.response.proofs.Ready.{sure-at}
 use Rattle.verdict.proofs.Verdict.{records-refuse, in-order, guest-missing, task-judged}
 use Rattle.verdict.proofs.task_verdict.Statement.{statement}
 use Rattle.verdict.proofs.task_verdict.Tie as tie

@@ -7,7 +7,7 @@ use borrow.Author.Needs.{needs}
 use borrow.Author.Tests.{not-true, not-false}
 use Rattle.lists.specs.All.{allTo}
 use Rattle.plan.specs.Records.{guestAt}
-use Rattle.verdict.specs.Columns.{taken, acceptedUnder}
+use Rattle.response.specs.Columns.{taken, acceptedUnder}
 use Rattle.lists.proofs.All.{all-none, all-next, all-fails, all-done}
 use Rattle.verdict.proofs.judge.all_accepted.Statement.{statement}
 use Rattle.verdict.proofs.judge.all_accepted.Tie as tie

@@ -3,9 +3,9 @@ use mathlib.Core.Path.{_∙_}
 use native.Mathlib.Omega.{arith}
 use borrow.Author.Needs.{needs}
 use borrow.Author.Tests.{not-true, not-false}
-use Rattle.verdict.specs.Columns.{taken}
-use Rattle.verdict.proofs.Columns.{test-is}
-use Rattle.verdict.proofs.Ready.{sure-ranged, sure-ready, met-is, accepted-unfit, accepted-fit}
+use Rattle.response.specs.Columns.{taken}
+use Rattle.response.proofs.Columns.{test-is}
+use Rattle.response.proofs.Ready.{sure-ranged, sure-ready, met-is, accepted-unfit, accepted-fit}
 use Rattle.verdict.proofs.judge.guest_accepted.Statement.{statement}
 use Rattle.verdict.proofs.judge.guest_accepted.Tie as tie
 

@@ -3,9 +3,9 @@ use mathlib.Core.Path.{sym, _∙_}
 use native.Mathlib.Omega.{arith}
 use borrow.Author.Needs.{needs}
 use borrow.Author.Tests.{not-true, not-false}
-use Rattle.verdict.specs.Columns.{taken}
-use Rattle.verdict.proofs.Columns.{task-is}
-use Rattle.verdict.proofs.Ready.{sure-fits, sure-ready}
+use Rattle.response.specs.Columns.{taken}
+use Rattle.response.proofs.Columns.{task-is}
+use Rattle.response.proofs.Ready.{sure-fits, sure-ready}
 use Rattle.verdict.proofs.Verdict.{says-unjudged, says-judged}
 use Rattle.verdict.proofs.judge.judge_task.Statement.{statement}
 use Rattle.verdict.proofs.judge.judge_task.Tie as tie

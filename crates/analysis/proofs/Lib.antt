@@ -1,0 +1,6 @@
+-- The theorems' proofs, each file named after its statements.
+pub mod Guests
+pub mod Tasks
+pub mod Capacities
+pub mod Worked
+pub mod Instances

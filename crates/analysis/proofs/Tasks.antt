@@ -1,0 +1,173 @@
+-- A task's verdict has its meaning and is the only one that has it, and so has the acceptance of a plan. Assumes nothing.
+use mathlib.Core.Path.{_≡_, refl, sym, _∙_, ap}
+use mathlib.Core.Bool.{Bool, true, false, false≢true}
+use mathlib.Core.List.{[], _∷_}
+use Prim.Native.Nat.{ℕ, suc, _-_, _≤_, _<_}
+use native.Mathlib.Omega.{arith}
+use Rattle.lists.specs.All.{allTo}
+use Rattle.lists.specs.Refusals.{_orRefuse_}
+use Rattle.lists.specs.Search.{isAt}
+use Rattle.lists.specs.declared.Found.{Found}
+use Rattle.lists.specs.declared.Found.the-variants.{At, Nothing}
+use Rattle.equation.specs.Solve.{solve}
+use Rattle.plan.specs.Order.{planRefusal}
+use Rattle.plan.specs.Place.{placeOf}
+use Rattle.plan.specs.Ranges.{within}
+use Rattle.plan.specs.Records.{guestAt, deadlineOf}
+use Rattle.plan.specs.declared.Plan.{Plan}
+use Rattle.response.specs.Guest.{fitted, fittedTo}
+use Rattle.response.specs.Task.{gap, taskRight, limit, later, taskResponse}
+use Rattle.response.specs.Met.{allMet, accepted}
+use Rattle.verdict.specs.Verdict.{hasGuest, hasTask, refusedBy, taskSays, taskVerdict, acceptSays, acceptance}
+use Rattle.verdict.specs.declared.Acceptance.{Acceptance}
+use Rattle.verdict.specs.declared.Acceptance.the-variants.{Accepted, NotAccepted}
+use Rattle.verdict.specs.declared.TaskVerdict.{TaskVerdict}
+use Rattle.verdict.specs.declared.TaskVerdict.the-variants.{Met, Unmet, Unjudged}
+use Rattle.analysis.specs.Guests.{There, AllFit}
+use Rattle.analysis.specs.Tasks.{Solves, InTime, TaskMet, TaskUnmet, TaskUnjudged, TaskMeans, AllInTime, AllGood, AcceptMeans}
+use Rattle.lists.proofs.All.{all-at, all-by, and-left, and-right, and-true}
+use Rattle.lists.proofs.Search.{is-at}
+use Rattle.equation.proofs.Solve.{Answers, solve-answers, solve-by}
+use Rattle.verdict.proofs.Verdict.{records-pass, test-passes, no-test, within-right}
+use Rattle.analysis.proofs.Guests.{there-place, there-has, fits-fitted, fitted-all, all-false}
+use Rattle.verdict.specs.declared.Acceptance.the-variants as plan
+use Rattle.verdict.specs.declared.TaskVerdict.the-variants as task
+
+-- the verdict of task number i + 1 is that of task i's response
+pub task-verdict-is : (p : Plan) (id k i : ℕ) → There p id k → i < guestAt (p .guests) k .tasks → taskVerdict p id (suc i) ≡ taskSays (fittedTo p k) (taskResponse p k i)
+unfolding taskVerdict hasTask
+task-verdict-is p id k i t h =
+    let place = there-place p id k t in
+    let has : within 1 (guestAt (p .guests) (placeOf p id) .tasks) (suc i) ≡ true = rw place (within-right (guestAt (p .guests) k .tasks) (suc i) (omega arith) (omega arith)) in
+    let number : suc i - 1 ≡ i = omega arith in
+    sym (no-test task.Refused _ ∙ test-passes task.Refused 8 [] _ has ∙ test-passes task.Refused 7 (hasTask p id (suc i) orRefuse 8 ∷ []) _ (there-has p id k t)
+    ∙ records-pass task.Refused p (hasGuest p id orRefuse 7 ∷ hasTask p id (suc i) orRefuse 8 ∷ []) _ (t .order))
+    ∙ rw (place, number) refl
+
+-- a response under fitted guests means the least solution in time, none that there is no solution in time
+response-means : (p : Plan) (k i : ℕ) → AllFit p k → (f : Found)
+    → Answers (taskRight p k i) (limit (guestAt (p .guests) k) i - gap (guestAt (p .guests) k) i) f
+    → TaskMeans p k i (taskSays true (later (gap (guestAt (p .guests) k) i) f))
+unfolding taskSays limit
+response-means p k i all Nothing a = record { fitted = all; none = λ w s h. a w (s .low) (omega arith) (s .solves) }
+response-means p k i all (At w) a = record {
+  fitted = all;
+  w = w;
+  solves = record { low = a .low; solves = a .sol };
+  least = λ z l s. (let h : w ≤ z = a .under z (s .low) (s .solves) in omega arith);
+  response = refl;
+  in-time = omega (arith, a .low, a .high);
+}
+
+-- under an unfit guest the verdict means that
+unjudged-means : (p : Plan) (k i : ℕ) (f : Found) → fittedTo p k ≡ false → TaskMeans p k i (taskSays false f)
+unfolding taskSays fittedTo
+unjudged-means p k i f e =
+    let x = all-false (fitted p) (suc k) e in
+    record { j = x .0; above = omega (arith, x .1); unfit = λ y s. false≢true (sym (x .2) ∙ fits-fitted p (x .0) y s) }
+
+-- the verdict has its meaning
+pub task-verdict-means : (p : Plan) (id k i : ℕ) → There p id k → i < guestAt (p .guests) k .tasks → TaskMeans p k i (taskVerdict p id (suc i))
+unfolding taskResponse
+task-verdict-means p id k i t h = rw (task-verdict-is p id k i t h) (go (fittedTo p k) refl)
+  where
+    go : (b : Bool) → fittedTo p k ≡ b → TaskMeans p k i (taskSays b (taskResponse p k i))
+    go false e = unjudged-means p k i (taskResponse p k i) e
+    go true e = response-means p k i (fitted-all p k e) (solve (taskRight p k i) (limit (guestAt (p .guests) k) i - gap (guestAt (p .guests) k) i)) (solve-answers (taskRight p k i) (limit (guestAt (p .guests) k) i - gap (guestAt (p .guests) k) i))
+
+-- two responses by least solutions are one
+met-one : (p : Plan) (k i r s : ℕ) → TaskMet p k i r → TaskMet p k i s → r ≡ s
+met-one p k i r s a b =
+    let h : ¬ (a .w < b .w) = λ l. b .least (a .w) l (a .solves) in
+    let g : ¬ (b .w < a .w) = λ l. a .least (b .w) l (b .solves) in
+    omega (arith, a .response, b .response)
+
+-- met and unmet exclude each other
+met-unmet : (p : Plan) (k i r : ℕ) → TaskMet p k i r → TaskUnmet p k i → ⊥
+met-unmet p k i r a b = b .none (a .w) (a .solves) (omega (arith, a .response, a .in-time))
+
+-- so do judged and unjudged
+judged-unjudged : (p : Plan) (k : ℕ) → AllFit p k → TaskUnjudged p k → ⊥
+judged-unjudged p k all b = let x = all (b .j) (b .above) in b .unfit (x .0) (x .1)
+
+-- two verdicts that mean the same are one
+task-means-one : (p : Plan) (k i : ℕ) (v u : TaskVerdict) → TaskMeans p k i v → TaskMeans p k i u → v ≡ u
+task-means-one p k i (task.Refused n m) u a b = absurd a
+task-means-one p k i (Met r) (task.Refused n m) a b = absurd b
+task-means-one p k i (Met r) (Met s) a b = ap Met (met-one p k i r s a b)
+task-means-one p k i (Met r) Unmet a b = absurd (met-unmet p k i r a b)
+task-means-one p k i (Met r) Unjudged a b = absurd (judged-unjudged p k (a .fitted) b)
+task-means-one p k i Unmet (task.Refused n m) a b = absurd b
+task-means-one p k i Unmet (Met s) a b = absurd (met-unmet p k i s b a)
+task-means-one p k i Unmet Unmet a b = refl
+task-means-one p k i Unmet Unjudged a b = absurd (judged-unjudged p k (a .fitted) b)
+task-means-one p k i Unjudged (task.Refused n m) a b = absurd b
+task-means-one p k i Unjudged (Met s) a b = absurd (judged-unjudged p k (b .fitted) a)
+task-means-one p k i Unjudged Unmet a b = absurd (judged-unjudged p k (b .fitted) a)
+task-means-one p k i Unjudged Unjudged a b = refl
+
+-- no other verdict has it
+pub task-verdict-only : (p : Plan) (id k i : ℕ) → There p id k → i < guestAt (p .guests) k .tasks → (v : TaskVerdict) → TaskMeans p k i v → v ≡ taskVerdict p id (suc i)
+task-verdict-only p id k i t h v a = task-means-one p k i v (taskVerdict p id (suc i)) a (task-verdict-means p id k i t h)
+
+-- the test of a guest's tasks, as solutions
+pub met-in-time : (p : Plan) (k : ℕ) → allMet p k ≡ true → AllInTime p k
+unfolding allMet
+met-in-time p k e i h = go (solve (taskRight p k i) room) refl (solve-answers (taskRight p k i) room) (all-at (λ j. isAt (taskResponse p k j)) (guestAt (p .guests) k .tasks) i h e)
+  where
+    room : ℕ
+    room = limit (guestAt (p .guests) k) i - gap (guestAt (p .guests) k) i
+
+    go : (f : Found) → solve (taskRight p k i) room ≡ f → Answers (taskRight p k i) room f → isAt (taskResponse p k i) ≡ true → (w : ℕ) × Solves p k i w × InTime p k i w
+    go Nothing q a m = unfold taskResponse in absurd (false≢true (sym (ap (λ (f : Found). isAt (later (gap (guestAt (p .guests) k) i) f)) q) ∙ m))
+    go (At w) q a m = unfold limit in (w, record { low = a .low; solves = a .sol }, omega (arith, a .low, a .high))
+
+-- solutions, as the test
+pub in-time-met : (p : Plan) (k : ℕ) → AllInTime p k → allMet p k ≡ true
+unfolding allMet taskResponse limit
+in-time-met p k a = all-by (λ i. isAt (taskResponse p k i)) (guestAt (p .guests) k .tasks) (λ i h. (
+    let s = a i h in
+    let g = guestAt (p .guests) k in
+    let f = solve-by (taskRight p k i) (deadlineOf g i - gap g i) (s .0) (s .1 .low) (omega (arith, s .2)) (s .1 .solves) in
+    is-at (ap (later (gap g i)) (f .1))))
+
+-- the plan's test has its meaning
+pub accepted-good : (p : Plan) → accepted p ≡ true → AllGood p
+unfolding accepted fittedTo
+accepted-good p e =
+    let fits = and-left (allTo (fitted p) (p .count)) _ e in
+    let met = and-right (allTo (fitted p) (p .count)) _ e in
+    record {
+      fitted = λ k h. fitted-all p k (all-by (fitted p) (suc k) (λ j l. all-at (fitted p) (p .count) j (omega arith) fits));
+      met = λ k h. met-in-time p k (all-at (allMet p) (p .count) k h met);
+    }
+
+-- and the other way round
+pub good-accepted : (p : Plan) → AllGood p → accepted p ≡ true
+unfolding accepted
+good-accepted p g =
+    and-true
+    (all-by (fitted p) (p .count) (λ k h. (let x = g .fitted k h k (omega arith) in fits-fitted p k (x .0) (x .1))))
+    (all-by (allMet p) (p .count) (λ k h. in-time-met p k (g .met k h)))
+
+-- the acceptance has its meaning
+pub acceptance-means : (p : Plan) → planRefusal p .number ≡ 0 → AcceptMeans p (acceptance p)
+unfolding acceptance refusedBy
+acceptance-means p ok = rw ok (go (accepted p) refl)
+  where
+    go : (b : Bool) → accepted p ≡ b → AcceptMeans p (acceptSays b)
+    go true e = unfold acceptSays in accepted-good p e
+    go false e = unfold acceptSays in λ g. false≢true (sym e ∙ good-accepted p g)
+
+-- and no other has it
+pub acceptance-only : (p : Plan) → planRefusal p .number ≡ 0 → (v : Acceptance) → AcceptMeans p v → v ≡ acceptance p
+acceptance-only p ok v a = go v (acceptance p) a (acceptance-means p ok)
+  where
+    go : (v u : Acceptance) → AcceptMeans p v → AcceptMeans p u → v ≡ u
+    go (plan.Refused n m) u a b = absurd a
+    go Accepted (plan.Refused n m) a b = absurd b
+    go Accepted Accepted a b = refl
+    go Accepted NotAccepted a b = absurd (b a)
+    go NotAccepted (plan.Refused n m) a b = absurd b
+    go NotAccepted Accepted a b = absurd (a b)
+    go NotAccepted NotAccepted a b = refl

@@ -1,0 +1,4 @@
+pub mod Guests
+pub mod Tasks
+pub mod Capacities
+pub mod Worked

@@ -1,0 +1,129 @@
+-- The plan with another capacity is the plan itself above its place; so capacities are fitted downward and met upward in every plan that passes the check. Assumes nothing.
+use mathlib.Core.Path.{_≡_, refl, sym, _∙_, ap, fun-ext}
+use mathlib.Core.Bool.{Bool, true, false, _&&_}
+use Prim.Native.Nat.{ℕ, _≤_, _<_}
+use native.Mathlib.Decide.{decLt}
+use native.Mathlib.Omega.{arith}
+use lib.ListN.{length, List·getD-eq-default}
+use lib.Seq.{getD-set-same, getD-set-other}
+use Rattle.lists.specs.All.{allTo}
+use Rattle.lists.specs.Search.{least, isAt}
+use Rattle.lists.specs.Table.{table}
+use Rattle.lists.specs.declared.Found.the-variants.{At}
+use Rattle.plan.specs.Charge.{chargedRun, charged}
+use Rattle.plan.specs.Filled.{Filled, ColumnsOf}
+use Rattle.plan.specs.Order.{planRefusal}
+use Rattle.plan.specs.Records.{absent, guestAt, deadlineOf}
+use Rattle.plan.specs.declared.Columns.{Columns}
+use Rattle.plan.specs.declared.Guest.{Guest}
+use Rattle.plan.specs.declared.Plan.{Plan}
+use Rattle.response.specs.Interference.{interference}
+use Rattle.response.specs.Guest.{guestResponse, fitted, fittedTo}
+use Rattle.response.specs.Task.{taskResponse}
+use Rattle.response.specs.Met.{allMet}
+use Rattle.response.specs.Columns.{taken, guestUnder, fittedAt, taskUnder, taskOf, acceptedUnder}
+use Rattle.capacity.specs.Capacity.{atCapacity, withCapacity, works, smallest}
+use Rattle.capacity.specs.Trial.{fitsAt}
+use Rattle.lists.proofs.All.{all-ext}
+use Rattle.lists.proofs.Sum.{sum-same}
+use Rattle.lists.proofs.Table.{table-length, table-at}
+use Rattle.plan.proofs.Order.{PlanIn, plan-in}
+use Rattle.response.proofs.Columns.{interference-grows, guest-response-is, task-response-is, task-is, accepted-is, columns-take, columns-fit}
+use Rattle.capacity.proofs.Trial.{fits-down, met-up}
+
+-- a place that holds a guest in its ranges is a place of the list: no other has an id
+pub in-list : (p : Plan) → PlanIn p → (k : ℕ) → k < p .count → k < length (p .guests)
+in-list p o k h =
+    elim (decLt k (length (p .guests))) [
+      | yes l ↦ l
+      | no n ↦
+          let e : guestAt (p .guests) k .id ≡ 0 = ap (λ (g : Guest). g .id) (List·getD-eq-default (p .guests) absent {n = k} (omega arith)) in
+          absurd (omega (arith, o .guests k h .head .named))
+    ]
+
+-- both of three
+and-assoc : (a b c : Bool) → ((a && b) && c) ≡ (a && (b && c))
+and-assoc true b c = refl
+and-assoc false b c = refl
+
+module _ (p : Plan) (k : ℕ) (here : k < length (p .guests)) (c : ℕ) where
+  -- the guest at the place has the capacity
+  pub guest-there : guestAt (withCapacity p k c .guests) k ≡ atCapacity (guestAt (p .guests) k) c
+  unfolding withCapacity
+  guest-there = getD-set-same (p .guests) k (atCapacity (guestAt (p .guests) k) c) absent here
+
+  -- those above are as they were
+  guest-above : (j : ℕ) → j < k → guestAt (withCapacity p k c .guests) j ≡ guestAt (p .guests) j
+  unfolding withCapacity
+  guest-above j l = getD-set-other (p .guests) k j (atCapacity (guestAt (p .guests) k) c) absent (λ e. omega arith)
+
+  -- they take what they took
+  pub same-above : (j : ℕ) → j ≤ k → interference (withCapacity p k c) j ≡ interference p j
+  unfolding interference
+  same-above j l = fun-ext (λ v. sum-same _ _ j (λ i m. rw (guest-above i (omega arith)) refl))
+
+  -- and are fitted where they were
+  fitted-above : (j : ℕ) → j < k → fitted (withCapacity p k c) j ≡ fitted p j
+  unfolding fitted
+  fitted-above j l =
+      let e : guestResponse (withCapacity p k c) j ≡ guestResponse p j =
+      sym (guest-response-is (withCapacity p k c) j) ∙ rw (same-above j (omega arith), guest-above j l) (guest-response-is p j) in
+      ap isAt e
+
+  -- the guest is fitted by its equation at the capacity
+  pub fitted-there : fitted (withCapacity p k c) k ≡ fitsAt (interference p k) (guestAt (p .guests) k .period) c
+  unfolding fitted fitsAt
+  fitted-there =
+      let e : guestResponse (withCapacity p k c) k ≡ guestUnder (interference p k) c (guestAt (p .guests) k .period) =
+      sym (guest-response-is (withCapacity p k c) k) ∙ rw (same-above k (omega arith), guest-there) refl in
+      ap isAt e
+
+  -- its tasks respond by theirs
+  pub task-there : (i : ℕ) → taskResponse (withCapacity p k c) k i ≡ taskOf (interference p k) (atCapacity (guestAt (p .guests) k) c) i
+  task-there i = sym (task-response-is (withCapacity p k c) k i) ∙ rw (same-above k (omega arith), guest-there) refl
+
+  -- it works where those above are fitted and the guest with it is accepted
+  pub works-split : works p k c ≡ (allTo (fitted p) k && acceptedUnder (interference p k) (atCapacity (guestAt (p .guests) k) c))
+  unfolding works fittedTo allTo
+  works-split =
+      and-assoc (allTo (fitted (withCapacity p k c)) k) (fitted (withCapacity p k c) k) (allMet (withCapacity p k c) k)
+      ∙ ap (λ (b : Bool). b && (fitted (withCapacity p k c) k && allMet (withCapacity p k c) k)) (all-ext _ _ k fitted-above)
+      ∙ ap (λ (b : Bool). allTo (fitted p) k && b) (sym (accepted-is (withCapacity p k c) k) ∙ rw (same-above k (omega arith), guest-there) refl)
+
+-- the search off columns is the definition's
+pub smallest-is : (p : Plan) → PlanIn p → (c : Columns) → ColumnsOf (p .guests) c → (k : ℕ) → k < p .count
+    → least (λ x. allTo (fittedAt (c .capacities) (c .periods)) k && acceptedUnder (taken (c .capacities) (c .periods) k) (atCapacity (guestAt (p .guests) k) x)) (guestAt (p .guests) k .period) 1
+    ≡ smallest p k
+unfolding smallest
+smallest-is p o c f k h =
+    let few : k ≤ 8 = omega (arith, o .few) in
+    rw (columns-fit p c f k few, columns-take p c f k few)
+    (ap (λ (t : ℕ → Bool). least t (guestAt (p .guests) k .period) 1) (fun-ext (λ x. sym (works-split p k (in-list p o k h) x))))
+
+-- the theorem, for every plan that passes the check and each of its guests
+module _ (p : Plan) (ok : planRefusal p .number ≡ 0) (k : ℕ) (h : k < p .count) where
+  here : k < length (p .guests)
+  here = in-list p (plan-in p ok) k h
+
+  -- fitted at a capacity, so fitted at each smaller one
+  pub fitted-down : (c c′ : ℕ) → 1 ≤ c → c ≤ c′ → fitted (withCapacity p k c′) k ≡ true → fitted (withCapacity p k c) k ≡ true
+  fitted-down c c′ pos le e =
+      fitted-there p k here c
+      ∙ fits-down (interference p k) (interference-grows p k) (guestAt (p .guests) k .period) c c′ pos le (sym (fitted-there p k here c′) ∙ e)
+
+  -- met at a capacity, so met at each larger one that is fitted, with no larger response
+  pub met-below : (i : ℕ) → i < guestAt (p .guests) k .tasks → (c c′ r : ℕ) → 1 ≤ c → c ≤ c′ → fitted (withCapacity p k c′) k ≡ true
+      → taskResponse (withCapacity p k c) k i ≡ At r → (r′ : ℕ) × (taskResponse (withCapacity p k c′) k i ≡ At r′) × (r′ ≤ r)
+  unfolding chargedRun
+  met-below i l c c′ r pos le fit e =
+      let g = guestAt (p .guests) k in
+      let above = interference p k in
+      let run = table (charged g) 16 in
+      let o = plan-in p ok .guests k h in
+      let filled : Filled run (charged g) 16 = record { long = table-length (charged g) 16; holds = λ j m. table-at (charged g) 0 16 j m } in
+      let few : i < 16 = omega (arith, o .head .few) in
+      let column : (x : ℕ) → taskUnder above x (g .period) run (g .every) i (deadlineOf g i) ≡ taskResponse (withCapacity p k x) k i =
+      λ x. task-is above (atCapacity g x) run 16 i few record { long = filled .long; holds = filled .holds } ∙ sym (task-there p k here x i) in
+      let m = met-up above (interference-grows p k) (g .period) run (g .every) i (omega (arith, filled .holds i few, o .tasks i l .runs)) c c′ (deadlineOf g i) r pos le
+      (sym (fitted-there p k here c′) ∙ fit) (column c ∙ e) in
+      (m .0, sym (column c′) ∙ m .1, m .2)

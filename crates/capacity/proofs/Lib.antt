@@ -1,0 +1,5 @@
+-- Laws, each file named after the definition that it is about.
+pub mod Trial
+pub mod Capacity
+pub mod Answer
+pub mod Promises

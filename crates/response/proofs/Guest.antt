@@ -1,0 +1,72 @@
+-- The guest's recurrence x := C + above x climbs from C to the least solution, since its right side grows. Assumes nothing.
+use mathlib.Core.Path.{_≡_}
+use mathlib.Core.List.{List}
+use Prim.Native.Nat.{ℕ, _+_, _≤_, _<_}
+use native.Mathlib.Omega.{arith}
+use Rattle.lists.specs.declared.Found.the-variants.{At, Nothing}
+use Rattle.lists.specs.Places.{nth}
+use Rattle.rounding.specs.Asked.{asked, cut}
+use Rattle.response.specs.Columns.{taken, guestUnder}
+use Rattle.rounding.proofs.Asked.{asked-mono}
+use Rattle.equation.proofs.Solve.{solve-at, solve-none, Solved, solve-answers}
+use Rattle.equation.proofs.Rise.{Grows, Rising, rise-turn, rise-under}
+
+-- what the guests above take grows with the window
+pub taken-grows : (capacities periods : List ℕ) (n : ℕ) → Grows (taken capacities periods n)
+unfolding taken
+taken-grows capacities periods n a b h = asked-mono (nth capacities) (nth periods) n h
+
+-- the code's sum is what they take, cut off
+pub taken-by : (capacities periods : List ℕ) (n v : ℕ) {r : ℕ} → r ≡ cut (asked (nth capacities) (nth periods) n v) → r ≡ cut (taken capacities periods n v)
+unfolding taken
+taken-by capacities periods n v e = e
+
+-- the loop's invariant, with the facts that every turn uses
+pub record GuestInv (above : ℕ → ℕ) (capacity period x : ℕ) : Type 0 where
+  pub grows : Grows above
+  pub some : 1 ≤ capacity
+  pub small : period < 4294967296
+  pub low : capacity ≤ x
+  pub high : x ≤ period
+  pub rising : Rising (λ v. capacity + above v) x
+
+-- it starts at C
+pub guest-start : {above : ℕ → ℕ} {capacity period : ℕ} → Grows above → 1 ≤ capacity → capacity ≤ period → period < 4294967296
+    → GuestInv above capacity period capacity
+guest-start g pos h small = record {
+  grows = g;
+  some = pos;
+  small = small;
+  low = omega arith;
+  high = h;
+  rising = record { rises = omega arith; under = λ z k. omega arith };
+}
+
+-- y is the right side, with what the guests above take cut off
+module _ {above : ℕ → ℕ} {capacity period x y : ℕ} (i : GuestInv above capacity period x) (e : y ≡ capacity + cut (above x)) where
+  -- the real right side climbs on
+  turned : Rising (λ v. capacity + above v) (capacity + above x)
+  turned = rise-turn (λ v. capacity + above v) (λ a b h. omega (arith, i .grows a b h)) x (i .rising)
+
+  -- a turn
+  pub guest-turn : y ≤ period → GuestInv above capacity period y
+  guest-turn h =
+      let q : y ≡ capacity + above x = omega arith in
+      record { grows = i .grows; some = i .some; small = i .small; low = omega arith; high = h; rising = rw q turned }
+
+  -- the end at a solution
+  pub guest-found : y ≤ x → At x ≡ guestUnder above capacity period
+  unfolding guestUnder
+  guest-found h =
+      solve-at (λ v. capacity + above v) period x (omega arith) (i .high) (omega (arith, i .rising .rises))
+      (rise-under (λ v. capacity + above v) x (i .rising))
+
+  -- the end past the period
+  pub guest-none : period < y → Nothing ≡ guestUnder above capacity period
+  unfolding guestUnder
+  guest-none h = solve-none (λ v. capacity + above v) period (capacity + above x) (omega arith) (rise-under (λ v. capacity + above v) (capacity + above x) turned)
+
+-- what the response of a fitted guest says
+pub response-says : (above : ℕ → ℕ) (capacity period x : ℕ) → guestUnder above capacity period ≡ At x → Solved (λ v. capacity + above v) period x
+unfolding guestUnder
+response-says above capacity period x e = rw e at (solve-answers (λ v. capacity + above v) period)

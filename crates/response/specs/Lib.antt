@@ -1,0 +1,6 @@
+pub mod Interference
+pub mod Guest
+pub mod Task
+pub mod Met
+pub mod Columns
+pub mod Ready

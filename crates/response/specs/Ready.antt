@@ -1,0 +1,36 @@
+-- What the inner functions ask of records that passed the check.
+use mathlib.Core.Path.{_≡_}
+use mathlib.Core.Bool.{true}
+use mathlib.Core.List.{List}
+use Prim.Native.Nat.{ℕ, _+_, _≤_, _<_}
+use Rattle.lists.specs.Places.{nth}
+use Rattle.lists.specs.Search.{isAt}
+use Rattle.plan.specs.Records.{runOf}
+use Rattle.plan.specs.Ranges.{mostGuests, mostTasks, longest}
+use Rattle.plan.specs.declared.Guest.{Guest}
+use Rattle.response.specs.Columns.{guestUnder}
+
+-- the recurrence of a task: a capacity from 1 to the period that is fitted, and a task with a run
+pub record Ready (above : ℕ → ℕ) (capacity period : ℕ) (run : List ℕ) (i : ℕ) : Type 0 where
+  pub some : 1 ≤ capacity
+  pub within : capacity ≤ period
+  pub fits : isAt (guestUnder above capacity period) ≡ true
+  pub runs : 1 ≤ nth run i
+
+-- capacities from 1 to the periods
+abbrev pub Ranged : (capacities periods : List ℕ) → ℕ → Type 0
+Ranged capacities periods n = (k : ℕ) → k < n → (1 ≤ nth capacities k) × (nth capacities k ≤ nth periods k)
+
+-- at most 16 tasks, each with a run in its range
+pub record RunsIn (g : Guest) : Type 0 where
+  pub few : g .tasks ≤ mostTasks
+  pub some : (i : ℕ) → i < g .tasks → 1 ≤ runOf g i
+  pub short : (i : ℕ) → i < g .tasks → runOf g i ≤ longest
+
+-- columns of capacities and periods in their ranges, whose guest at place k is g
+pub record Sure (g : Guest) (capacities periods : List ℕ) (k : ℕ) : Type 0 where
+  pub place : k < mostGuests
+  pub ranged : Ranged capacities periods (k + 1)
+  pub capacity : nth capacities k ≡ g .capacity
+  pub period : nth periods k ≡ g .period
+  pub runs : RunsIn g

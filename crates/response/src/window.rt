@@ -1,0 +1,120 @@
+// The response of a task, off lent columns.
+ghost use mathlib.Core.Path.{_≡_};
+ghost use Prim.Native.Nat.{ℕ, _+_, _-_, _*_, _≤_, _<_};
+ghost use Rattle.lists.specs.Places.{nth};
+ghost use Rattle.rounding.specs.Up.{up};
+ghost use Rattle.rounding.specs.Asked.{cut};
+ghost use Rattle.equation.specs.System.{rightAt, right};
+ghost use Rattle.response.specs.Columns.{taken, guestUnder, loadIn, equationOf, taskUnder};
+ghost use Rattle.response.specs.Ready.{Ready};
+use lists::Found;
+use rounding::asked_of;
+use rounding::capped;
+use rounding::quotient;
+use rounding::wide;
+
+// The load of task i within v ticks, cut off.
+fn load_in(run: &[u32; 16], every: &[u32; 16], i: usize, v: u32) -> u64
+    requires { ⌜ i < 16 ⌝ }
+    ensures { λ r. ⌜ r ≡ cut (loadIn (now (run .entry)) (now (every .entry)) i v) ⌝ }
+{
+    capped(wide(run[i]) + asked_of(run, every, i, v))
+}
+
+// The server periods before the last one.
+fn whole_of(load: u32, capacity: u32) -> u64
+    requires { ⌜ (1 ≤ load) × (1 ≤ capacity) ⌝ }
+    ensures { λ r. ⌜ (r ≡ up load capacity - 1) × (r ≤ 4294967294) ⌝ }
+{
+    quotient(load, capacity) - 1
+}
+
+// m times t, with room for two sums.
+fn times(m: u64, t: u32) -> u64
+    requires { ⌜ m ≤ 4294967294 ⌝ }
+    ensures { λ r. ⌜ (r ≡ m * t) × (r ≤ 18446744060824649730) ⌝ }
+{
+    m * wide(t)
+}
+
+// What of w lies past p: 0 where w ends before.
+fn rest_of(w: u32, p: u64) -> u32
+    ensures { λ r. ⌜ r ≡ w - p ⌝ }
+{
+    if p < wide(w) { w - p as u32 } else { 0 }
+}
+
+// The right side of a task's equation at a load, cut off.
+fn right_at(
+    capacities: &[u32; 16],
+    periods: &[u32; 16],
+    n: usize,
+    capacity: u32,
+    period: u32,
+    load: u32,
+    w: u32,
+) -> u64
+    requires { ⌜ (n ≤ 16) × ((1 ≤ capacity) × ((capacity ≤ period) × (1 ≤ load))) ⌝ }
+    ensures { λ r. ⌜ r ≡ cut (rightAt (taken (now (capacities .entry)) (now (periods .entry)) n) capacity period load w) ⌝ }
+{
+    let m = whole_of(load, capacity);
+    let v = rest_of(w, times(m, period));
+    capped(wide(load) + times(m, period - capacity) + asked_of(capacities, periods, n, v))
+}
+
+// The right side of task i's equation at a window w, cut off: a load past the cut decides alone, so that no product is too large.
+fn right_of(
+    capacities: &[u32; 16],
+    periods: &[u32; 16],
+    n: usize,
+    capacity: u32,
+    period: u32,
+    run: &[u32; 16],
+    every: &[u32; 16],
+    i: usize,
+    w: u32,
+) -> u64
+    requires { ⌜ ((n ≤ 16) × (i < 16)) × ((1 ≤ capacity) × ((capacity ≤ period) × (1 ≤ nth (now run) i))) ⌝ }
+    requires { ⌜ w + (period - capacity) < 4294967296 ⌝ }
+    ensures { λ r. ⌜ r ≡ cut (right (equationOf (taken (now (capacities .entry)) (now (periods .entry)) n) capacity period (now (run .entry)) (now (every .entry)) i) w) ⌝ }
+{
+    let load = load_in(run, every, i, w + (period - capacity));
+    if 4294967295 < load {
+        return load;
+    }
+    right_at(capacities, periods, n, capacity, period, load as u32, w)
+}
+
+// The response of task i of a fitted guest: the recurrence, from 1 on.
+pub fn task_response(
+    capacities: &[u32; 16],
+    periods: &[u32; 16],
+    n: usize,
+    capacity: u32,
+    period: u32,
+    run: &[u32; 16],
+    every: &[u32; 16],
+    i: usize,
+    deadline: u32,
+) -> Found
+    requires { ⌜ (n ≤ 16) × (i < 16) ⌝ }
+    requires { ⌜ Ready (taken (now capacities) (now periods) n) capacity period (now run) i ⌝ }
+    ensures { λ r. ⌜ r ≡ taskUnder (taken (now (capacities .entry)) (now (periods .entry)) n) capacity period (now (run .entry)) (now (every .entry)) i deadline ⌝ }
+{
+    let gap = period - capacity;
+    if deadline <= gap {
+        return Found::Nothing;
+    }
+    let limit = deadline - gap;
+    let mut w: u32 = 1;
+    loop {
+        let next = right_of(capacities, periods, n, capacity, period, run, every, i, w);
+        if next <= wide(w) {
+            return Found::At(w + gap);
+        }
+        if wide(limit) < next {
+            return Found::Nothing;
+        }
+        w = next as u32;
+    }
+}
