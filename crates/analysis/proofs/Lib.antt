@@ -2,5 +2,3 @@
 pub mod Guests
 pub mod Tasks
 pub mod Capacities
-pub mod Worked
-pub mod Instances

@@ -1,4 +1,3 @@
 pub mod Guests
 pub mod Tasks
 pub mod Capacities
-pub mod Worked

@@ -33,4 +33,3 @@ pub mod Sure
 pub mod FinishedBy
 pub mod NeverLate
 pub mod NeverTurnedAway
-pub mod PlanA

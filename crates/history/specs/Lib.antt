@@ -3,4 +3,3 @@ pub mod Named
 pub mod Share
 pub mod Runs
 pub mod Finished
-pub mod PlanA

@@ -18,11 +18,20 @@ use Rattle.response.specs.Met.{allMet, accepted}
 use Rattle.verdict.specs.Verdict.{hasGuest, hasTask, recordsThen, refusedBy, guestVerdict, taskSays, taskVerdict, acceptSays, acceptance}
 use Rattle.capacity.specs.Capacity.{withCapacity, works, smallest}
 use Rattle.capacity.specs.Answer.{smallestCapacity}
-use Rattle.analysis.specs.Worked.{Numbers}
+use Rattle.dispatcher.specs.Valid.{tasksIn, guestOk, rowOk, stateOk}
+use Rattle.dispatcher.specs.Fresh.{idle, startedBy, fresh}
+use Rattle.dispatcher.specs.Release.{taken, releaseNumber, releasedBy, release}
+use Rattle.dispatcher.specs.Tick.{lessAt, refilled, holder, isHeld, leftAfter, worker, isWorked, restAfter, ageAfter, waitAfter, positionAfter, next}
+use Rattle.dispatcher.specs.Answer.{marginOf, answerBy, answer, finishes}
+use Rattle.dispatcher.specs.Run.{runFrom, runOf}
+use Rattle.dispatcher.specs.Entries.{ranBy, run}
+use Rattle.dispatcher.specs.Valid as valid
+use Rattle.lists.specs.Places.{upTo}
+use Rattle.results.specs.Numbers.{Numbers}
 
 -- case by case
 pub numbers : Numbers
-unfolding allTo unless refusal least firstFrom sumTo up solve chargedRun orElse firstRefused newId numberOf guestNumber countedBy planRefusal placeOf headOk taskOk tasksOk jitter interference guestRight guestResponse fitted fittedTo gap load periods taskRight limit taskResponse hasGuest hasTask recordsThen refusedBy guestVerdict taskSays taskVerdict allMet accepted acceptSays acceptance withCapacity works smallest smallestCapacity
+unfolding allTo unless refusal least firstFrom sumTo up solve chargedRun orElse firstRefused newId numberOf guestNumber countedBy planRefusal placeOf headOk taskOk tasksOk jitter interference guestRight guestResponse fitted fittedTo gap load periods taskRight limit taskResponse hasGuest hasTask recordsThen refusedBy guestVerdict taskSays taskVerdict allMet accepted acceptSays acceptance withCapacity works smallest smallestCapacity upTo tasksIn guestOk valid.taskOk rowOk stateOk idle startedBy fresh taken releaseNumber releasedBy release lessAt refilled holder isHeld leftAfter worker isWorked restAfter ageAfter waitAfter positionAfter next marginOf answerBy answer finishes runFrom runOf ranBy run
 numbers = record {
   alone = refl;
   second = refl;
@@ -49,4 +58,6 @@ numbers = record {
   second-at-6 = refl;
   none-works = refl;
   gap-past-deadline = refl;
+  released-at-0 = refl;
+  released-at-14 = refl;
 }

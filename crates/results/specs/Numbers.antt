@@ -1,60 +1,20 @@
--- Document 01's starred numbers of the verdicts and of the smallest capacity, one list with a single statement.
+-- Document 01's starred numbers, one list with a single statement.
 use mathlib.Core.Path.{_≡_}
-use mathlib.Core.List.{List, [], _∷_, _++_}
-use Prim.Native.Nat.{ℕ}
-use lib.ListN.{length, take, replicate}
-use Rattle.plan.specs.Records.{blank}
-use Rattle.plan.specs.declared.Guest.{Guest}
-use Rattle.plan.specs.declared.Plan.{Plan}
+use mathlib.Core.List.{[], _∷_}
+use lib.IntN.{pos}
+use Rattle.plans.specs.Plans.{planOf, top, planA, planB, planC, planD}
+use Rattle.response.specs.Task.{taskRight}
 use Rattle.verdict.specs.declared.GuestVerdict.the-variants.{Fitted, Unfit}
 use Rattle.verdict.specs.declared.TaskVerdict.the-variants.{Met, Unmet, Unjudged}
 use Rattle.verdict.specs.declared.Acceptance.the-variants.{Accepted}
-use Rattle.response.specs.Task.{taskRight}
 use Rattle.verdict.specs.Verdict.{guestVerdict, taskVerdict, acceptance}
 use Rattle.capacity.specs.declared.CapacityAnswer.the-variants.{Refused, Smallest}
 use Rattle.capacity.specs.Capacity.{withCapacity}
 use Rattle.capacity.specs.Answer.{smallestCapacity}
-
--- a column of 16, zeros past its entries
-abbrev pub column : List ℕ → List ℕ
-column l = take 16 (l ++ replicate 16 0)
-
--- a guest by its id, capacity, period, charge and its tasks' runs, periods and deadlines
-abbrev pub guest : (id capacity period charge : ℕ) → (run every deadline : List ℕ) → Guest
-guest id capacity period charge run every deadline = record {
-  id = id;
-  capacity = capacity;
-  period = period;
-  tasks = length run;
-  charge = charge;
-  run = column run;
-  every = column every;
-  deadline = column deadline;
-}
-
--- a plan of these guests, records of zeros past them
-abbrev pub planOf : List Guest → Plan
-planOf guests = record { count = length guests; guests = take 8 (guests ++ replicate 8 blank) }
-
--- guest 7, 2/5, task 1/20/20
-abbrev pub top : Guest
-top = guest 7 2 5 0 (1 ∷ []) (20 ∷ []) (20 ∷ [])
-
--- plan A with its charge in guest 9 and the two deadlines there as given
-abbrev pub planA : (charge first second : ℕ) → Plan
-planA charge first second = planOf (top ∷ guest 9 8 20 charge (10 ∷ 8 ∷ []) (50 ∷ 100 ∷ []) (first ∷ second ∷ []) ∷ [])
-
--- a guest of period 6 under 2/5 with a task 4/6/6, and two guests below
-abbrev pub planB : (capacity : ℕ) → Plan
-planB capacity = planOf (top ∷ guest 9 capacity 6 0 (4 ∷ []) (6 ∷ []) (6 ∷ []) ∷ guest 11 1 90 0 (1 ∷ []) (900 ∷ []) (900 ∷ []) ∷ guest 12 1 90 0 (1 ∷ []) (900 ∷ []) (900 ∷ []) ∷ [])
-
--- 8/9 above 1/11, whose second task has this deadline
-abbrev pub planC : (deadline : ℕ) → Plan
-planC deadline = planOf (guest 7 8 9 0 (1 ∷ []) (900 ∷ []) (900 ∷ []) ∷ guest 9 1 11 0 (1 ∷ 1 ∷ []) (31 ∷ 31 ∷ []) (31 ∷ deadline ∷ []) ∷ [])
-
--- guest 1/1000 with task 2/10/10
-abbrev pub planD : Plan
-planD = planOf (guest 7 1 1000 0 (2 ∷ []) (10 ∷ []) (10 ∷ []) ∷ [])
+use Rattle.dispatcher.specs.declared.Answer.the-variants.{Finished}
+use Rattle.dispatcher.specs.Fresh.{fresh}
+use Rattle.dispatcher.specs.Release.{release}
+use Rattle.dispatcher.specs.Entries.{run}
 
 -- the list, case by case
 pub record Numbers : Type 0 where
@@ -90,3 +50,6 @@ pub record Numbers : Type 0 where
   pub none-works : smallestCapacity (planB 3) 9 ≡ Refused 11 0
   -- 7: the first gap is past the deadline
   pub gap-past-deadline : taskVerdict planD 7 1 ≡ Unmet
+  -- 8: plan A dispatched, guest 9's first task released before tick 0, and before tick 14
+  pub released-at-0 : run (release (fresh (planA 0 50 100) .state) 9 1 .state) 50 .answer ≡ Finished 9 1 24 (pos 26)
+  pub released-at-14 : run (release (run (fresh (planA 0 50 100) .state) 14 .state) 9 1 .state) 50 .answer ≡ Finished 9 1 30 (pos 20)

@@ -6,14 +6,14 @@ use Rattle.lists.specs.Refusals.{unless, refusal}
 use Rattle.plan.specs.First.{orElse, firstRefused}
 use Rattle.plan.specs.Order.{newId, numberOf, guestNumber, countedBy, planRefusal}
 use Rattle.plan.specs.Ranges.{headOk, taskOk, tasksOk}
 use Rattle.analysis.specs.Guests.{There, Responds, NoneFits}
 use Rattle.analysis.specs.Tasks.{TaskMet, TaskUnmet, TaskUnjudged, AllGood}
 use Rattle.analysis.specs.Capacities.{CapacitySmallest, NoCapacity}
-use Rattle.analysis.specs.Worked.{planA, planB}
+use Rattle.plans.specs.Plans.{planA, planB}
 use Rattle.analysis.proofs.Guests.{guest-verdict-means}
 use Rattle.analysis.proofs.Tasks.{task-verdict-means, acceptance-means}
 use Rattle.analysis.proofs.Capacities.{capacity-answer-means}
-use Rattle.analysis.proofs.Worked.{numbers}
+use Rattle.results.proofs.Numbers.{numbers}
 
 -- plan A is in order, and guest 9 stands at place 1
 pub there-A : There (planA 0 50 100) 9 1

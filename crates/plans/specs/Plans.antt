@@ -1,0 +1,48 @@
+-- The plans of document 01's worked numbers.
+use mathlib.Core.List.{List, [], _∷_, _++_}
+use Prim.Native.Nat.{ℕ}
+use lib.ListN.{length, take, replicate}
+use Rattle.plan.specs.Records.{blank}
+use Rattle.plan.specs.declared.Guest.{Guest}
+use Rattle.plan.specs.declared.Plan.{Plan}
+
+-- a column of 16, zeros past its entries
+abbrev pub column : List ℕ → List ℕ
+column l = take 16 (l ++ replicate 16 0)
+
+-- a guest by its id, capacity, period, charge and its tasks' runs, periods and deadlines
+abbrev pub guest : (id capacity period charge : ℕ) → (run every deadline : List ℕ) → Guest
+guest id capacity period charge run every deadline = record {
+  id = id;
+  capacity = capacity;
+  period = period;
+  tasks = length run;
+  charge = charge;
+  run = column run;
+  every = column every;
+  deadline = column deadline;
+}
+
+-- a plan of these guests, records of zeros past them
+abbrev pub planOf : List Guest → Plan
+planOf guests = record { count = length guests; guests = take 8 (guests ++ replicate 8 blank) }
+
+-- guest 7, 2/5, task 1/20/20
+abbrev pub top : Guest
+top = guest 7 2 5 0 (1 ∷ []) (20 ∷ []) (20 ∷ [])
+
+-- plan A with its charge in guest 9 and the two deadlines there as given
+abbrev pub planA : (charge first second : ℕ) → Plan
+planA charge first second = planOf (top ∷ guest 9 8 20 charge (10 ∷ 8 ∷ []) (50 ∷ 100 ∷ []) (first ∷ second ∷ []) ∷ [])
+
+-- a guest of period 6 under 2/5 with a task 4/6/6, and two guests below
+abbrev pub planB : (capacity : ℕ) → Plan
+planB capacity = planOf (top ∷ guest 9 capacity 6 0 (4 ∷ []) (6 ∷ []) (6 ∷ []) ∷ guest 11 1 90 0 (1 ∷ []) (900 ∷ []) (900 ∷ []) ∷ guest 12 1 90 0 (1 ∷ []) (900 ∷ []) (900 ∷ []) ∷ [])
+
+-- 8/9 above 1/11, whose second task has this deadline
+abbrev pub planC : (deadline : ℕ) → Plan
+planC deadline = planOf (guest 7 8 9 0 (1 ∷ []) (900 ∷ []) (900 ∷ []) ∷ guest 9 1 11 0 (1 ∷ 1 ∷ []) (31 ∷ 31 ∷ []) (31 ∷ deadline ∷ []) ∷ [])
+
+-- guest 1/1000 with task 2/10/10
+abbrev pub planD : Plan
+planD = planOf (guest 7 1 1000 0 (2 ∷ []) (10 ∷ []) (10 ∷ []) ∷ [])

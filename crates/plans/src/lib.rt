@@ -1,0 +1,1 @@
+// The plans of document 01's worked numbers. No code.

@@ -1,0 +1,42 @@
+-- The dispatcher over histories of calls, for any plan in order: its states are never refused, a run is its single ticks, wait and age mean what they say.
+use mathlib.Core.Path.{_≡_}
+use mathlib.Core.Bool.{true}
+use mathlib.Core.List.{List}
+use Prim.Native.Nat.{ℕ, _-_, _≤_, _<_, min}
+use Rattle.plan.specs.Order.{planRefusal}
+use Rattle.plan.specs.declared.Plan.{Plan}
+use Rattle.dispatcher.specs.declared.Dispatcher.{Dispatcher}
+use Rattle.dispatcher.specs.Release.{release}
+use Rattle.dispatcher.specs.Valid.{stateOk}
+use Rattle.history.specs.Calls.{Call, releasing, start, after, play, ticksIn, callNumber, NoneTaken}
+use Rattle.history.specs.Named.{everyBy, restBy, waitBy, ageBy}
+use Rattle.history.specs.Runs.{RunIs}
+use Rattle.history.proofs.Clocks as clocks
+use Rattle.history.proofs.Stays as stays
+
+-- A state that is not refused stays so over every call.
+pub never-spoiled : (c : Call) (d : Dispatcher) → stateOk d ≡ true → stateOk (after c d) ≡ true
+never-spoiled = stays.stays
+
+-- From a fresh start that was not refused, 14 is never given.
+pub never-14 : (p : Plan) → planRefusal p .number ≡ 0 → (cs : List Call) (c : Call) → callNumber c (play cs (start p)) ≡ 14 → ⊥
+never-14 = stays.never-14
+
+-- A run's count, state and answer are those of that many single ticks; it stops after the first finish, never before, or when the number is used up.
+pub run-is-ticks : (n : ℕ) (d : Dispatcher) → stateOk d ≡ true → n ≤ 1000000 → RunIs n d
+run-is-ticks = stays.run-is
+
+module _ (p : Plan) (order : planRefusal p .number ≡ 0) (id number : ℕ) (cs : List Call)
+    (taken : release (play cs (start p)) id number .refusal .number ≡ 0) (ds : List Call)
+    (none : NoneTaken id number ds (after (releasing id number) (play cs (start p)))) where
+  -- The wait is what is left of the period since the last taken release.
+  pub wait-means :
+      waitBy p id number (play ds (after (releasing id number) (play cs (start p))))
+      ≡ everyBy p id number - ticksIn ds (after (releasing id number) (play cs (start p)))
+  wait-means = clocks.wait-since p order id number cs taken ds none
+
+  -- The age of an unfinished job counts the ticks since its release, up to 1,000,000.
+  pub age-means :
+      0 < restBy p id number (play ds (after (releasing id number) (play cs (start p))))
+      → ageBy p id number (play ds (after (releasing id number) (play cs (start p)))) ≡ min (ticksIn ds (after (releasing id number) (play cs (start p)))) 1000000
+  age-means = clocks.age-since p order id number cs taken ds none

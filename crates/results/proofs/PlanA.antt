@@ -1,0 +1,57 @@
+-- The promises of Word at plan A, where guest 9 has response 14 and its second task is quoted 80; and why they speak of quoted tasks alone.
+use mathlib.Core.Path.{_≡_, refl}
+use mathlib.Core.List.{List, []}
+use Prim.Native.Nat.{ℕ, suc, _*_, _≤_, _<_}
+use Rattle.lists.specs.All.{allTo}
+use Rattle.lists.specs.Places.{upTo}
+use Rattle.lists.specs.Refusals.{unless, refusal}
+use Rattle.lists.specs.Search.{firstFrom}
+use Rattle.plan.specs.Charge.{chargedRun}
+use Rattle.plan.specs.First.{orElse, firstRefused}
+use Rattle.plan.specs.Order.{newId, numberOf, guestNumber, countedBy, planRefusal}
+use Rattle.plan.specs.Place.{placeOf}
+use Rattle.plan.specs.Ranges.{headOk, taskOk, tasksOk}
+use Rattle.plan.specs.declared.Plan.{Plan}
+use Rattle.dispatcher.specs.Answer.{marginOf, answerBy, answer, finishes}
+use Rattle.dispatcher.specs.Entries.{ranBy, run}
+use Rattle.dispatcher.specs.Fresh.{idle, startedBy, fresh}
+use Rattle.dispatcher.specs.Release.{taken, releaseNumber, releasedBy, release}
+use Rattle.dispatcher.specs.Run.{runFrom, runOf}
+use Rattle.dispatcher.specs.Tick.{lessAt, refilled, holder, isHeld, leftAfter, worker, isWorked, restAfter, ageAfter, waitAfter, positionAfter, next}
+use Rattle.dispatcher.specs.Valid.{tasksIn, guestOk, rowOk, stateOk}
+use Rattle.history.specs.Calls.{Call, releasing, start, after, play, ticksIn, answers, Throughout}
+use Rattle.history.specs.Finished.{FinishedBy}
+use Rattle.history.specs.Named.{restBy, ageBy}
+use Rattle.history.specs.Share.{share}
+use Rattle.plans.specs.Plans.{planA, planD}
+use Rattle.results.proofs.Numbers.{numbers}
+use Rattle.results.proofs.Word.{sure-of-capacity, younger, finished-by-R, first-taken}
+use Rattle.dispatcher.specs.Valid as valid
+
+-- plan A as document 01 prints it
+abbrev A : Plan
+A = planA 0 50 100
+
+-- In each 20 ticks from the start on that are over, guest 9 has had 8.
+pub guest-9-has-8 : (cs : List Call) (k : ℕ) → suc k * 20 ≤ ticksIn cs (start A) → share 9 (answers cs (start A)) (k * 20) 20 ≡ 8
+unfolding placeOf firstFrom
+guest-9-has-8 = sure-of-capacity A 9 14 (numbers .second)
+
+-- In every history an unfinished job of its second task is younger than 80.
+pub second-below-80 : (cs : List Call) → 0 < restBy A 9 2 (play cs (start A)) → ageBy A 9 2 (play cs (start A)) < 80
+second-below-80 = younger A 9 2 80 (numbers .second-task)
+
+-- Its first release is taken.
+pub second-taken : release (start A) 9 2 .refusal .number ≡ 0
+unfolding play Throughout
+second-taken = first-taken A 9 2 80 (numbers .second-task) [] tt
+
+-- And 80 ticks after it, however they are called for, the task has been told finished, 20 ticks or more before its deadline.
+pub second-finished : (ds : List Call) → 80 ≤ ticksIn ds (after (releasing 9 2) (start A)) → FinishedBy 80 100 9 2 ds (after (releasing 9 2) (start A))
+unfolding play placeOf firstFrom
+second-finished ds h = finished-by-R A 9 2 80 (numbers .second-task) [] second-taken ds h
+
+-- Case 7: the guest 1/1000 is fitted, but its task is not quoted; released at tick 0, it is turned away at tick 10, though its period has passed.
+pub case-7-turned-away : release (run (release (fresh planD .state) 7 1 .state) 10 .state) 7 1 .refusal .number ≡ 10
+unfolding allTo upTo unless refusal firstFrom chargedRun orElse firstRefused newId numberOf guestNumber countedBy planRefusal placeOf headOk taskOk tasksOk marginOf answerBy answer finishes ranBy run idle startedBy fresh taken releaseNumber releasedBy release runFrom runOf lessAt refilled holder isHeld leftAfter worker isWorked restAfter ageAfter waitAfter positionAfter next tasksIn guestOk valid.taskOk rowOk stateOk
+case-7-turned-away = refl

@@ -1,0 +1,69 @@
+-- Demand 3, our word kept. Take any records, the fresh dispatcher of them (`start p`), and any list of calls: releases, ticks and runs, with any
+-- arguments, refused or not, in any order. Nothing is asked of other guests and tasks: they may be unfit below, unmet, released at any time.
+use mathlib.Core.Path.{_≡_}
+use mathlib.Core.List.{List}
+use Prim.Native.Nat.{ℕ, suc, _-_, _*_, _≤_, _<_}
+use lib.IntN.{ℤ, pos}
+use Rattle.plan.specs.declared.Plan.{Plan}
+use Rattle.verdict.specs.declared.GuestVerdict.the-variants.{Fitted}
+use Rattle.verdict.specs.declared.TaskVerdict.the-variants.{Met}
+use Rattle.verdict.specs.Verdict.{guestVerdict, taskVerdict}
+use Rattle.dispatcher.specs.declared.Answer.the-variants.{Finished}
+use Rattle.dispatcher.specs.Release.{release}
+use Rattle.history.specs.Calls.{Call, releasing, start, after, play, ticksIn, answers, answerOf, NoneTaken}
+use Rattle.history.specs.Finished.{FinishedBy}
+use Rattle.history.specs.Named.{guestBy, everyBy, deadlineBy, restBy, ageBy}
+use Rattle.history.specs.Share.{share}
+use Rattle.history.proofs.FinishedBy as finished
+use Rattle.history.proofs.NeverLate as late
+use Rattle.history.proofs.NeverTurnedAway as turned
+use Rattle.history.proofs.Sure as sure
+
+-- 1. Sure of its capacity. In each of its periods that has ended, a fitted guest has had exactly its capacity of ticks.
+pub sure-of-capacity :
+    (p : Plan) (id x : ℕ)
+    → guestVerdict p id ≡ Fitted x
+    → (cs : List Call) (k : ℕ)
+    → suc k * guestBy p id .period ≤ ticksIn cs (start p)
+    → share id (answers cs (start p)) (k * guestBy p id .period) (guestBy p id .period) ≡ guestBy p id .capacity
+sure-of-capacity = sure.sure-of-capacity
+
+module _ (p : Plan) (id number R : ℕ) (quoted : taskVerdict p id number ≡ Met R) where
+  -- 2. Finished by R. After a taken release, calls that do R ticks or more hand back the task finished, at an age of at most R: the ticks since
+  -- the release, with what the deadline leaves as the margin.
+  pub finished-by-R :
+      (cs : List Call)
+      → release (play cs (start p)) id number .refusal .number ≡ 0
+      → (ds : List Call)
+      → R ≤ ticksIn ds (after (releasing id number) (play cs (start p)))
+      → FinishedBy R (deadlineBy p id number) id number ds (after (releasing id number) (play cs (start p)))
+  finished-by-R = finished.finished-by-R p id number R quoted
+
+  -- Said of the state: an unfinished job is younger than R.
+  pub younger : (cs : List Call) → 0 < restBy p id number (play cs (start p)) → ageBy p id number (play cs (start p)) < R
+  younger = finished.younger p id number R quoted
+
+  -- Said of the answers: no call hands back the task finished at an age past R, or with another margin than what the deadline leaves.
+  pub never-late :
+      (cs : List Call) (c : Call) (age : ℕ) (margin : ℤ)
+      → answerOf c (play cs (start p)) ≡ Finished id number age margin
+      → (age ≤ R) × (margin ≡ pos (deadlineBy p id number - age))
+  never-late = late.never-late p id number R quoted
+
+  -- 3. Never turned away. A release is taken if none was taken before,
+  pub first-taken : (cs : List Call) → NoneTaken id number cs (start p) → release (play cs (start p)) id number .refusal .number ≡ 0
+  first-taken = turned.first-taken p id number R quoted
+
+  -- or if at least the task's period of ticks was done since the last one taken.
+  pub next-taken :
+      (cs : List Call)
+      → release (play cs (start p)) id number .refusal .number ≡ 0
+      → (ds : List Call)
+      → NoneTaken id number ds (after (releasing id number) (play cs (start p)))
+      → everyBy p id number ≤ ticksIn ds (after (releasing id number) (play cs (start p)))
+      → release (play ds (after (releasing id number) (play cs (start p)))) id number .refusal .number ≡ 0
+  next-taken = turned.next-taken p id number R quoted
+
+  -- In particular 10 is never given.
+  pub never-10 : (cs : List Call) → release (play cs (start p)) id number .refusal .number ≡ 10 → ⊥
+  never-10 = turned.never-10 p id number R quoted
