@@ -1,4 +1,16 @@
 // The dispatcher: its state by value, and the calls that take it and give it back.
+mod examine;
+mod jobs;
+mod ranges;
+mod releasing;
+mod running;
+mod server;
+mod starting;
+mod step;
+mod steps;
+mod ticking;
+mod told;
+
 use plan::Plan;
 use plan::Refusal;
 
@@ -29,11 +41,48 @@ pub enum Answer {
     },
 }
 
+// Who had a tick, as a step notes it: the guest's place and its task's, and the run left that the task had.
+pub struct Turn {
+    pub guest: usize,
+    pub task: usize,
+    pub had: u32,
+}
+
+// Whether a state is in its ranges, and the columns that the check read on its way.
+pub struct Checked {
+    pub ok: bool,
+    pub ids: [u32; 16],
+    pub capacities: [u32; 16],
+    pub periods: [u32; 16],
+    pub tasks: [u32; 16],
+}
+
+// What a tick over lent arrays gives beside them: the number that it is refused by, or 0, and its answer.
+pub struct TickOutcome {
+    pub number: u32,
+    pub answer: Answer,
+}
+
+// Several ticks, as their steps note them: how many, and who had the last.
+pub struct Walk {
+    pub done: u32,
+    pub turn: Turn,
+}
+
+// What a run over lent arrays gives beside them: the number that it is refused by, or 0, the ticks done and the last one's answer.
+pub struct RunOutcome {
+    pub number: u32,
+    pub done: u32,
+    pub answer: Answer,
+}
+
+#[repr(C)]
 pub struct Started {
     pub refusal: Refusal,
     pub state: Dispatcher,
 }
 
+#[repr(C)]
 pub struct Released {
     pub refusal: Refusal,
     pub state: Dispatcher,

@@ -122,7 +122,8 @@ loop-again c =
 returns : tie.Need-returns Inv-loop μ-loop
 unfolding wordsOf withHead
 returns c =
-    let e : c .before .loop .i ≡ c .before .before .before .before .before .before .before .before .args .g .tasks = omega arith in
+    let a = c .before .before .before .before .before .before .before .before .args in
+    let e : c .before .loop .i ≡ a .g .tasks = omega arith in
     rw e at (c .before .loop .inv .1 .0)
 
 pub words-of-spec : {M : Type 1} → statement M

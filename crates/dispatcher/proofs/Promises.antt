@@ -1,0 +1,27 @@
+-- What each promise permits is one outcome. Assumes nothing.
+use mathlib.Core.Path.{_≡_}
+use Prim.Native.Nat.{ℕ}
+use Rattle.plan.specs.declared.Plan.{Plan}
+use Rattle.plan.proofs.Promises.{one-outcome}
+use Rattle.dispatcher.specs.declared.Dispatcher.{Dispatcher}
+use Rattle.dispatcher.specs.declared.Ran.{Ran}
+use Rattle.dispatcher.specs.declared.Released.{Released}
+use Rattle.dispatcher.specs.declared.Started.{Started}
+use Rattle.dispatcher.specs.declared.Ticked.{Ticked}
+use Rattle.dispatcher.specs.Promises.{Starts, Releases, Ticks, Runs}
+
+-- fresh start
+pub starts-once : (p : Plan) (r s : Started) → Starts p r → Starts p s → r ≡ s
+starts-once p r s = one-outcome
+
+-- release
+pub releases-once : (d : Dispatcher) (id task : ℕ) (r s : Released) → Releases d id task r → Releases d id task s → r ≡ s
+releases-once d id task r s = one-outcome
+
+-- tick
+pub ticks-once : (d : Dispatcher) (r s : Ticked) → Ticks d r → Ticks d s → r ≡ s
+ticks-once d r s = one-outcome
+
+-- run
+pub runs-once : (d : Dispatcher) (n : ℕ) (r s : Ran) → Runs d n r → Runs d n s → r ≡ s
+runs-once d n r s = one-outcome

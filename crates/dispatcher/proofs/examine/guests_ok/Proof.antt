@@ -1,0 +1,124 @@
+-- The loop's invariant: `ok` says whether the guests passed go, and the columns hold their numbers.
+use borrow.Author.Needs.{needs}
+use native.Mathlib.Omega.{arith}
+use mathlib.Core.Path.{_≡_, refl, sym}
+use Prim.Native.Nat.{_≤_, _-_}
+use Rattle.lists.specs.All.{allTo}
+use Rattle.dispatcher.specs.Lent.{stateOf, guestGoes}
+use Rattle.lists.proofs.All.{all-none}
+use Rattle.dispatcher.proofs.Valid.{all-end}
+use Rattle.dispatcher.proofs.Pass.{Columns, columns-none, columns-next, columns-done, goes-turn}
+use Rattle.dispatcher.proofs.examine.guests_ok.Statement.{statement}
+use Rattle.dispatcher.proofs.examine.guests_ok.Tie as tie
+use Rattle.dispatcher.proofs.examine.guests_ok.Reads as reads
+use Rattle.dispatcher.proofs.examine.guests_ok.Lts as lts
+use Rattle.dispatcher.proofs.ranges.guest_ok.Reads as guest-ok-reads
+use Rattle.plan.proofs.new_id.Reads as new-id-reads
+
+abbrev Inv-loop : tie.InvT-loop
+Inv-loop left position rest wait age plan n ids₀ capacities₀ periods₀ tasks₀ ok₀ k₀ ids capacities periods tasks ok k = (k ≤ n) × ((ok ≡ allTo (guestGoes (stateOf plan left position rest wait age)) k) × Columns plan ids capacities periods tasks k)
+
+abbrev μ-loop : tie.MeasureT-loop
+μ-loop left position rest wait age plan n ids₀ capacities₀ periods₀ tasks₀ ok₀ k₀ ids capacities periods tasks ok k = n - k
+
+cast-n : tie.Need-cast-n Inv-loop μ-loop
+cast-n c = search needs
+
+loop-holds : tie.Need-loop-holds Inv-loop μ-loop
+loop-holds c = (search needs, (sym (all-none _), columns-none _))
+
+mul-g : tie.Need-mul-g Inv-loop μ-loop
+mul-g c = search needs
+
+element-copy-out-g : tie.Need-element-copy-out-g Inv-loop μ-loop
+element-copy-out-g c = search needs
+
+mul-ids : tie.Need-mul-ids Inv-loop μ-loop
+mul-ids c = search needs
+
+array-write-ids : tie.Need-array-write-ids Inv-loop μ-loop
+array-write-ids c = search needs
+
+mul-capacities : tie.Need-mul-capacities Inv-loop μ-loop
+mul-capacities c = search needs
+
+array-write-capacities : tie.Need-array-write-capacities Inv-loop μ-loop
+array-write-capacities c = search needs
+
+mul-periods : tie.Need-mul-periods Inv-loop μ-loop
+mul-periods c = search needs
+
+array-write-periods : tie.Need-array-write-periods Inv-loop μ-loop
+array-write-periods c = search needs
+
+mul-tasks : tie.Need-mul-tasks Inv-loop μ-loop
+mul-tasks c = search needs
+
+array-write-tasks : tie.Need-array-write-tasks Inv-loop μ-loop
+array-write-tasks c = search needs
+
+new-id-requires : tie.Need-new-id-requires Inv-loop μ-loop
+new-id-requires c κs = search needs
+
+mul-guest-ok : tie.Need-mul-guest-ok Inv-loop μ-loop
+mul-guest-ok c = search needs
+
+element-copy-out-guest-ok : tie.Need-element-copy-out-guest-ok Inv-loop μ-loop
+element-copy-out-guest-ok c = search needs
+
+mul-guest-ok-2 : tie.Need-mul-guest-ok-2 Inv-loop μ-loop
+mul-guest-ok-2 c = search needs
+
+element-copy-out-guest-ok-2 : tie.Need-element-copy-out-guest-ok-2 Inv-loop μ-loop
+element-copy-out-guest-ok-2 c = search needs
+
+guest-ok-requires : tie.Need-guest-ok-requires Inv-loop μ-loop
+guest-ok-requires c κs = search needs
+
+add-k : tie.Need-add-k Inv-loop μ-loop
+add-k c = search needs
+
+loop-less : tie.Need-loop-less Inv-loop μ-loop
+loop-less c = search needs
+
+loop-again : tie.Need-loop-again Inv-loop μ-loop
+loop-again c =
+    let l = c .before .before .before .before .before .before .before in
+    let a = l .before .args in
+    let d = stateOf (a .t1) (a .left .now) (a .position .now) (a .rest .now) (a .wait .now) (a .age .now) in
+    let f = columns-next (l .loop .k) (omega arith) (l .loop .inv .1 .1) in
+    (search needs, (goes-turn d (l .loop .k) (f .id) (l .loop .inv .1 .0) (c .before .before .before .new-id .ensures) (c .guest-ok .ensures), f))
+
+returns : tie.Need-returns Inv-loop μ-loop
+returns c =
+    let a = c .before .before .args in
+    (all-end (guestGoes (stateOf (a .t1) (a .left .now) (a .position .now) (a .rest .now) (a .wait .now) (a .age .now))) _ _ (c .before .loop .inv .1 .0) (search needs) (search needs), columns-done _ _ (search needs) (c .before .loop .inv .1 .1))
+
+pub guests-ok-spec : {M : Type 1} → statement M
+guests-ok-spec =
+    tie.close
+    (tie.spec
+    Inv-loop
+    μ-loop
+    cast-n
+    loop-holds
+    mul-g
+    element-copy-out-g
+    mul-ids
+    array-write-ids
+    mul-capacities
+    array-write-capacities
+    mul-periods
+    array-write-periods
+    mul-tasks
+    array-write-tasks
+    new-id-requires
+    mul-guest-ok
+    element-copy-out-guest-ok
+    mul-guest-ok-2
+    element-copy-out-guest-ok-2
+    guest-ok-requires
+    add-k
+    loop-less
+    loop-again
+    returns)

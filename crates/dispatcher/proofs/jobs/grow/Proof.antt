@@ -1,0 +1,74 @@
+-- The loop's invariant: the ages of the places passed are grown, and no other.
+use borrow.Author.Needs.{needs}
+use native.Mathlib.Omega.{arith}
+use Prim.Native.Nat.{_≤_, _-_}
+use mathlib.Core.Path.{_≡_, sym}
+use Rattle.dispatcher.proofs.Tick.{grown}
+use Rattle.lists.specs.Places.{upTo}
+use Rattle.lists.proofs.Places.{upTo-none, upTo-next, upTo-done}
+use Rattle.dispatcher.proofs.jobs.grow.Statement.{statement}
+use Rattle.dispatcher.proofs.jobs.grow.Tie as tie
+use Rattle.dispatcher.proofs.jobs.grow.Reads as reads
+use Rattle.dispatcher.proofs.jobs.grow.Lts as lts
+use Rattle.dispatcher.proofs.jobs.older.Reads as older-reads
+
+abbrev Inv-loop : tie.InvT-loop
+Inv-loop age₀ rest i₀ age i = (i ≤ 128) × (age ≡ upTo (grown rest) i age₀)
+
+abbrev μ-loop : tie.MeasureT-loop
+μ-loop age₀ rest i₀ age i = 128 - i
+
+loop-holds : tie.Need-loop-holds Inv-loop μ-loop
+loop-holds c = (search needs, sym (upTo-none _ _))
+
+mul-older : tie.Need-mul-older Inv-loop μ-loop
+mul-older c = search needs
+
+element-copy-out-older : tie.Need-element-copy-out-older Inv-loop μ-loop
+element-copy-out-older c = search needs
+
+mul-older-2 : tie.Need-mul-older-2 Inv-loop μ-loop
+mul-older-2 c = search needs
+
+element-copy-out-older-2 : tie.Need-element-copy-out-older-2 Inv-loop μ-loop
+element-copy-out-older-2 c = search needs
+
+older-requires : tie.Need-older-requires Inv-loop μ-loop
+older-requires c κs = search needs
+
+mul-age : tie.Need-mul-age Inv-loop μ-loop
+mul-age c = search needs
+
+element-write-age : tie.Need-element-write-age Inv-loop μ-loop
+element-write-age c = search needs
+
+add-i : tie.Need-add-i Inv-loop μ-loop
+add-i c = search needs
+
+loop-less : tie.Need-loop-less Inv-loop μ-loop
+loop-less c = search needs
+
+loop-again : tie.Need-loop-again Inv-loop μ-loop
+loop-again c = (search needs, upTo-next (grown (c .before .before .before .before .before .args .rest .now)) _ _ _ _ (c .before .before .before .before .loop .inv .1) (c .older .ensures))
+
+returns : tie.Need-returns Inv-loop μ-loop
+returns c = upTo-done (grown (c .before .before .args .rest .now)) _ 128 _ _ (c .before .loop .inv .1) (search needs) (search needs)
+
+pub grow-spec : {M : Type 1} → statement M
+grow-spec =
+    tie.close
+    (tie.spec
+    Inv-loop
+    μ-loop
+    loop-holds
+    mul-older
+    element-copy-out-older
+    mul-older-2
+    element-copy-out-older-2
+    older-requires
+    mul-age
+    element-write-age
+    add-i
+    loop-less
+    loop-again
+    returns)

@@ -1,0 +1,29 @@
+-- A task's run is at most 1,000,000 and a charge at most 65,535, so the charged run fits.
+use borrow.Author.Needs.{needs}
+use native.Mathlib.Omega.{arith}
+use Rattle.dispatcher.proofs.Valid.{charged-small, full-is}
+use Rattle.dispatcher.proofs.ranges.full.Statement.{statement}
+use Rattle.dispatcher.proofs.ranges.full.Tie as tie
+use Rattle.dispatcher.proofs.ranges.full.Reads as reads
+use Rattle.dispatcher.proofs.ranges.full.Lts as lts
+use Rattle.dispatcher.proofs.ranges.limit.Reads as limit-reads
+use Rattle.plan.proofs.charged_run.Reads as charged-run-reads
+
+limit-requires : tie.Need-limit-requires
+limit-requires c κs = search needs
+
+charged-run-requires : tie.Need-charged-run-requires
+charged-run-requires c κs = search needs
+
+cast-limit : tie.Need-cast-limit
+cast-limit c = omega (arith, charged-small (c .before .before .args .used) (c .before .before .args .run) (c .before .before .args .charge) (c .before .before .pre) (search needs) (c .before .limit .ensures), c .charged-run .ensures)
+
+limit-requires-2 : tie.Need-limit-requires-2
+limit-requires-2 c κs = search needs
+
+returns : tie.Need-returns
+returns c = full-is (c .before .before .before .args .used) (c .before .before .before .args .run) (c .before .before .before .args .charge) (c .before .before .limit .ensures) (c .before .charged-run .ensures) (c .limit2 .ensures)
+
+pub full-spec : {M : Type 1} → statement M
+full-spec =
+    tie.close (tie.spec limit-requires charged-run-requires cast-limit limit-requires-2 returns)

@@ -1,0 +1,19 @@
+-- Eight records of zeros. Assumes nothing.
+use borrow.Author.Needs.{needs}
+use native.Mathlib.Omega.{arith}
+use mathlib.Core.Path.{_≡_, refl}
+use Rattle.plan.specs.Records.{blankPlan}
+use Rattle.dispatcher.proofs.starting.blank_plan.Statement.{statement}
+use Rattle.dispatcher.proofs.starting.blank_plan.Tie as tie
+use Rattle.dispatcher.proofs.starting.blank_plan.Reads as reads
+use Rattle.dispatcher.proofs.starting.blank_plan.Lts as lts
+use Rattle.plan.proofs.blank_guest.Reads as blank-guest-reads
+
+blank-guest-requires : tie.Need-blank-guest-requires
+blank-guest-requires c κs = search needs
+
+returns : tie.Need-returns
+returns c = rw (c .blank-guest .ensures) refl
+
+pub blank-plan-spec : {M : Type 1} → statement M
+blank-plan-spec = tie.close (tie.spec blank-guest-requires returns)

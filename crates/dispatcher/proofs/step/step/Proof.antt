@@ -1,0 +1,39 @@
+-- Each part ensures its sentence of the rule, of arrays that no part before it has changed but by its own sentence.
+use borrow.Author.Needs.{needs}
+use native.Mathlib.Omega.{arith}
+use Rattle.dispatcher.proofs.Lent.{stepped}
+use Rattle.dispatcher.proofs.step.step.Statement.{statement}
+use Rattle.dispatcher.proofs.step.step.Tie as tie
+use Rattle.dispatcher.proofs.step.step.Reads as reads
+use Rattle.dispatcher.proofs.step.step.Lts as lts
+use Rattle.dispatcher.proofs.jobs.fall.Reads as fall-reads
+use Rattle.dispatcher.proofs.jobs.grow.Reads as grow-reads
+use Rattle.dispatcher.proofs.server.advance.Reads as advance-reads
+use Rattle.dispatcher.proofs.server.refill.Reads as refill-reads
+use Rattle.dispatcher.proofs.step.serve.Reads as serve-reads
+
+refill-requires : tie.Need-refill-requires
+refill-requires c κs = search needs
+
+grow-requires : tie.Need-grow-requires
+grow-requires c κs = search needs
+
+fall-requires : tie.Need-fall-requires
+fall-requires c κs = search needs
+
+advance-requires : tie.Need-advance-requires
+advance-requires c κs = search needs
+
+serve-requires : tie.Need-serve-requires
+serve-requires c κs = search needs
+
+returns : tie.Need-returns
+returns c =
+    let s = c .before .before .before .before .before in
+    let a = s .before .before .before .before .before .before .before .before .args in
+    λ p u. stepped u (a .left .now) (a .position .now) (a .rest .now) (a .wait .now) (a .age .now) (s .before .before .before .before .before .refill .ensures) (c .before .before .before .advance .ensures) (s .fall .ensures) (s .before .before .grow .ensures) (c .serve .ensures)
+
+pub step-spec : {M : Type 1} → statement M
+step-spec =
+    tie.close
+    (tie.spec refill-requires grow-requires fall-requires advance-requires serve-requires returns)

@@ -1,0 +1,118 @@
+-- One tick over lent arrays, apart from the plan: what the arrays stand for, and who had the tick as the code notes it.
+use mathlib.Core.Path.{_≡_}
+use mathlib.Core.Bool.{Bool, true, false, _&&_}
+use mathlib.Core.List.{List}
+use Prim.Native.Nat.{ℕ, _≤_, _<_}
+use lib.Dec.{ltb}
+use Rattle.lists.specs.Choice.{pick}
+use Rattle.lists.specs.Places.{nth}
+use Rattle.lists.specs.All.{allTo}
+use Rattle.plan.specs.declared.Guest.{Guest}
+use Rattle.plan.specs.declared.Plan.{Plan}
+use Rattle.plan.specs.Records.{guestAt}
+use Rattle.plan.specs.Ranges.{mostTasks, guestOk, tasksOk}
+use Rattle.plan.specs.Charge.{chargedRun}
+use Rattle.plan.specs.Order.{newId, planRefusal}
+use Rattle.plan.specs.Filled.{Filled}
+use Rattle.dispatcher.specs.declared.Dispatcher.{Dispatcher}
+use Rattle.dispatcher.specs.declared.Checked.{Checked}
+use Rattle.dispatcher.specs.declared.Turn.{Turn}
+use Rattle.dispatcher.specs.State.{placeAt, guestIn, restAt}
+use Rattle.dispatcher.specs.Valid.{serverOk, noServer, jobOk, noJob, stateOk}
+use Rattle.dispatcher.specs.Tick.{refilled, holder, isHeld, leftAfter, worker, isWorked, restAfter, ageAfter, next}
+
+-- the state of a plan with these arrays
+abbrev pub stateOf : Plan → (left position rest wait age : List ℕ) → Dispatcher
+stateOf p left position rest wait age = record { plan = p; left = left; position = position; rest = rest; wait = wait; age = age }
+
+-- the three numbers of place t of guest k, of which `many` are tasks
+abbrev pub placeOk : (rest wait age run every : List ℕ) (charge k many t : ℕ) → Bool
+placeOk rest wait age run every charge k many t =
+    pick (ltb t many)
+    (jobOk (chargedRun (nth run t) charge) (nth every t) (nth rest (placeAt k t)) (nth wait (placeAt k t)) (nth age (placeAt k t)))
+    (noJob (nth rest (placeAt k t)) (nth wait (placeAt k t)) (nth age (placeAt k t)))
+
+-- the three numbers of place t of row k, past the guests
+abbrev pub blankAt : (rest wait age : List ℕ) (k t : ℕ) → Bool
+blankAt rest wait age k t = noJob (nth rest (placeAt k t)) (nth wait (placeAt k t)) (nth age (placeAt k t))
+
+-- guest g at place k: its record, its two numbers and those of its 16 places
+unfoldable pub guestIsOk : Guest → (k left position : ℕ) (rest wait age : List ℕ) → Bool
+guestIsOk g k left position rest wait age =
+    (guestOk g && tasksOk g)
+    && (serverOk (g .capacity) (g .period) left position && allTo (placeOk rest wait age (g .run) (g .every) (g .charge) k (g .tasks)) mostTasks)
+
+-- row k, past the guests
+unfoldable pub rowIsBlank : (k left position : ℕ) (rest wait age : List ℕ) → Bool
+rowIsBlank k left position rest wait age = noServer left position && allTo (blankAt rest wait age k) mostTasks
+
+-- guest k of a state: its id is new, and it is in its ranges
+abbrev pub guestGoes : Dispatcher → ℕ → Bool
+guestGoes d k = newId (λ j. guestIn d j .id) k && guestIsOk (guestIn d k) k (nth (d .left) k) (nth (d .position) k) (d .rest) (d .wait) (d .age)
+
+-- columns that hold the numbers of the plan's guests
+pub record ColumnsIn (p : Plan) (r : Checked) : Type 0 where
+  pub id : Filled (r .ids) (λ k. guestAt (p .guests) k .id) (p .count)
+  pub capacity : Filled (r .capacities) (λ k. guestAt (p .guests) k .capacity) (p .count)
+  pub period : Filled (r .periods) (λ k. guestAt (p .guests) k .period) (p .count)
+  pub many : Filled (r .tasks) (λ k. guestAt (p .guests) k .tasks) (p .count)
+
+-- the outcome of the check of a state
+pub record Examines (d : Dispatcher) (r : Checked) : Type 0 where
+  pub okay : r .ok ≡ stateOk d
+  pub columns : stateOk d ≡ true → ColumnsIn (d .plan) r
+
+-- n guests of at most 16 tasks each
+pub record Small (n : ℕ) (tasks : List ℕ) : Type 0 where
+  pub guests : n ≤ 8
+  pub each : (k : ℕ) → k < n → nth tasks k ≤ 16
+
+-- columns of a plan's n guests: capacity, period and number of tasks
+pub record Columned (p : Plan) (n : ℕ) (capacities periods tasks : List ℕ) : Type 0 where
+  pub count : p .count ≡ n
+  pub capacity : (k : ℕ) → k < n → nth capacities k ≡ guestAt (p .guests) k .capacity
+  pub period : (k : ℕ) → k < n → nth periods k ≡ guestAt (p .guests) k .period
+  pub many : (k : ℕ) → k < n → nth tasks k ≡ guestAt (p .guests) k .tasks
+
+-- by whether a guest has the tick: its place, its task's place, and the run left that the task had; 0 where no task works
+unfoldable pub turnBy : Bool → Dispatcher → Turn
+turnBy true d = record { guest = holder d; task = worker d; had = pick (isWorked d) (restAt d (holder d) (worker d)) 0 }
+turnBy false d = record { guest = holder d; task = 0; had = 0 }
+
+-- who has a tick
+unfoldable pub turn : Dispatcher → Turn
+turn d = turnBy (isHeld d) d
+
+-- a state that is lent at the moment its guests are refilled
+pub record Refilled (d : Dispatcher) (n : ℕ) (tasks left rest : List ℕ) : Type 0 where
+  pub count : d .plan .count ≡ n
+  pub many : (k : ℕ) → k < n → nth tasks k ≡ guestIn d k .tasks
+  pub filled : left ≡ refilled d
+  pub runs : rest ≡ d .rest
+
+-- what serving it gives
+pub record Served (d : Dispatcher) (left rest : List ℕ) (r : Turn) : Type 0 where
+  pub lefts : left ≡ leftAfter d
+  pub runs : rest ≡ restAfter d
+  pub had : r ≡ turn d
+
+-- one tick of a state gives the state and notes who had it
+pub record Stepped (d after : Dispatcher) (r : Turn) : Type 0 where
+  pub state : after ≡ next d
+  pub had : r ≡ turn d
+
+-- a tick that was taken and finished no job: who had it, and the ids of the plan's n guests
+pub record Telling (d : Dispatcher) (ids : List ℕ) (n : ℕ) (t : Turn) : Type 0 where
+  pub sound : planRefusal (d .plan) .number ≡ 0
+  pub count : d .plan .count ≡ n
+  pub id : (k : ℕ) → k < n → nth ids k ≡ guestIn d k .id
+  pub had : t ≡ turn d
+  pub more : t .had ≡ 1 → ⊥
+
+-- a tick that was taken and finished a job: who had it, and the ages after it
+pub record Ending (d : Dispatcher) (p : Plan) (t : Turn) (age : List ℕ) : Type 0 where
+  pub sound : planRefusal (d .plan) .number ≡ 0
+  pub plan : d .plan ≡ p
+  pub had : t ≡ turn d
+  pub ages : age ≡ ageAfter d
+  pub last : t .had ≡ 1

@@ -1,0 +1,65 @@
+// The tasks' part in a tick, over the lent arrays of 128.
+ghost use mathlib.Core.Path.{_≡_};
+ghost use Prim.Native.Nat.{ℕ, _+_, _-_, _≤_, _<_, min};
+ghost use lib.Dec.{ltb};
+ghost use Rattle.lists.specs.Choice.{pick};
+ghost use Rattle.lists.specs.Places.{nth, upTo};
+ghost use Rattle.lists.specs.Search.{firstFrom};
+ghost use Rattle.plan.specs.Ranges.{longest};
+ghost use Rattle.dispatcher.specs.State.{placeAt};
+
+// One wait: falls by one, and never below 0.
+fn less(wait: u32) -> u32
+    ensures { λ r. ⌜ r ≡ wait - 1 ⌝ }
+{
+    if 0 < wait { wait - 1 } else { 0 }
+}
+
+// Each wait above 0 falls by one.
+pub fn fall(wait: &mut [u32; 128])
+    ensures { λ r. ⌜ now (wait .exit) ≡ upTo (λ k x. x - 1) 128 (now (wait .entry)) ⌝ }
+{
+    let mut i: usize = 0;
+    while i < 128 {
+        wait[i] = less(wait[i]);
+        i += 1;
+    }
+}
+
+// One age, by the job's run left at the tick's start.
+fn older(age: u32, rest: u32) -> u32
+    ensures { λ r. ⌜ r ≡ pick (ltb 0 rest) (min (age + 1) longest) age ⌝ }
+{
+    if 0 < rest {
+        if age < 1000000 { age + 1 } else { 1000000 }
+    } else {
+        age
+    }
+}
+
+// The age of every job unfinished at the tick's start rises by one, stopping at 1,000,000.
+pub fn grow(age: &mut [u32; 128], rest: &[u32; 128])
+    ensures { λ r. ⌜ now (age .exit) ≡ upTo (λ k x. pick (ltb 0 (nth (now (rest .entry)) k)) (min (x + 1) longest) x) 128 (now (age .entry)) ⌝ }
+{
+    let mut i: usize = 0;
+    while i < 128 {
+        age[i] = older(age[i], rest[i]);
+        i += 1;
+    }
+}
+
+// The first of the first n tasks of guest k with run left, or n.
+pub fn worker(rest: &[u32; 128], k: usize, n: usize) -> usize
+    requires { ⌜ (k < 8) × (n ≤ 16) ⌝ }
+    ensures { λ r. ⌜ r ≡ firstFrom (λ t. ltb 0 (nth (now (rest .entry)) (placeAt k t))) n 0 ⌝ }
+{
+    let base = k * 16;
+    let mut t: usize = 0;
+    while t < n {
+        if 0 < rest[base + t] {
+            return t;
+        }
+        t += 1;
+    }
+    t
+}

@@ -1,0 +1,117 @@
+// A run of ticks: its checks once, then steps over the state's arrays.
+ghost use mathlib.Core.Path.{_≡_};
+ghost use Rattle.plan.specs.First.{refused};
+ghost use Rattle.dispatcher.specs.Lent.{stateOf};
+ghost use Rattle.dispatcher.specs.Promises.{Runs};
+use crate::Answer;
+use crate::Dispatcher;
+use crate::Ran;
+use crate::RunOutcome;
+use crate::examine::examine;
+use crate::steps::walk;
+use crate::told::finished;
+use crate::told::told;
+use plan::Plan;
+use plan::Refusal;
+
+// A run that does no tick: refused by a number, or of none.
+fn none_done(number: u32) -> RunOutcome
+    ensures { λ r. ⌜ r ≡ record { number = number; done = 0; answer = Answer.Silent } ⌝ }
+{
+    RunOutcome {
+        number,
+        done: 0,
+        answer: Answer::Silent,
+    }
+}
+
+// A run over lent arrays: they come back as they were where it is refused.
+fn ran(
+    plan: Plan,
+    left: &mut [u32; 8],
+    position: &mut [u32; 8],
+    rest: &mut [u32; 128],
+    wait: &mut [u32; 128],
+    age: &mut [u32; 128],
+    ticks: u32,
+) -> RunOutcome
+    ensures { λ r. ⌜ Runs (stateOf plan (now (left .entry)) (now (position .entry)) (now (rest .entry)) (now (wait .entry)) (now (age .entry))) ticks (record { refusal = refused (r .number) 0; done = r .done; answer = r .answer; state = stateOf plan (now (left .exit)) (now (position .exit)) (now (rest .exit)) (now (wait .exit)) (now (age .exit)) }) ⌝ }
+{
+    let found = examine(plan, left, position, rest, wait, age);
+    if !found.ok {
+        return none_done(14);
+    }
+    if 1000000 < ticks {
+        return none_done(13);
+    }
+    let ids = found.ids;
+    let capacities = found.capacities;
+    let periods = found.periods;
+    let tasks = found.tasks;
+    let n = plan.count as usize;
+    let w = walk(
+        left,
+        position,
+        rest,
+        wait,
+        age,
+        &capacities,
+        &periods,
+        &tasks,
+        n,
+        ticks,
+    );
+    let done = w.done;
+    let turn = w.turn;
+    if done < 1 {
+        return none_done(0);
+    }
+    if turn.had == 1 {
+        return RunOutcome {
+            number: 0,
+            done,
+            answer: finished(plan, turn, age),
+        };
+    }
+    RunOutcome {
+        number: 0,
+        done,
+        answer: told(&ids, n, turn),
+    }
+}
+
+impl Dispatcher {
+    pub fn run(mut self, ticks: u32) -> Ran
+        ensures { λ r. ⌜ Runs self ticks r ⌝ }
+    {
+        let mut left = self.left;
+        let mut position = self.position;
+        let mut rest = self.rest;
+        let mut wait = self.wait;
+        let mut age = self.age;
+        let r = ran(
+            self.plan,
+            &mut left,
+            &mut position,
+            &mut rest,
+            &mut wait,
+            &mut age,
+            ticks,
+        );
+        self.left = left;
+        self.position = position;
+        self.rest = rest;
+        self.wait = wait;
+        self.age = age;
+        let answer = r.answer;
+        Ran {
+            refusal: Refusal {
+                number: r.number,
+                place: 0,
+            },
+            done: r.done,
+            answer,
+            state: self,
+        }
+    }
+}

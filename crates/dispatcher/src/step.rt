@@ -1,0 +1,69 @@
+// One tick over lent arrays: it copies neither record nor array, so a run of ticks costs no more than its loops.
+ghost use mathlib.Core.Path.{_≡_};
+ghost use Prim.Native.Nat.{ℕ, _-_, _≤_, _<_};
+ghost use Rattle.plan.specs.declared.Plan.{Plan};
+ghost use Rattle.dispatcher.specs.declared.Dispatcher.{Dispatcher};
+ghost use Rattle.dispatcher.specs.Tick.{next};
+ghost use Rattle.dispatcher.specs.Lent.{stateOf, Small, Columned, Refilled, Served, Stepped};
+use crate::Turn;
+use crate::jobs::fall;
+use crate::jobs::grow;
+use crate::jobs::worker;
+use crate::server::advance;
+use crate::server::holder;
+use crate::server::refill;
+
+// The first guest with capacity left has the tick, inside it the first task with run left: each loses one.
+fn serve(left: &mut [u32; 8], rest: &mut [u32; 128], tasks: &[u32; 16], n: usize) -> Turn
+    requires { ⌜ Small n (now tasks) ⌝ }
+    ensures { λ r. ⌜ ((d : Dispatcher) → Refilled d n (now (tasks .entry)) (now (left .entry)) (now (rest .entry)) → Served d (now (left .exit)) (now (rest .exit)) r) ⌝ }
+{
+    let k = holder(left, n);
+    if n <= k {
+        return Turn {
+            guest: k,
+            task: 0,
+            had: 0,
+        };
+    }
+    left[k] = left[k] - 1;
+    let many = tasks[k] as usize;
+    let t = worker(rest, k, many);
+    if many <= t {
+        return Turn {
+            guest: k,
+            task: t,
+            had: 0,
+        };
+    }
+    let at = k * 16 + t;
+    let had = rest[at];
+    rest[at] = had - 1;
+    Turn {
+        guest: k,
+        task: t,
+        had,
+    }
+}
+
+// One tick, in order; the ages go by the runs left at its start.
+pub fn step(
+    left: &mut [u32; 8],
+    position: &mut [u32; 8],
+    rest: &mut [u32; 128],
+    wait: &mut [u32; 128],
+    age: &mut [u32; 128],
+    capacities: &[u32; 16],
+    periods: &[u32; 16],
+    tasks: &[u32; 16],
+    n: usize,
+) -> Turn
+    requires { ⌜ Small n (now tasks) ⌝ }
+    ensures { λ r. ⌜ ((p : Plan) → Columned p n (now (capacities .entry)) (now (periods .entry)) (now (tasks .entry)) → Stepped (stateOf p (now (left .entry)) (now (position .entry)) (now (rest .entry)) (now (wait .entry)) (now (age .entry))) (stateOf p (now (left .exit)) (now (position .exit)) (now (rest .exit)) (now (wait .exit)) (now (age .exit))) r) ⌝ }
+{
+    refill(left, position, capacities, n);
+    grow(age, rest);
+    fall(wait);
+    advance(position, periods, n);
+    serve(left, rest, tasks, n)
+}

@@ -1,0 +1,10 @@
+-- The theorems are in ReadBack, OnlyOurs and Exact; the other files are what they are made of.
+pub mod Words
+pub mod BlockBack
+pub mod BlockOnly
+pub mod Joined
+pub mod ReadBack
+pub mod OnlyOurs
+pub mod LayoutBytes
+pub mod Exact
+pub mod Worked

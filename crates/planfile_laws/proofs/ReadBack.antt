@@ -1,0 +1,129 @@
+-- Read-back: a plan that passes the records' order, written and read, is that plan with zeros past its guests and tasks. Assumes nothing.
+use mathlib.Core.Path.{_≡_, refl, sym, ap, _∙_}
+use mathlib.Core.Bool.{true}
+use mathlib.Core.List.{List, _++_, append-nil}
+use Prim.Native.Nat.{ℕ, zero, suc, _+_, _*_, _%_, _≤_, _<_}
+use native.Mathlib.Omega.{arith}
+use lib.ListN.{length, drop, replicate, drop-of-length-le}
+use borrow.Author.Tests.{eq-eqb, le-leb}
+use Rattle.plan.specs.declared.Guest.{Guest}
+use Rattle.plan.specs.declared.Plan.{Plan}
+use Rattle.plan.specs.Records.{guestAt, blank}
+use Rattle.plan.specs.Ranges.{headOk, taskOk, tasksOk}
+use Rattle.plan.specs.First.{fine, orElse, firstRefused}
+use Rattle.plan.specs.Order.{newId, planRefusal}
+use Rattle.block.specs.Reading.{guestOf}
+use Rattle.block.specs.Writing.{blockOf, written}
+use Rattle.planfile.specs.File.{blockAt, idAt, blocksIn, sizeOk, numberAt, fileRefusal}
+use Rattle.planfile.specs.Records.{recordsOf, readOf}
+use Rattle.planfile_laws.specs.File.{fileOf, clearedGuest, cleared}
+use Rattle.planfile_laws.specs.Fits.{PlanFits}
+use Rattle.lists.proofs.All.{and-true, all-by, all-ext}
+use Rattle.lists.proofs.Table.{table-ext}
+use Rattle.plan.proofs.Ranges.{TaskIn, HeadIn, GuestIn}
+use Rattle.plan.proofs.Order.{PlanIn, plan-in}
+use Rattle.block.proofs.Writing.{none, by-none}
+use Rattle.planfile.proofs.File.{sized}
+use Rattle.planfile.proofs.Records.{reading, read-fine}
+use Rattle.planfile_laws.proofs.BlockBack.{block-length, number-back, guest-back}
+use Rattle.planfile_laws.proofs.Joined.{joined-length, joined-at}
+
+-- no place has a number, so nothing is refused
+pub first-fine : (f : ℕ → ℕ) (m k : ℕ) → ((z : ℕ) → k ≤ z → z < k + m → f z ≡ 0) → firstRefused f m k ≡ fine
+unfolding firstRefused orElse
+first-fine f zero k h = refl
+first-fine f (suc m) k h = rw (h k (omega arith) (omega arith)) (first-fine f m (suc k) (λ z l b. h z (omega arith) (omega arith)))
+
+-- a guest in its ranges passes the tests
+head-passes : {id capacity period tasks : ℕ} → HeadIn id capacity period tasks → headOk id capacity period tasks ≡ true
+unfolding headOk
+head-passes {id} {capacity} {period} {tasks} h =
+    and-true (and-true (and-true (le-leb _ _ (h .named)) (and-true (le-leb _ _ (h .some)) (le-leb _ _ (h .fits)))) (and-true (le-leb 1 period (omega arith)) (le-leb _ _ (h .short))))
+    (and-true (le-leb _ _ (h .many)) (le-leb _ _ (h .few)))
+
+task-passes : {run every deadline : ℕ} → TaskIn run every deadline → taskOk run every deadline ≡ true
+unfolding taskOk
+task-passes t =
+    and-true (and-true (and-true (le-leb _ _ (t .runs)) (le-leb _ _ (t .run-short))) (and-true (le-leb _ _ (t .some)) (le-leb _ _ (t .short))))
+    (and-true (le-leb _ _ (t .due)) (le-leb _ _ (t .in-time)))
+
+tasks-pass : (g : Guest) → GuestIn g → tasksOk g ≡ true
+unfolding tasksOk
+tasks-pass g i = all-by _ (g .tasks) (λ k l. task-passes (i .tasks k l))
+
+module _ (p : Plan) (fits : PlanFits p) (ok : planRefusal p .number ≡ 0) where
+  inside : PlanIn p
+  inside = plan-in p ok
+
+  blocks : ℕ → List ℕ
+  blocks k = blockOf (guestAt (p .guests) k) k
+
+  s : List ℕ
+  s = fileOf p
+
+  size : length s ≡ 512 * p .count
+  unfolding s fileOf blocks
+  size = joined-length blocks (λ k. block-length (guestAt (p .guests) k) k) (p .count)
+
+  block-at : (k : ℕ) → k < p .count → blockAt s k ≡ blockOf (guestAt (p .guests) k) k
+  unfolding s fileOf blocks
+  block-at k l = joined-at blocks (λ k. block-length (guestAt (p .guests) k) k) (p .count) k l
+
+  guest-at : (k : ℕ) → k < p .count → guestOf (blockAt s k) ≡ clearedGuest (guestAt (p .guests) k)
+  guest-at k l =
+      let i = inside .guests k l in
+      ap (λ (b : List ℕ). guestOf b) (block-at k l)
+      ∙ guest-back (guestAt (p .guests) k) k (fits k l) (omega (arith, inside .few)) (head-passes (i .head)) (tasks-pass (guestAt (p .guests) k) i)
+
+  new-at : (k : ℕ) → k < p .count → newId (idAt s) k ≡ true
+  unfolding newId
+  new-at k l =
+      let id : (j : ℕ) → j ≤ k → idAt s j ≡ guestAt (p .guests) j .id = λ j m. ap (λ (g : Guest). g .id) (guest-at j (omega arith)) in
+      all-ext _ _ k (λ j m. rw (id j (omega arith), id k (omega arith)) refl) ∙ inside .new k l
+
+  number-zero : (k : ℕ) → k < p .count → numberAt s k ≡ 0
+  unfolding numberAt
+  number-zero k l =
+      let i = inside .guests k l in
+      rw (block-at k l)
+      (number-back (guestAt (p .guests) k) k (fits k l) (omega (arith, inside .few)) (head-passes (i .head)) (tasks-pass (guestAt (p .guests) k) i) (newId (idAt s) k) (new-at k l))
+
+  count-is : blocksIn s ≡ p .count
+  count-is = rw size (omega arith)
+
+  size-right : sizeOk (length s) ≡ true
+  size-right =
+      let a = inside .some in
+      let b = inside .few in
+      rw size
+      (and-true (and-true (le-leb 1 (512 * p .count) (omega arith)) (le-leb (512 * p .count) 4096 (omega arith))) (eq-eqb (512 * p .count % 512) 0 (omega arith)))
+
+  nothing-refused : fine ≡ fileRefusal s
+  nothing-refused =
+      sym (first-fine (numberAt s) (blocksIn s) 0 (λ z l m. number-zero z (omega (arith, count-is)))) ∙ sized s size-right
+
+  records-are : recordsOf s (p .count) ≡ cleared p .guests
+  unfolding recordsOf cleared
+  records-are = ap (λ (gs : List Guest). gs ++ drop (p .count) (replicate 8 blank)) (table-ext _ _ (p .count) guest-at)
+
+  -- the whole file
+  back : readOf s ≡ reading fine (cleared p)
+  unfolding cleared
+  back =
+      sym (read-fine s fine nothing-refused (omega arith))
+      ∙ ap (λ (n : ℕ). reading fine (record { count = n; guests = recordsOf s n })) count-is
+      ∙ ap (λ (gs : List Guest). reading fine (record { count = p .count; guests = gs })) records-are
+
+-- for records that pass the check, the file of their blocks is read without a refusal as those records, with zeros past the counts
+pub read-back : (p : Plan) → PlanFits p → planRefusal p .number ≡ 0 → readOf (fileOf p) ≡ record { refusal = fine; plan = cleared p }
+unfolding s
+read-back p fits ok = back p fits ok
+
+-- and each block of that file is what the writer leaves in a lent buffer of 512 bytes
+pub written-so : (p : Plan) → planRefusal p .number ≡ 0 → (k : ℕ) → k < p .count → (before : List ℕ) → length before ≡ 512
+    → written (guestAt (p .guests) k) k before ≡ blockOf (guestAt (p .guests) k) k
+written-so p ok k l before e =
+    let i = plan-in p ok in
+    let g : Guest = guestAt (p .guests) k in
+    sym (by-none _ (blockOf g k) before (sym (none g k (length before) (omega arith) (omega (arith, i .few)) (head-passes (i .guests k l .head)) (tasks-pass g (i .guests k l)))))
+    ∙ rw (drop-of-length-le before {i = 512} (omega arith), append-nil) refl

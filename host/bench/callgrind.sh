@@ -1,0 +1,37 @@
+#!/bin/sh
+# Prints the instructions of one call, of the library and of plain Rust, for each case or the named ones.
+# The count of a call is the difference between 30 calls and 10, so that the start of the program falls out.
+# From the folder host: bench/callgrind.sh [NAME..]
+set -eu
+cd "$(dirname "$0")/.."
+command -v valgrind >/dev/null || { echo "valgrind is not here: nothing is counted" >&2; exit 0; }
+cargo build --quiet --release --package bench
+bench=../target/host/release/bench
+
+# The instructions of so many calls: NAME SIDE TIMES
+count() {
+    valgrind --tool=callgrind --callgrind-out-file=/dev/null "$bench" --one "$1" "$2" --times "$3" 2>&1 |
+        sed -n 's/.*Collected : \([0-9]*\).*/\1/p'
+}
+
+# The instructions of one call: NAME SIDE
+per_call() {
+    case "$1" in
+        run-*) few=1 more=2 ;; # a million ticks each
+        *) few=10 more=30 ;;
+    esac
+    echo $((($(count "$1" "$2" "$more") - $(count "$1" "$2" "$few")) / (more - few)))
+}
+
+names=$("$bench" --list)
+for name in "$@"; do
+    echo "$names" | grep -qx -e "$name" || { echo "no such case: $name" >&2; exit 2; }
+done
+
+printf '%-26s %14s %14s %7s\n' case ours plain ratio
+for name in ${*:-$names}; do
+    ours=$(per_call "$name" --ours)
+    plain=$(per_call "$name" --plain)
+    ratio=$(awk "BEGIN { printf \"%.2f\", $ours / $plain }")
+    printf '%-26s %14s %14s %7s\n' "$name" "$ours" "$plain" "$ratio"
+done

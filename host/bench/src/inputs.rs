@@ -1,0 +1,132 @@
+//! The plans that are measured, as blocks: each side reads them by its own reader.
+
+use plain::Guest;
+use plain::block::{BLOCK, write};
+
+/// Guests' periods with no common factor.
+const PERIODS: [u32; 8] = [
+    9_973, 11_003, 13_007, 17_011, 19_013, 23_017, 29_021, 31_019,
+];
+
+/// Plan A of document 01.
+pub fn plan_a() -> Vec<u8> {
+    blocks(&[
+        guest(7, 2, 5, &[[1, 20, 20]]),
+        guest(9, 8, 20, &[[10, 50, 50], [8, 100, 100]]),
+    ])
+}
+
+/// 8 guests of 16 tasks with periods near 1,000,000, all met: each recurrence has a few turns.
+pub fn near_a_million() -> Vec<u8> {
+    full(|guest, task| {
+        let every = 999_983 - 1_009 * task - 13 * guest;
+        [3_900, every, every]
+    })
+}
+
+/// 8 guests of 16 tasks whose periods grow to 1,000,000, all met: each recurrence has many turns.
+pub fn growing() -> Vec<u8> {
+    full(|guest, task| {
+        let every = 60_000 + 62_600 * task - 17 * guest;
+        [every / 250, every, every]
+    })
+}
+
+/// The same, but for the very last task, which is unmet.
+pub fn last_unmet() -> Vec<u8> {
+    full(|guest, task| {
+        let every = 60_000 + 62_600 * task - 17 * guest;
+        let deadline = if guest == 7 && task == 15 {
+            100_000
+        } else {
+            every
+        };
+        [every / 250, every, deadline]
+    })
+}
+
+/// 7 guests that leave one tick in 128, and below them a guest that has to climb for each of its own.
+pub fn long_climb() -> Vec<u8> {
+    let mut guests: Vec<Guest> = (1..8)
+        .map(|id| guest(id, 1, 1 << id, &[[1, 1_000, 1_000]]))
+        .collect();
+    guests.push(guest(8, 700, 100_000, &[[100, 1_000_000, 1_000_000]; 16]));
+    blocks(&guests)
+}
+
+/// A guest of period 1,000,000 under 3 short ones, with 16 tasks that need some half of it.
+pub fn half_a_million() -> Vec<u8> {
+    let mut guests = short_guests();
+    guests.push(guest(
+        4,
+        1,
+        1_000_000,
+        &[[26_600, 1_000_000, 1_000_000]; 16],
+    ));
+    blocks(&guests)
+}
+
+/// The same, with tasks that no capacity is enough for.
+pub fn no_capacity() -> Vec<u8> {
+    let mut guests = short_guests();
+    guests.push(guest(
+        4,
+        1,
+        1_000_000,
+        &[[60_000, 1_000_000, 1_000_000]; 16],
+    ));
+    blocks(&guests)
+}
+
+fn short_guests() -> Vec<Guest> {
+    [(1, 997), (2, 1_999), (3, 4_001)]
+        .iter()
+        .map(|(id, period)| guest(*id, period / 20, *period, &[[1, 900_000, 900_000]]))
+        .collect()
+}
+
+/// 8 guests of 16 tasks with jobs that last longer than any run.
+pub fn endless() -> Vec<u8> {
+    let mut guests: Vec<Guest> = guests(|_, _| [1_000_000, 1_000_000, 1_000_000]).collect();
+    for guest in &mut guests {
+        guest.charge = 65_535;
+    }
+    blocks(&guests)
+}
+
+fn full(task: impl Fn(u32, u32) -> [u32; 3]) -> Vec<u8> {
+    blocks(&guests(task).collect::<Vec<_>>())
+}
+
+/// 8 guests, each with a tenth of the core and 16 tasks.
+fn guests(task: impl Fn(u32, u32) -> [u32; 3]) -> impl Iterator<Item = Guest> {
+    (0..8).map(move |at| {
+        let period = PERIODS[at as usize];
+        let tasks: Vec<[u32; 3]> = (0..16).map(|number| task(at, number)).collect();
+        guest(at + 1, period / 10, period, &tasks)
+    })
+}
+
+fn guest(id: u32, capacity: u32, period: u32, tasks: &[[u32; 3]]) -> Guest {
+    let mut guest = Guest {
+        id,
+        capacity,
+        period,
+        tasks: tasks.len() as u32,
+        ..Guest::default()
+    };
+    for (at, [run, every, deadline]) in tasks.iter().enumerate() {
+        guest.run[at] = *run;
+        guest.every[at] = *every;
+        guest.deadline[at] = *deadline;
+    }
+    guest
+}
+
+fn blocks(guests: &[Guest]) -> Vec<u8> {
+    let mut bytes = vec![0; BLOCK * guests.len()];
+    for ((place, guest), block) in (0..).zip(guests).zip(bytes.chunks_mut(BLOCK)) {
+        write(guest, place, block).expect("a well-formed guest");
+    }
+    bytes
+}

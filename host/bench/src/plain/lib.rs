@@ -1,0 +1,15 @@
+//! The product's calls as one would write them in plain Rust, to be measured against: fast and
+//! idiomatic, with the product's algorithms and its checks, and nothing proved.
+#![forbid(unsafe_code)]
+
+pub mod block;
+pub mod capacity;
+pub mod dispatcher;
+pub mod records;
+pub mod verdict;
+
+#[cfg(test)]
+mod tests;
+
+pub use dispatcher::Dispatcher;
+pub use records::{Guest, Plan, Refusal};

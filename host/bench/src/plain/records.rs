@@ -1,0 +1,99 @@
+//! A plan as records, and the records' order.
+
+/// The longest period and the longest run, in ticks.
+pub const LONGEST: u32 = 1_000_000;
+
+#[derive(Clone, Copy, Debug, Default, PartialEq, Eq)]
+pub struct Guest {
+    pub id: u32,
+    pub capacity: u32,
+    pub period: u32,
+    pub tasks: u32,
+    pub charge: u16,
+    pub run: [u32; 16],
+    pub every: [u32; 16],
+    pub deadline: [u32; 16],
+}
+
+#[derive(Clone, Copy, Debug, Default, PartialEq, Eq)]
+pub struct Plan {
+    pub count: u32,
+    pub guests: [Guest; 8],
+}
+
+/// A refusal's number and place.
+#[derive(Clone, Copy, Debug, PartialEq, Eq)]
+pub struct Refusal {
+    pub number: u32,
+    pub place: u32,
+}
+
+impl Refusal {
+    pub fn new(number: u32, place: u32) -> Refusal {
+        Refusal { number, place }
+    }
+}
+
+impl Guest {
+    pub fn charged_run(&self, task: usize) -> u32 {
+        self.run[task] + u32::from(self.charge)
+    }
+
+    pub fn head_in_range(&self) -> bool {
+        self.id != 0
+            && (1..=LONGEST).contains(&self.period)
+            && (1..=self.period).contains(&self.capacity)
+            && (1..=16).contains(&self.tasks)
+    }
+
+    pub fn tasks_in_range(&self) -> bool {
+        let tasks = self.tasks as usize;
+        self.run[..tasks]
+            .iter()
+            .zip(&self.every[..tasks])
+            .zip(&self.deadline[..tasks])
+            .all(|((run, every), deadline)| {
+                (1..=LONGEST).contains(run)
+                    && (1..=LONGEST).contains(every)
+                    && (1..=*every).contains(deadline)
+            })
+    }
+
+    /// The place in the record of a task named by its number from 1.
+    pub fn task_place(&self, task: u32) -> Result<usize, Refusal> {
+        match (1..=self.tasks).contains(&task) {
+            true => Ok(task as usize - 1),
+            false => Err(Refusal::new(8, 0)),
+        }
+    }
+}
+
+impl Plan {
+    /// The guests of a plan that is checked.
+    pub fn listed(&self) -> &[Guest] {
+        &self.guests[..self.count as usize]
+    }
+
+    pub fn check(&self) -> Result<(), Refusal> {
+        if !(1..=8).contains(&self.count) {
+            return Err(Refusal::new(1, 0));
+        }
+        for (place, guest) in self.listed().iter().enumerate() {
+            let seen = self.guests[..place].iter().any(|one| one.id == guest.id);
+            if seen || !guest.head_in_range() {
+                return Err(Refusal::new(4, place as u32));
+            }
+            if !guest.tasks_in_range() {
+                return Err(Refusal::new(6, place as u32));
+            }
+        }
+        Ok(())
+    }
+
+    pub fn place_of(&self, id: u32) -> Result<usize, Refusal> {
+        self.listed()
+            .iter()
+            .position(|guest| guest.id == id)
+            .ok_or(Refusal::new(7, 0))
+    }
+}

@@ -1,0 +1,116 @@
+//! Verdicts by the plain recurrence.
+
+use crate::{Guest, Plan, Refusal};
+
+#[derive(Clone, Copy, Debug, PartialEq, Eq)]
+pub enum TaskVerdict {
+    Met(u32),
+    Unmet,
+    Unjudged,
+}
+
+impl Plan {
+    /// The response of a fitted guest.
+    pub fn guest_verdict(&self, id: u32) -> Result<Option<u32>, Refusal> {
+        self.check()?;
+        Ok(self.response(self.place_of(id)?))
+    }
+
+    pub fn task_verdict(&self, id: u32, task: u32) -> Result<TaskVerdict, Refusal> {
+        self.check()?;
+        let guest = self.place_of(id)?;
+        let task = self.guests[guest].task_place(task)?;
+        if !self.judged(guest) {
+            return Ok(TaskVerdict::Unjudged);
+        }
+        let (above, own) = (&self.guests[..guest], &self.guests[guest]);
+        Ok(match task_response(above, own, own.capacity, task) {
+            Some(response) => TaskVerdict::Met(response),
+            None => TaskVerdict::Unmet,
+        })
+    }
+
+    pub fn accepted(&self) -> Result<bool, Refusal> {
+        self.check()?;
+        let count = self.count as usize;
+        let all_fitted = (0..count).all(|guest| self.response(guest).is_some());
+        let accepted = all_fitted
+            && (0..count).all(|guest| {
+                let (above, own) = (&self.guests[..guest], &self.guests[guest]);
+                all_met(above, own, own.capacity)
+            });
+        Ok(accepted)
+    }
+
+    /// Whether the guest and all guests above are fitted.
+    pub(crate) fn judged(&self, guest: usize) -> bool {
+        (0..=guest).all(|at| self.response(at).is_some())
+    }
+
+    fn response(&self, guest: usize) -> Option<u32> {
+        let own = &self.guests[guest];
+        guest_response(&self.guests[..guest], own.capacity, own.period)
+    }
+}
+
+/// The least solution of the guest's equation, if it is within the period.
+pub fn guest_response(above: &[Guest], capacity: u32, period: u32) -> Option<u32> {
+    let mut x = capacity;
+    loop {
+        let next = capacity + interference(above, x);
+        if next > period {
+            return None;
+        }
+        if next == x {
+            return Some(x);
+        }
+        x = next;
+    }
+}
+
+/// Whether all tasks of a judged guest are met at this capacity.
+pub fn all_met(above: &[Guest], own: &Guest, capacity: u32) -> bool {
+    (0..own.tasks as usize).all(|task| task_response(above, own, capacity, task).is_some())
+}
+
+/// The response of a task of a judged guest at this capacity: the recurrence from 1 on, cut off where
+/// no solution can be within the deadline.
+fn task_response(above: &[Guest], own: &Guest, capacity: u32, task: usize) -> Option<u32> {
+    let period = own.period;
+    let gap = period - capacity;
+    let limit = own.deadline[task].checked_sub(gap)?;
+    let mut w = 1;
+    while w <= limit {
+        let load = load(own, task, w + gap);
+        if load > u64::from(limit) {
+            return None;
+        }
+        let load = load as u32;
+        let full = (load - 1) / capacity;
+        if full > limit / period {
+            return None;
+        }
+        let next = load + full * gap + interference(above, w.saturating_sub(full * period));
+        if next == w {
+            return Some(w + gap);
+        }
+        w = next;
+    }
+    None
+}
+
+fn load(own: &Guest, task: usize, window: u32) -> u64 {
+    let above = own.run[..task].iter().zip(&own.every[..task]);
+    above.fold(u64::from(own.charged_run(task)), |sum, (run, every)| {
+        let charged = u64::from(run + u32::from(own.charge));
+        sum + u64::from(window.div_ceil(*every)) * charged
+    })
+}
+
+/// What guests above take of a window of at most 1,000,000 ticks.
+fn interference(above: &[Guest], window: u32) -> u32 {
+    above
+        .iter()
+        .map(|guest| window.div_ceil(guest.period) * guest.capacity)
+        .sum()
+}

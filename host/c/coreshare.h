@@ -1,0 +1,164 @@
+/* The core-sharing library's C interface, for x86-64. Link libhost.a, which `rt staticlib host` writes.
+ *
+ * On one core, up to 8 guests share the time, each with up to 16 tasks. Every rule stands in document 01.
+ *
+ * - Records and states cross by value, and bytes are lent for the call alone: the library keeps no pointer and
+ *   no state of its own, so calls from several threads need no lock.
+ * - No call asks anything of its input: any value of any field is taken, and what is out of range is
+ *   refused by its number. Number 0 is no refusal; the place of a refusal 7 to 14 is 0.
+ * - A pointer must be good for its length, for the whole call, and not be NULL even where the length is 0.
+ * - CsGuest has two bytes of padding after charge. The library neither reads nor promises them: compare
+ *   records field by field, not by memcmp, and clear a record before its bytes are sent anywhere.
+ * - A state is 3,300 bytes and crosses on the stack, there and back.
+ * - Like any compiled C, the library may call memcpy, memmove, memset and memcmp, also where there is no C library.
+ */
+#ifndef CORESHARE_H
+#define CORESHARE_H
+
+#include <stddef.h>
+#include <stdint.h>
+
+#ifdef __cplusplus
+extern "C" {
+#endif
+
+/* The bytes of one guest's block. */
+#define CS_BLOCK 512
+
+/* One guest's record. Entries past the number of tasks are not looked at. */
+typedef struct CsGuest {
+    uint32_t id;           /* not 0, once in a plan */
+    uint32_t capacity;     /* 1 to the period */
+    uint32_t period;       /* 1 to 1,000,000 ticks */
+    uint32_t tasks;        /* number of tasks, 1 to 16 */
+    uint16_t charge;       /* added once to every task's run */
+    uint32_t run[16];      /* 1 to 1,000,000 */
+    uint32_t every[16];    /* the task's period, 1 to 1,000,000 */
+    uint32_t deadline[16]; /* 1 to the task's period */
+} CsGuest;
+
+/* A plan: guests in priority order, first is highest. Guests past the count are not looked at. */
+typedef struct CsPlan {
+    uint32_t count; /* 1 to 8 */
+    CsGuest guests[8];
+} CsPlan;
+
+/* A refusal's number and place; number 0 is no refusal. */
+typedef struct CsRefusal {
+    uint32_t number;
+    uint32_t place;
+} CsRefusal;
+
+typedef struct CsRead {
+    CsRefusal refusal;
+    CsPlan plan; /* zero throughout on a refusal */
+} CsRead;
+
+/* A verdict with its ticks, both 0 on a refusal. */
+typedef struct CsVerdict {
+    uint32_t number;
+    uint32_t place;
+    uint32_t verdict;
+    uint32_t ticks;
+} CsVerdict;
+
+/* The dispatcher's state. Task t of guest g, both from 0, has its numbers at 16 * g + t. */
+typedef struct CsDispatcher {
+    CsPlan plan;
+    uint32_t left[8];     /* capacity left, 0 to the capacity */
+    uint32_t position[8]; /* position in the period, 0 to the period less 1 */
+    uint32_t rest[128];   /* run left, at most the charged run */
+    uint32_t wait[128];   /* ticks until the next release may be taken, at most the task's period */
+    uint32_t age[128];    /* age of the last job, at most 1,000,000 */
+} CsDispatcher;
+
+typedef struct CsStart {
+    CsRefusal refusal;
+    CsDispatcher dispatcher; /* zero throughout on a refusal */
+} CsStart;
+
+typedef struct CsReleased {
+    CsRefusal refusal;
+    CsDispatcher dispatcher; /* unchanged on a refusal */
+} CsReleased;
+
+/* What had a tick. */
+enum { CS_NO_ANSWER, CS_NOBODY, CS_IDLED, CS_RAN, CS_FINISHED };
+
+typedef struct CsAnswer {
+    uint32_t kind;
+    uint32_t guest; /* its id, for idled, ran and finished */
+    uint32_t task;  /* its number from 1, for ran and finished */
+    uint32_t age;   /* for finished */
+    int32_t margin; /* for finished: the deadline less the age, negative when late */
+} CsAnswer;
+
+typedef struct CsTicked {
+    CsRefusal refusal;
+    CsAnswer answer;         /* no answer on a refusal */
+    CsDispatcher dispatcher; /* unchanged on a refusal */
+} CsTicked;
+
+typedef struct CsRun {
+    CsRefusal refusal;
+    uint32_t done;           /* ticks done, 0 on a refusal */
+    CsAnswer answer;         /* the last tick's; no answer if none was done */
+    CsDispatcher dispatcher; /* unchanged on a refusal */
+} CsRun;
+
+/* Reads a plan's blocks.
+ * Refusals: 1 for the length; then block by block 2 sum, 3 kind or place, 4 id, capacity, period or number of
+ * tasks, 5 a byte that must be zero, 6 a task; 2 to 6 with the block's place. */
+CsRead cs_read(const uint8_t *bytes, size_t length);
+
+/* Checks records as a plan.
+ * Refusals: 1 for the count; then guest by guest 4, 6, with the guest's place. */
+CsRefusal cs_check(CsPlan plan);
+
+/* Writes one guest's block at a place from 0 to the first 512 bytes of the buffer and to no others.
+ * Refusals, with nothing written: 12 a buffer shorter than 512; 3 a place above 7; 4; 6; the last three with the
+ * place handed in. */
+CsRefusal cs_write(CsGuest guest, uint32_t place, uint8_t *buffer, size_t length);
+
+/* Finds a guest's block in a plan's blocks: with number 0 it is the 512 bytes from 512 * place on.
+ * Refusals: those of cs_read, then 7 no such guest. */
+CsRefusal cs_find(const uint8_t *bytes, size_t length, uint32_t id);
+
+/* Verdict of a guest: 1 fitted, ticks is its response; 2 unfit.
+ * Refusals: those of cs_check, then 7 no such guest. */
+CsVerdict cs_guest_verdict(CsPlan plan, uint32_t id);
+
+/* Verdict of a task, by its number from 1: 1 met, ticks is its response; 2 unmet; 3 unjudged.
+ * Refusals: those of cs_check, then 7 no such guest, 8 no such task. */
+CsVerdict cs_task_verdict(CsPlan plan, uint32_t id, uint32_t task);
+
+/* Verdict of a plan: 1 accepted; 2 not accepted.
+ * Refusals: those of cs_check. */
+CsVerdict cs_accept(CsPlan plan);
+
+/* The smallest capacity at which the guest is fitted and all its tasks are met: verdict 1, ticks is the capacity.
+ * Refusals: those of cs_check, then 7 no such guest, 11 no capacity works. */
+CsVerdict cs_smallest_capacity(CsPlan plan, uint32_t id);
+
+/* A fresh state over the records as handed over; the plan need not be an accepted one.
+ * Refusals: those of cs_check. */
+CsStart cs_fresh(CsPlan plan);
+
+/* Releases a job of a task, by its number from 1.
+ * Refusals: 14 a state outside its ranges, 7 no such guest, 8 no such task, 9 before its period has passed,
+ * 10 while its last job is unfinished. */
+CsReleased cs_release(CsDispatcher dispatcher, uint32_t id, uint32_t task);
+
+/* One tick.
+ * Refusal: 14 a state outside its ranges. */
+CsTicked cs_tick(CsDispatcher dispatcher);
+
+/* Ticks until one finishes a job or their number is used up.
+ * Refusals: 14 a state outside its ranges, 13 more than 1,000,000 ticks. */
+CsRun cs_run(CsDispatcher dispatcher, uint32_t ticks);
+
+#ifdef __cplusplus
+}
+#endif
+
+#endif

@@ -1,0 +1,95 @@
+/* Plan A of document 01 from C: its blocks written, read and judged, and its dispatcher run until a job finishes.
+ * From this folder: cc -O2 example.c ../../target/staticlib/libhost.a -o example */
+#include "coreshare.h"
+
+#include <stdio.h>
+
+/* A record with one task; more are added by hand. */
+static CsGuest guest(uint32_t id, uint32_t capacity, uint32_t period, uint32_t run, uint32_t every) {
+    CsGuest made = {.id = id, .capacity = capacity, .period = period, .tasks = 1};
+    made.run[0] = run;
+    made.every[0] = every;
+    made.deadline[0] = every;
+    return made;
+}
+
+/* Ends with the number where something is refused. */
+static int refused(const char *what, CsRefusal refusal) {
+    if (refusal.number == 0) {
+        return 0;
+    }
+    printf("%s refused %u at %u\n", what, refusal.number, refusal.place);
+    return 1;
+}
+
+static int write_plan_a(uint8_t bytes[2 * CS_BLOCK]) {
+    CsGuest first = guest(7, 2, 5, 1, 20);
+    CsGuest second = guest(9, 8, 20, 10, 50);
+    second.tasks = 2;
+    second.run[1] = 8;
+    second.every[1] = 100;
+    second.deadline[1] = 100;
+    return refused("write", cs_write(first, 0, bytes, CS_BLOCK)) ||
+           refused("write", cs_write(second, 1, bytes + CS_BLOCK, CS_BLOCK));
+}
+
+static void print_guest(const CsPlan *plan, const CsGuest *guest) {
+    CsVerdict of_guest = cs_guest_verdict(*plan, guest->id);
+    if (of_guest.verdict == 1) {
+        printf("guest %u fitted %u\n", guest->id, of_guest.ticks);
+    } else {
+        printf("guest %u unfit\n", guest->id);
+    }
+    for (uint32_t task = 1; task <= guest->tasks; task++) {
+        CsVerdict of_task = cs_task_verdict(*plan, guest->id, task);
+        if (of_task.verdict == 1) {
+            printf("task %u met %u\n", task, of_task.ticks);
+        } else {
+            printf("task %u %s\n", task, of_task.verdict == 2 ? "unmet" : "unjudged");
+        }
+    }
+}
+
+static void print_verdicts(const CsPlan *plan) {
+    for (uint32_t at = 0; at < plan->count; at++) {
+        print_guest(plan, &plan->guests[at]);
+    }
+    printf("plan %s\n", cs_accept(*plan).verdict == 1 ? "accepted" : "not accepted");
+    printf("guest 9 needs a capacity of %u\n", cs_smallest_capacity(*plan, 9).ticks);
+}
+
+static int run_until_finished(const CsPlan *plan) {
+    CsStart start = cs_fresh(*plan);
+    if (refused("start", start.refusal)) {
+        return 1;
+    }
+    CsReleased released = cs_release(start.dispatcher, 9, 1);
+    if (refused("release", released.refusal)) {
+        return 1;
+    }
+    CsRun run = cs_run(released.dispatcher, 1000);
+    if (refused("run", run.refusal) || run.answer.kind != CS_FINISHED) {
+        return 1;
+    }
+    printf("after %u ticks guest %u finished task %u: age %u, margin %d\n", run.done, run.answer.guest, run.answer.task,
+           run.answer.age, run.answer.margin);
+    return 0;
+}
+
+int main(void) {
+    uint8_t bytes[2 * CS_BLOCK];
+    if (write_plan_a(bytes)) {
+        return 1;
+    }
+    CsRefusal found = cs_find(bytes, sizeof bytes, 9);
+    if (refused("find", found)) {
+        return 1;
+    }
+    printf("guest 9 stands at byte %u\n", CS_BLOCK * found.place);
+    CsRead read = cs_read(bytes, sizeof bytes);
+    if (refused("read", read.refusal) || refused("check", cs_check(read.plan))) {
+        return 1;
+    }
+    print_verdicts(&read.plan);
+    return run_until_finished(&read.plan);
+}

@@ -1,0 +1,72 @@
+/* Prints the size, the alignment and each field's offset of every struct, as a C compiler lays them out.
+ * The wrapper's layout test prints the same from Rust and compares. */
+#include "coreshare.h"
+
+#include <stdio.h>
+
+#define STRUCT(name) printf(#name " size %zu align %zu\n", sizeof(name), _Alignof(name))
+#define FIELD(name, field) \
+    printf(#name "." #field " at %zu size %zu\n", offsetof(name, field), sizeof(((name *)0)->field))
+
+static void records(void) {
+    STRUCT(CsGuest);
+    FIELD(CsGuest, id);
+    FIELD(CsGuest, capacity);
+    FIELD(CsGuest, period);
+    FIELD(CsGuest, tasks);
+    FIELD(CsGuest, charge);
+    FIELD(CsGuest, run);
+    FIELD(CsGuest, every);
+    FIELD(CsGuest, deadline);
+    STRUCT(CsPlan);
+    FIELD(CsPlan, count);
+    FIELD(CsPlan, guests);
+    STRUCT(CsRefusal);
+    FIELD(CsRefusal, number);
+    FIELD(CsRefusal, place);
+    STRUCT(CsRead);
+    FIELD(CsRead, refusal);
+    FIELD(CsRead, plan);
+    STRUCT(CsVerdict);
+    FIELD(CsVerdict, number);
+    FIELD(CsVerdict, place);
+    FIELD(CsVerdict, verdict);
+    FIELD(CsVerdict, ticks);
+}
+
+static void dispatcher(void) {
+    STRUCT(CsDispatcher);
+    FIELD(CsDispatcher, plan);
+    FIELD(CsDispatcher, left);
+    FIELD(CsDispatcher, position);
+    FIELD(CsDispatcher, rest);
+    FIELD(CsDispatcher, wait);
+    FIELD(CsDispatcher, age);
+    STRUCT(CsStart);
+    FIELD(CsStart, refusal);
+    FIELD(CsStart, dispatcher);
+    STRUCT(CsReleased);
+    FIELD(CsReleased, refusal);
+    FIELD(CsReleased, dispatcher);
+    STRUCT(CsAnswer);
+    FIELD(CsAnswer, kind);
+    FIELD(CsAnswer, guest);
+    FIELD(CsAnswer, task);
+    FIELD(CsAnswer, age);
+    FIELD(CsAnswer, margin);
+    STRUCT(CsTicked);
+    FIELD(CsTicked, refusal);
+    FIELD(CsTicked, answer);
+    FIELD(CsTicked, dispatcher);
+    STRUCT(CsRun);
+    FIELD(CsRun, refusal);
+    FIELD(CsRun, done);
+    FIELD(CsRun, answer);
+    FIELD(CsRun, dispatcher);
+}
+
+int main(void) {
+    records();
+    dispatcher();
+    return 0;
+}

@@ -1,0 +1,137 @@
+//! A call of an export with its input, and its outcome whole.
+
+use crate::side::Side;
+use reference::dispatcher::{Dispatcher, Released, Run, Start, Ticked};
+use reference::plan::{Guest, Plan, Read, Refusal};
+use reference::verdict::Verdict;
+
+/// The exports' names, in the order of [`Call`].
+pub const EXPORTS: [&str; 12] = [
+    "cs_read",
+    "cs_check",
+    "cs_write",
+    "cs_find",
+    "cs_guest_verdict",
+    "cs_task_verdict",
+    "cs_accept",
+    "cs_smallest_capacity",
+    "cs_fresh",
+    "cs_release",
+    "cs_tick",
+    "cs_run",
+];
+
+#[derive(Clone, Debug, PartialEq)]
+pub enum Call {
+    Read(Vec<u8>),
+    Check(Box<Plan>),
+    Write(Box<Guest>, u32, Vec<u8>),
+    Find(Vec<u8>, u32),
+    GuestVerdict(Box<Plan>, u32),
+    TaskVerdict(Box<Plan>, u32, u32),
+    Accept(Box<Plan>),
+    SmallestCapacity(Box<Plan>, u32),
+    Fresh(Box<Plan>),
+    Release(Box<Dispatcher>, u32, u32),
+    Tick(Box<Dispatcher>),
+    Run(Box<Dispatcher>, u32),
+}
+
+/// All that a call gives back: the answer, the next state, and every lent byte that it may write.
+#[derive(Clone, Debug, PartialEq)]
+pub enum Outcome {
+    Read(Box<Read>),
+    Refusal(Refusal),
+    Written(Refusal, Vec<u8>),
+    Verdict(Verdict),
+    Start(Box<Start>),
+    Released(Box<Released>),
+    Ticked(Box<Ticked>),
+    Run(Box<Run>),
+}
+
+impl Call {
+    /// The place of the export in [`EXPORTS`].
+    pub fn export(&self) -> usize {
+        match self {
+            Call::Read(..) => 0,
+            Call::Check(..) => 1,
+            Call::Write(..) => 2,
+            Call::Find(..) => 3,
+            Call::GuestVerdict(..) => 4,
+            Call::TaskVerdict(..) => 5,
+            Call::Accept(..) => 6,
+            Call::SmallestCapacity(..) => 7,
+            Call::Fresh(..) => 8,
+            Call::Release(..) => 9,
+            Call::Tick(..) => 10,
+            Call::Run(..) => 11,
+        }
+    }
+
+    /// The outcome of the call on one side.
+    pub fn on(&self, side: &Side) -> Outcome {
+        match self {
+            Call::Read(bytes) => Outcome::Read((side.read)(bytes).into()),
+            Call::Check(plan) => Outcome::Refusal((side.check)(plan)),
+            Call::Write(guest, place, buffer) => written(side, guest, *place, buffer),
+            Call::Find(bytes, id) => Outcome::Refusal((side.find)(bytes, *id)),
+            Call::GuestVerdict(plan, id) => Outcome::Verdict((side.guest_verdict)(plan, *id)),
+            Call::TaskVerdict(plan, id, task) => {
+                Outcome::Verdict((side.task_verdict)(plan, *id, *task))
+            }
+            Call::Accept(plan) => Outcome::Verdict((side.accept)(plan)),
+            Call::SmallestCapacity(plan, id) => {
+                Outcome::Verdict((side.smallest_capacity)(plan, *id))
+            }
+            Call::Fresh(plan) => Outcome::Start((side.fresh)(plan).into()),
+            Call::Release(state, id, task) => {
+                Outcome::Released((side.release)(state, *id, *task).into())
+            }
+            Call::Tick(state) => Outcome::Ticked((side.tick)(state).into()),
+            Call::Run(state, ticks) => Outcome::Run((side.run)(state, *ticks).into()),
+        }
+    }
+}
+
+fn written(side: &Side, guest: &Guest, place: u32, buffer: &[u8]) -> Outcome {
+    let mut lent = buffer.to_vec();
+    let refusal = (side.write)(guest, place, &mut lent);
+    Outcome::Written(refusal, lent)
+}
+
+impl Outcome {
+    /// The refusal's number, 0 for none.
+    pub fn number(&self) -> u32 {
+        match self {
+            Outcome::Read(outcome) => outcome.refusal.number,
+            Outcome::Refusal(refusal) | Outcome::Written(refusal, _) => refusal.number,
+            Outcome::Verdict(verdict) => verdict.number,
+            Outcome::Start(outcome) => outcome.refusal.number,
+            Outcome::Released(outcome) => outcome.refusal.number,
+            Outcome::Ticked(outcome) => outcome.refusal.number,
+            Outcome::Run(outcome) => outcome.refusal.number,
+        }
+    }
+
+    /// The verdict or the answer's kind, where there is one.
+    pub fn kind(&self) -> u32 {
+        match self {
+            Outcome::Verdict(verdict) => verdict.verdict,
+            Outcome::Ticked(outcome) => outcome.answer.kind,
+            Outcome::Run(outcome) => outcome.answer.kind,
+            _ => 0,
+        }
+    }
+
+    /// The next state, of a dispatcher's call.
+    pub fn state(&self) -> Option<&Dispatcher> {
+        match self {
+            Outcome::Start(outcome) => Some(&outcome.dispatcher),
+            Outcome::Released(outcome) => Some(&outcome.dispatcher),
+            Outcome::Ticked(outcome) => Some(&outcome.dispatcher),
+            Outcome::Run(outcome) => Some(&outcome.dispatcher),
+            _ => None,
+        }
+    }
+}

@@ -1,0 +1,52 @@
+//! Long histories of calls: both sides in lock step, whole states compared after each call.
+
+use crate::call::Call;
+use crate::plans::{self, FULL, SMALL, TINY, some_id, some_task};
+use crate::random_calls::any_calls;
+use crate::session::Session;
+use crate::states;
+use reference::dispatcher::Dispatcher;
+
+/// One history from a fresh state.
+pub fn history(session: &mut Session) {
+    let size = session.random.pick(&[TINY, TINY, SMALL, FULL]);
+    let plan = plans::plan(&mut session.random, size);
+    let start = session.compare(Call::Fresh(Box::new(plan)));
+    let Some(mut state) = start.state().copied() else {
+        return;
+    };
+    for _ in 0..session.random.from(20, 400) {
+        let call = step(session, &state);
+        let outcome = session.compare(call);
+        if let Some(next) = outcome.state() {
+            state = *next;
+        }
+        if session.random.once_in(50) {
+            let aside = states::hostile(&mut session.random, &state);
+            any_calls(session, &aside, 3);
+        }
+    }
+}
+
+/// The next call of a history.
+fn step(session: &mut Session, state: &Dispatcher) -> Call {
+    let random = &mut session.random;
+    let state = Box::new(*state);
+    match random.below(10) {
+        0..=3 => Call::Tick(state),
+        4 => Call::Run(state, random.from(0, 3)),
+        5 => {
+            let ticks = match random.below(40) {
+                0 => 1_000_001,
+                1 => random.from(1_000, 20_000),
+                _ => random.from(0, 60),
+            };
+            Call::Run(state, ticks)
+        }
+        _ => {
+            let id = some_id(random, &state.plan);
+            let task = some_task(random, &state.plan, id);
+            Call::Release(state, id, task)
+        }
+    }
+}

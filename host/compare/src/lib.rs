@@ -1,0 +1,33 @@
+//! Compares a side, one function for each export, with the reference.
+#![forbid(unsafe_code)]
+
+mod blocks;
+mod call;
+mod exhaustive;
+mod histories;
+mod pairs;
+mod plans;
+pub mod planview;
+mod promise;
+mod random;
+mod random_calls;
+pub mod session;
+mod show;
+mod shrink;
+pub mod side;
+mod states;
+
+use session::Session;
+use std::time::{Duration, Instant};
+
+/// Small inputs, all of them; then random ones until the time is used up.
+pub fn everything(session: &mut Session, budget: Duration) {
+    let end = Instant::now() + budget;
+    exhaustive::compare(session);
+    pairs::compare(session);
+    while Instant::now() < end {
+        random_calls::round(session);
+        histories::history(session);
+        promise::histories(session);
+    }
+}

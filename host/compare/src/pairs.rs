@@ -1,0 +1,171 @@
+//! Every pair of damages, so that every order of refusals is met.
+
+use crate::call::Call;
+use crate::session::Session;
+use reference::dispatcher::{Dispatcher, place_of};
+use reference::plan::{BLOCK, Guest, Plan, blocks_of, seal};
+use reference::samples::plan_a;
+
+pub fn compare(session: &mut Session) {
+    blocks(session);
+    records(session);
+    writes(session);
+    states(session);
+}
+
+/// Each pair out of some damages, a damage with itself included.
+fn pairs<T: Copy>(of: &[T]) -> impl Iterator<Item = (T, T)> {
+    of.iter()
+        .flat_map(|first| of.iter().map(|second| (*first, *second)))
+}
+
+/// Words of plan A's block at a place, each wrong in a way of its own: the offset and the word.
+fn wrong_words(place: u32) -> Vec<(usize, u32)> {
+    let own = 1 + (place << 16);
+    let guest = plan_a().guests[place as usize];
+    let past = 32 + 12 * guest.tasks as usize;
+    let other = plan_a().guests[1 - place as usize].id;
+    let words = [
+        (0, own + 1),
+        (0, own + 0x0001_0000),
+        (4, 0),
+        (4, other),
+        (8, 0),
+        (8, guest.period + 1),
+        (12, 0),
+        (12, 1_000_001),
+        (16, 0),
+        (16, 17),
+        (20, 1),
+        (28, 0x0100_0000),
+        (past, 1),
+        (220, 0x0100_0000),
+        (224, 1),
+        (504, 0x0100_0000),
+        (32, 0),
+        (32, 1_000_001),
+        (36, 0),
+        (36, 1_000_001),
+        (40, 0),
+        (40, guest.every[0] + 1),
+    ];
+    let start = BLOCK * place as usize;
+    words.map(|(at, word)| (start + at, word)).to_vec()
+}
+
+fn blocks(session: &mut Session) {
+    let words = [wrong_words(0), wrong_words(1)].concat();
+    for (first, second) in pairs(&words) {
+        let mut bytes = blocks_of(&plan_a());
+        for (at, word) in [first, second] {
+            bytes[at..at + 4].copy_from_slice(&word.to_le_bytes());
+        }
+        for sealed in 0..4 {
+            let mut bytes = bytes.clone();
+            for (place, block) in bytes.chunks_mut(BLOCK).enumerate() {
+                if sealed >> place & 1 == 1 {
+                    seal(block);
+                }
+            }
+            session.compare(Call::Read(bytes.clone()));
+            session.compare(Call::Find(bytes, 9));
+        }
+    }
+}
+
+/// What can be wrong in a record.
+const WRONG_RECORDS: [fn(&mut Guest); 15] = [
+    |_| (),
+    |guest| guest.id = 0,
+    |guest| guest.id = 7,
+    |guest| guest.id = 9,
+    |guest| guest.capacity = 0,
+    |guest| guest.capacity = guest.period + 1,
+    |guest| guest.period = 1_000_001,
+    |guest| guest.tasks = 0,
+    |guest| guest.tasks = 17,
+    |guest| guest.tasks = 65_537,
+    |guest| guest.run[0] = 0,
+    |guest| guest.run[0] = 1_000_001,
+    |guest| guest.every[0] = 1_000_001,
+    |guest| guest.deadline[0] = 0,
+    |guest| guest.deadline[0] = guest.every[0] + 1,
+];
+
+fn records(session: &mut Session) {
+    for (first, second) in pairs(&WRONG_RECORDS) {
+        for (count, places) in [
+            (2, [0, 0]),
+            (2, [0, 1]),
+            (2, [1, 1]),
+            (9, [0, 1]),
+            (1, [1, 1]),
+        ] {
+            let mut plan = plan_a();
+            plan.count = count;
+            first(&mut plan.guests[places[0]]);
+            second(&mut plan.guests[places[1]]);
+            every_plan_call(session, &plan);
+        }
+    }
+}
+
+/// Every call that takes a plan, of guests and tasks that are there or not.
+fn every_plan_call(session: &mut Session, plan: &Plan) {
+    session.compare(Call::Check(Box::new(*plan)));
+    session.compare(Call::Accept(Box::new(*plan)));
+    session.compare(Call::Fresh(Box::new(*plan)));
+    for (id, task) in [(9, 1), (9, 0), (0, 1)] {
+        session.compare(Call::GuestVerdict(Box::new(*plan), id));
+        session.compare(Call::TaskVerdict(Box::new(*plan), id, task));
+        session.compare(Call::SmallestCapacity(Box::new(*plan), id));
+    }
+}
+
+fn writes(session: &mut Session) {
+    for (first, second) in pairs(&WRONG_RECORDS) {
+        let mut guest = plan_a().guests[1];
+        first(&mut guest);
+        second(&mut guest);
+        for place in [0, 7, 8] {
+            for length in [511, 512, 600] {
+                session.compare(Call::Write(Box::new(guest), place, vec![0xA5; length]));
+            }
+        }
+    }
+}
+
+/// What can be wrong in a state of plan A, and what is just not.
+const STATES: [fn(&mut Dispatcher); 16] = [
+    |_| (),
+    |state| state.plan.count = 0,
+    |state| state.plan.guests[1].run[0] = 0,
+    |state| state.left[1] = 8,
+    |state| state.left[1] = 9,
+    |state| state.left[7] = 1,
+    |state| state.position[0] = 4,
+    |state| state.position[0] = 5,
+    |state| state.rest[place_of(1, 0)] = 10,
+    |state| state.rest[place_of(1, 0)] = 11,
+    |state| state.rest[place_of(1, 2)] = 1,
+    |state| state.wait[place_of(1, 0)] = 50,
+    |state| state.wait[place_of(1, 0)] = 51,
+    |state| state.wait[127] = 1,
+    |state| state.age[place_of(1, 0)] = 1_000_001,
+    |state| state.age[place_of(2, 0)] = 1,
+];
+
+fn states(session: &mut Session) {
+    for (first, second) in pairs(&STATES) {
+        let mut state = Dispatcher::with(plan_a());
+        first(&mut state);
+        second(&mut state);
+        session.compare(Call::Tick(Box::new(state)));
+        for ticks in [0, 1, 30, 1_000_001] {
+            session.compare(Call::Run(Box::new(state), ticks));
+        }
+        for (id, task) in [(9, 1), (9, 2), (9, 3), (9, 0), (8, 0), (7, 1)] {
+            session.compare(Call::Release(Box::new(state), id, task));
+        }
+    }
+}

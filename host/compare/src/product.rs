@@ -1,0 +1,148 @@
+//! The library through its wrapper, with the reference's types.
+
+use compare::side::Side;
+use coreshare::exports;
+use reference::dispatcher::{Answer, Dispatcher, Released, Run, Start, Ticked};
+use reference::plan::{Guest, Plan, Read, Refusal};
+use reference::verdict::Verdict;
+
+pub const PRODUCT: Side = Side {
+    read: |bytes| read(exports::read(bytes)),
+    check: |plan| refusal(exports::check(&plan_in(plan))),
+    write: |guest, place, buffer| refusal(exports::write(&guest_in(guest), place, buffer)),
+    find: |bytes, id| refusal(exports::find(bytes, id)),
+    guest_verdict: |plan, id| verdict(exports::guest_verdict(&plan_in(plan), id)),
+    task_verdict: |plan, id, task| verdict(exports::task_verdict(&plan_in(plan), id, task)),
+    accept: |plan| verdict(exports::accept(&plan_in(plan))),
+    smallest_capacity: |plan, id| verdict(exports::smallest_capacity(&plan_in(plan), id)),
+    fresh: |plan| start(exports::fresh(&plan_in(plan))),
+    release: |state, id, task| released(exports::release(&state_in(state), id, task)),
+    tick: |state| ticked(exports::tick(&state_in(state))),
+    run: |state, ticks| run(exports::run(&state_in(state), ticks)),
+};
+
+fn guest_in(guest: &Guest) -> coreshare::Guest {
+    coreshare::Guest {
+        id: guest.id,
+        capacity: guest.capacity,
+        period: guest.period,
+        tasks: guest.tasks,
+        charge: guest.charge,
+        run: guest.run,
+        every: guest.every,
+        deadline: guest.deadline,
+    }
+}
+
+fn plan_in(plan: &Plan) -> coreshare::Plan {
+    coreshare::Plan {
+        count: plan.count,
+        guests: std::array::from_fn(|at| guest_in(&plan.guests[at])),
+    }
+}
+
+fn state_in(state: &Dispatcher) -> coreshare::Dispatcher {
+    coreshare::Dispatcher {
+        plan: plan_in(&state.plan),
+        left: state.left,
+        position: state.position,
+        rest: state.rest,
+        wait: state.wait,
+        age: state.age,
+    }
+}
+
+fn guest(guest: &coreshare::Guest) -> Guest {
+    Guest {
+        id: guest.id,
+        capacity: guest.capacity,
+        period: guest.period,
+        tasks: guest.tasks,
+        charge: guest.charge,
+        run: guest.run,
+        every: guest.every,
+        deadline: guest.deadline,
+    }
+}
+
+fn plan(plan: &coreshare::Plan) -> Plan {
+    Plan {
+        count: plan.count,
+        guests: std::array::from_fn(|at| guest(&plan.guests[at])),
+    }
+}
+
+fn state(state: &coreshare::Dispatcher) -> Dispatcher {
+    Dispatcher {
+        plan: plan(&state.plan),
+        left: state.left,
+        position: state.position,
+        rest: state.rest,
+        wait: state.wait,
+        age: state.age,
+    }
+}
+
+fn refusal(refusal: coreshare::Refusal) -> Refusal {
+    Refusal {
+        number: refusal.number,
+        place: refusal.place,
+    }
+}
+
+fn answer(answer: coreshare::Answer) -> Answer {
+    Answer {
+        kind: answer.kind,
+        guest: answer.guest,
+        task: answer.task,
+        age: answer.age,
+        margin: answer.margin,
+    }
+}
+
+fn read(outcome: coreshare::Read) -> Read {
+    Read {
+        refusal: refusal(outcome.refusal),
+        plan: plan(&outcome.plan),
+    }
+}
+
+fn verdict(verdict: coreshare::Verdict) -> Verdict {
+    Verdict {
+        number: verdict.number,
+        place: verdict.place,
+        verdict: verdict.verdict,
+        ticks: verdict.ticks,
+    }
+}
+
+fn start(outcome: coreshare::Start) -> Start {
+    Start {
+        refusal: refusal(outcome.refusal),
+        dispatcher: state(&outcome.dispatcher),
+    }
+}
+
+fn released(outcome: coreshare::Released) -> Released {
+    Released {
+        refusal: refusal(outcome.refusal),
+        dispatcher: state(&outcome.dispatcher),
+    }
+}
+
+fn ticked(outcome: coreshare::Ticked) -> Ticked {
+    Ticked {
+        refusal: refusal(outcome.refusal),
+        answer: answer(outcome.answer),
+        dispatcher: state(&outcome.dispatcher),
+    }
+}
+
+fn run(outcome: coreshare::Run) -> Run {
+    Run {
+        refusal: refusal(outcome.refusal),
+        done: outcome.done,
+        answer: answer(outcome.answer),
+        dispatcher: state(&outcome.dispatcher),
+    }
+}

@@ -1,0 +1,117 @@
+//! Plays a script of releases and watches the clock itself.
+
+use crate::side::Side;
+use reference::dispatcher::{Answer, Dispatcher, FINISHED, PLACES, place_of};
+use reference::plan::Plan;
+
+/// A task that the subject quotes a response for, by places from 0.
+#[derive(Clone, Copy)]
+pub struct Quoted {
+    pub guest: usize,
+    pub task: usize,
+    pub response: u32,
+}
+
+/// The releases tried before each tick, by places of guest and task from 0.
+pub type Script = Vec<Vec<(usize, usize)>>;
+
+/// Jobs of quoted tasks that finished, and those of them that took all of their response.
+#[derive(Default)]
+pub struct Seen {
+    pub finished: u64,
+    pub at_the_response: u64,
+}
+
+/// Plays a script from a fresh state; or says how the promise broke.
+pub fn play(side: &Side, plan: &Plan, quoted: &[Quoted], script: &Script) -> Result<Seen, String> {
+    let mut play = Play {
+        side,
+        plan,
+        state: (side.fresh)(plan).dispatcher,
+        response: [None; PLACES],
+        taken: [None; PLACES],
+        unfinished: [false; PLACES],
+        seen: Seen::default(),
+    };
+    for quote in quoted {
+        play.response[place_of(quote.guest, quote.task)] = Some(quote.response);
+    }
+    for (time, releases) in (0..).zip(script) {
+        for (guest, task) in releases {
+            play.release(time, *guest, *task)?;
+        }
+        play.tick(time)?;
+    }
+    Ok(play.seen)
+}
+
+struct Play<'a> {
+    side: &'a Side,
+    plan: &'a Plan,
+    state: Dispatcher,
+    response: [Option<u32>; PLACES],
+    /// When each task's last release was taken.
+    taken: [Option<u32>; PLACES],
+    unfinished: [bool; PLACES],
+    seen: Seen,
+}
+
+impl Play<'_> {
+    /// Tries a release that is due.
+    fn release(&mut self, time: u32, guest: usize, task: usize) -> Result<(), String> {
+        let own = &self.plan.guests[guest];
+        let place = place_of(guest, task);
+        if self.taken[place].is_some_and(|taken| time - taken < own.every[task]) {
+            return Ok(());
+        }
+        let outcome = (self.side.release)(&self.state, own.id, task as u32 + 1);
+        self.state = outcome.dispatcher;
+        match outcome.refusal.number {
+            0 => {
+                self.taken[place] = Some(time);
+                self.unfinished[place] = true;
+                Ok(())
+            }
+            number if self.response[place].is_some() => {
+                let place = format!("guest {guest} task {task}");
+                Err(format!(
+                    "tick {time}: due release of {place} refused as {number}"
+                ))
+            }
+            _ => Ok(()),
+        }
+    }
+
+    fn tick(&mut self, time: u32) -> Result<(), String> {
+        let outcome = (self.side.tick)(&self.state);
+        self.state = outcome.dispatcher;
+        let finished = self.finished(&outcome.answer);
+        for place in (0..PLACES).filter(|place| self.unfinished[*place]) {
+            let (Some(response), Some(taken)) = (self.response[place], self.taken[place]) else {
+                continue;
+            };
+            let elapsed = time + 1 - taken;
+            let done = finished == Some(place);
+            if elapsed > response || (elapsed == response && !done) {
+                let place = format!("guest {} task {}", place / 16, place % 16);
+                return Err(format!("tick {time}: {place} is late, quoted {response}"));
+            }
+            self.seen.finished += u64::from(done);
+            self.seen.at_the_response += u64::from(done && elapsed == response);
+        }
+        if let Some(place) = finished {
+            self.unfinished[place] = false;
+        }
+        Ok(())
+    }
+
+    /// The place of the task whose job the answer says is finished.
+    fn finished(&self, answer: &Answer) -> Option<usize> {
+        if answer.kind != FINISHED {
+            return None;
+        }
+        let mut guests = self.plan.listed().iter();
+        let guest = guests.position(|guest| guest.id == answer.guest)?;
+        Some(place_of(guest, answer.task as usize - 1))
+    }
+}

@@ -1,0 +1,75 @@
+//! Random numbers that a seed decides (splitmix64).
+
+pub struct Random(u64);
+
+impl Random {
+    pub fn new(seed: u64) -> Random {
+        Random(seed)
+    }
+
+    pub fn next(&mut self) -> u64 {
+        self.0 = self.0.wrapping_add(0x9E37_79B9_7F4A_7C15);
+        let mut z = self.0;
+        z = (z ^ (z >> 30)).wrapping_mul(0xBF58_476D_1CE4_E5B9);
+        z = (z ^ (z >> 27)).wrapping_mul(0x94D0_49BB_1331_11EB);
+        z ^ (z >> 31)
+    }
+
+    /// Any u32.
+    pub fn word(&mut self) -> u32 {
+        (self.next() >> 32) as u32
+    }
+
+    /// A number from `low` to `high`, both included.
+    pub fn from(&mut self, low: u32, high: u32) -> u32 {
+        let width = u64::from(high - low) + 1;
+        low + (self.next() % width) as u32
+    }
+
+    /// A number below `end`, as an index.
+    pub fn below(&mut self, end: usize) -> usize {
+        (self.next() % end as u64) as usize
+    }
+
+    /// True once in `times`.
+    pub fn once_in(&mut self, times: usize) -> bool {
+        self.below(times) == 0
+    }
+
+    pub fn pick<T: Copy>(&mut self, of: &[T]) -> T {
+        of[self.below(of.len())]
+    }
+
+    /// A number that tests look for: an edge of some range, or any.
+    pub fn edge(&mut self) -> u32 {
+        const EDGES: [u32; 22] = [
+            0,
+            1,
+            2,
+            7,
+            8,
+            9,
+            15,
+            16,
+            17,
+            255,
+            65_535,
+            65_536,
+            65_537,
+            999_999,
+            1_000_000,
+            1_000_001,
+            1_065_535,
+            1_065_536,
+            0x7FFF_FFFF,
+            0x8000_0000,
+            u32::MAX - 1,
+            u32::MAX,
+        ];
+        match self.below(8) {
+            0 => self.word(),
+            1 => self.from(0, 100),
+            _ => self.pick(&EDGES),
+        }
+    }
+}

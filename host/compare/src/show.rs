@@ -1,0 +1,119 @@
+//! Prints a call and its two outcomes, leaving out what is zero.
+
+use crate::call::{Call, EXPORTS, Outcome};
+use crate::side::{REFERENCE, Side};
+use reference::dispatcher::Dispatcher;
+use reference::plan::{Guest, MOST_TASKS, Plan};
+use std::fmt::Display;
+
+/// Prints a call on which the two sides differ.
+pub fn difference(call: &Call, subject: &Side) {
+    println!("DIFFERENT: {}", input(call));
+    println!("  reference: {}", outcome(&call.on(&REFERENCE)));
+    println!("  subject:   {}", outcome(&call.on(subject)));
+}
+
+fn input(call: &Call) -> String {
+    let name = EXPORTS[call.export()];
+    match call {
+        Call::Read(bytes) => format!("{name} {}", blocks(bytes)),
+        Call::Find(bytes, id) => format!("{name} id {id} {}", blocks(bytes)),
+        Call::Write(of, place, buffer) => {
+            format!("{name} place {place} length {} {}", buffer.len(), guest(of))
+        }
+        Call::Check(of) | Call::Accept(of) | Call::Fresh(of) => format!("{name} {}", plan(of)),
+        Call::GuestVerdict(of, id) | Call::SmallestCapacity(of, id) => {
+            format!("{name} id {id} {}", plan(of))
+        }
+        Call::TaskVerdict(of, id, task) => format!("{name} id {id} task {task} {}", plan(of)),
+        Call::Release(of, id, task) => format!("{name} id {id} task {task} {}", state(of)),
+        Call::Tick(of) => format!("{name} {}", state(of)),
+        Call::Run(of, ticks) => format!("{name} ticks {ticks} {}", state(of)),
+    }
+}
+
+fn outcome(outcome: &Outcome) -> String {
+    match outcome {
+        Outcome::Read(read) => format!("{:?} {}", read.refusal, plan(&read.plan)),
+        Outcome::Refusal(refusal) => format!("{refusal:?}"),
+        Outcome::Written(refusal, bytes) => format!("{refusal:?} {}", blocks(bytes)),
+        Outcome::Verdict(verdict) => format!("{verdict:?}"),
+        Outcome::Start(start) => format!("{:?} {}", start.refusal, state(&start.dispatcher)),
+        Outcome::Released(next) => format!("{:?} {}", next.refusal, state(&next.dispatcher)),
+        Outcome::Ticked(next) => {
+            let then = state(&next.dispatcher);
+            format!("{:?} {:?} {then}", next.refusal, next.answer)
+        }
+        Outcome::Run(next) => {
+            let then = state(&next.dispatcher);
+            format!(
+                "{:?} done {} {:?} {then}",
+                next.refusal, next.done, next.answer
+            )
+        }
+    }
+}
+
+/// The length and each byte that is not zero, with its place.
+fn blocks(bytes: &[u8]) -> String {
+    format!("{} bytes [{}]", bytes.len(), not_zero(bytes))
+}
+
+/// The count and each record that is not zero, with its place.
+pub fn plan(plan: &Plan) -> String {
+    let guests: Vec<String> = plan
+        .guests
+        .iter()
+        .enumerate()
+        .filter(|(_, of)| **of != Guest::default())
+        .map(|(at, of)| format!("{at}: {}", guest(of)))
+        .collect();
+    format!("count {} {{{}}}", plan.count, guests.join("; "))
+}
+
+/// The guest as id, capacity/period, charge, number of tasks, and each entry as run/period/deadline.
+fn guest(guest: &Guest) -> String {
+    let entry = |at: usize| [guest.run[at], guest.every[at], guest.deadline[at]];
+    let tasks: Vec<String> = (0..MOST_TASKS)
+        .filter(|at| entry(*at) != [0; 3])
+        .map(|at| {
+            let [run, every, deadline] = entry(at);
+            format!("{}: {run}/{every}/{deadline}", at + 1)
+        })
+        .collect();
+    let Guest {
+        id,
+        capacity,
+        period,
+        charge,
+        ..
+    } = guest;
+    let tasks = format!("tasks {} ({})", guest.tasks, tasks.join(", "));
+    format!("id {id} {capacity}/{period} charge {charge} {tasks}")
+}
+
+fn state(state: &Dispatcher) -> String {
+    let columns: [(&str, &[u32]); 5] = [
+        ("left", &state.left),
+        ("position", &state.position),
+        ("rest", &state.rest),
+        ("wait", &state.wait),
+        ("age", &state.age),
+    ];
+    let columns: Vec<String> = columns
+        .iter()
+        .map(|(name, column)| format!("{name} [{}]", not_zero(column)))
+        .collect();
+    format!("{} {}", plan(&state.plan), columns.join(" "))
+}
+
+/// Each number that is not zero, with its place.
+fn not_zero<T: Copy + Display + Into<u32>>(numbers: &[T]) -> String {
+    let set: Vec<String> = numbers
+        .iter()
+        .enumerate()
+        .filter(|(_, number)| (**number).into() != 0)
+        .map(|(at, number)| format!("{at}:{number}"))
+        .collect();
+    set.join(" ")
+}

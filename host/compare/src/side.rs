@@ -1,0 +1,38 @@
+//! The two sides that are compared, behind the same signatures.
+
+use reference::dispatcher::{self, Dispatcher, Released, Run, Start, Ticked};
+use reference::plan::{self, Guest, Plan, Read, Refusal};
+use reference::verdict::{self, Verdict};
+
+/// One function for each export.
+#[derive(Clone, Copy)]
+pub struct Side {
+    pub read: fn(&[u8]) -> Read,
+    pub check: fn(&Plan) -> Refusal,
+    pub write: fn(&Guest, u32, &mut [u8]) -> Refusal,
+    pub find: fn(&[u8], u32) -> Refusal,
+    pub guest_verdict: fn(&Plan, u32) -> Verdict,
+    pub task_verdict: fn(&Plan, u32, u32) -> Verdict,
+    pub accept: fn(&Plan) -> Verdict,
+    pub smallest_capacity: fn(&Plan, u32) -> Verdict,
+    pub fresh: fn(&Plan) -> Start,
+    pub release: fn(&Dispatcher, u32, u32) -> Released,
+    pub tick: fn(&Dispatcher) -> Ticked,
+    pub run: fn(&Dispatcher, u32) -> Run,
+}
+
+/// Document 01's sentences in plain Rust.
+pub const REFERENCE: Side = Side {
+    read: plan::read,
+    check: plan::check,
+    write: plan::write,
+    find: plan::find,
+    guest_verdict: verdict::guest_verdict,
+    task_verdict: verdict::task_verdict,
+    accept: verdict::accept,
+    smallest_capacity: verdict::smallest_capacity,
+    fresh: dispatcher::fresh,
+    release: dispatcher::release,
+    tick: dispatcher::tick,
+    run: dispatcher::run,
+};

@@ -1,0 +1,133 @@
+//! The comparison itself is tried: each mistake that document 01 names must be found.
+
+use compare::session::Session;
+use compare::side::{REFERENCE, Side};
+use reference::dispatcher::{Dispatcher, Run, Ticked, run, tick};
+use reference::plan::{Plan, Refusal};
+use reference::verdict::{self, NO, Verdict, YES};
+use std::time::Duration;
+
+/// Whether the comparison finds nothing wrong with a side.
+fn passes(side: Side) -> bool {
+    let mut session = Session::new(side, 1);
+    session.scans = true;
+    compare::everything(&mut session, Duration::from_secs(1));
+    session.report()
+}
+
+#[test]
+fn the_reference_passes() {
+    assert!(passes(REFERENCE));
+}
+
+#[test]
+fn an_analysis_that_finds_everything_unmet() {
+    assert!(!passes(Side {
+        task_verdict: |plan, id, task| instead_of_met(plan, id, task, NO, 0),
+        ..REFERENCE
+    }));
+}
+
+#[test]
+fn an_analysis_that_quotes_one_response_for_all_plans() {
+    assert!(!passes(Side {
+        task_verdict: |plan, id, task| instead_of_met(plan, id, task, YES, 36),
+        ..REFERENCE
+    }));
+}
+
+/// The reference's verdict, but another where that is met.
+fn instead_of_met(plan: &Plan, id: u32, task: u32, verdict: u32, ticks: u32) -> Verdict {
+    let right = verdict::task_verdict(plan, id, task);
+    match right.verdict {
+        YES => Verdict {
+            verdict,
+            ticks,
+            ..right
+        },
+        _ => right,
+    }
+}
+
+#[test]
+fn a_release_that_always_refuses() {
+    assert!(!passes(Side {
+        release: |state, _, _| reference::dispatcher::Released {
+            refusal: Refusal::new(9, 0),
+            dispatcher: *state,
+        },
+        ..REFERENCE
+    }));
+}
+
+#[test]
+fn a_tick_that_hands_the_state_back_untouched() {
+    assert!(!passes(Side {
+        tick: |state| Ticked {
+            dispatcher: *state,
+            ..tick(state)
+        },
+        ..REFERENCE
+    }));
+}
+
+#[test]
+fn a_run_that_works_its_first_tick_and_pretends_the_others() {
+    assert!(!passes(Side {
+        run: |state, ticks| Run {
+            done: run(state, ticks).done,
+            ..run(state, ticks.min(1))
+        },
+        ..REFERENCE
+    }));
+}
+
+#[test]
+fn a_run_that_invents_its_number_of_ticks_done() {
+    assert!(!passes(Side {
+        run: |state, ticks| Run {
+            done: ticks,
+            ..run(state, ticks)
+        },
+        ..REFERENCE
+    }));
+}
+
+#[test]
+fn a_larger_capacity_taken_as_always_better() {
+    assert!(!passes(Side {
+        smallest_capacity: |plan, id| {
+            let right = verdict::smallest_capacity(plan, id);
+            let Some(guest) = plan.guests.iter().position(|guest| guest.id == id) else {
+                return right;
+            };
+            match right.number == 0 && !verdict::works(plan, guest, plan.guests[guest].period) {
+                true => Verdict {
+                    number: 11,
+                    ..Verdict::default()
+                },
+                false => right,
+            }
+        },
+        ..REFERENCE
+    }));
+}
+
+#[test]
+fn an_idle_guests_tick_given_to_the_guest_below() {
+    assert!(!passes(Side {
+        tick: |state| tick(&without_idle_capacity(state)),
+        ..REFERENCE
+    }));
+}
+
+/// The state with the capacity of guests that have no job taken away, inside their periods.
+fn without_idle_capacity(state: &Dispatcher) -> Dispatcher {
+    let mut changed = *state;
+    for (guest, left) in changed.left.iter_mut().enumerate() {
+        if state.rest[16 * guest..16 * (guest + 1)] == [0; 16] {
+            *left = 0;
+        }
+    }
+    changed
+}

@@ -1,0 +1,12 @@
+//! The rules of document 01 in plain Rust, sentence by sentence and with no cleverness.
+//!
+//! It shares no code with the product. Searches scan upward one number at a time, and numbers are
+//! wide enough that nothing wraps. The types have the fields of the product's C interface, so that
+//! an outcome can be compared whole: answer, next state and every lent byte.
+#![forbid(unsafe_code)]
+
+pub mod dispatcher;
+pub mod plan;
+pub mod samples;
+pub mod show;
+pub mod verdict;

@@ -1,0 +1,201 @@
+//! The plan block: its layout, the reader, the writer and the finder.
+
+use super::{Guest, MOST_GUESTS, MOST_TASKS, Plan, Refusal, head_in_range, seen, tasks_in_range};
+use std::ops::Range;
+
+/// The bytes of one block.
+pub const BLOCK: usize = 512;
+
+/// The bytes of the longest plan.
+pub const LONGEST_PLAN: usize = BLOCK * MOST_GUESTS;
+
+const KIND: usize = 0;
+const PLACE: usize = 2;
+const ID: usize = 4;
+const CAPACITY: usize = 8;
+const PERIOD: usize = 12;
+const TASKS: usize = 16;
+const CHARGE: usize = 18;
+const FIRST_GAP: Range<usize> = 20..32;
+const ENTRIES: usize = 32;
+const ENTRY: usize = 12;
+const SECOND_GAP: Range<usize> = 224..508;
+const CHECK: usize = 508;
+
+/// What reading gives: a refusal, or the plan. A refused plan is zero throughout.
+#[derive(Clone, Copy, Debug, Default, PartialEq, Eq)]
+pub struct Read {
+    pub refusal: Refusal,
+    pub plan: Plan,
+}
+
+/// Reading: 1, then block by block 2, 3, 4, 5, 6.
+pub fn read(bytes: &[u8]) -> Read {
+    let result = read_plan(bytes);
+    Read {
+        refusal: Refusal::of(&result),
+        plan: result.unwrap_or_default(),
+    }
+}
+
+/// The reading order, then 7; the found block's place.
+pub fn find(bytes: &[u8], id: u32) -> Refusal {
+    match place_in(bytes, id) {
+        Ok(place) => Refusal::new(0, place as u32),
+        Err(refusal) => refusal,
+    }
+}
+
+/// The guest's 512 bytes as they stand in the lent plan, or on a refusal an empty part.
+pub fn found(bytes: &[u8], id: u32) -> &[u8] {
+    match place_in(bytes, id) {
+        Ok(place) => &bytes[BLOCK * place..BLOCK * (place + 1)],
+        Err(_) => &[],
+    }
+}
+
+fn place_in(bytes: &[u8], id: u32) -> Result<usize, Refusal> {
+    read_plan(bytes)?.place_of(id)
+}
+
+/// Writer: 12, 3, 4, 6; then the first 512 bytes of the lent buffer and no others.
+pub fn write(guest: &Guest, place: u32, buffer: &mut [u8]) -> Refusal {
+    let result = may_write(guest, place, buffer.len());
+    if result.is_ok() {
+        buffer[..BLOCK].copy_from_slice(&block_of(guest, place as u16));
+    }
+    Refusal::of(&result)
+}
+
+fn may_write(guest: &Guest, place: u32, length: usize) -> Result<(), Refusal> {
+    if length < BLOCK {
+        return Err(Refusal::new(12, 0));
+    }
+    if place > 7 {
+        return Err(Refusal::new(3, place));
+    }
+    if !head_in_range(guest) {
+        return Err(Refusal::new(4, place));
+    }
+    if !tasks_in_range(guest) {
+        return Err(Refusal::new(6, place));
+    }
+    Ok(())
+}
+
+fn read_plan(bytes: &[u8]) -> Result<Plan, Refusal> {
+    if bytes.is_empty() || !bytes.len().is_multiple_of(BLOCK) || bytes.len() > LONGEST_PLAN {
+        return Err(Refusal::new(1, 0));
+    }
+    let mut plan = Plan::default();
+    for (place, block) in bytes.chunks(BLOCK).enumerate() {
+        let earlier = &plan.guests[..place];
+        match read_block(block, place as u16, earlier) {
+            Ok(guest) => plan.guests[place] = guest,
+            Err(number) => return Err(Refusal::new(number, place as u32)),
+        }
+        plan.count += 1;
+    }
+    Ok(plan)
+}
+
+/// One block at its place after the earlier guests, or the refusal's number.
+fn read_block(block: &[u8], place: u16, earlier: &[Guest]) -> Result<Guest, u32> {
+    if sum_of_words(block) != 0 {
+        return Err(2);
+    }
+    if short(block, KIND) != 1 || short(block, PLACE) != place {
+        return Err(3);
+    }
+    let guest = guest_in(block);
+    if !head_in_range(&guest) || seen(earlier, guest.id) {
+        return Err(4);
+    }
+    if !zero_where_it_must_be(block, guest.tasks as usize) {
+        return Err(5);
+    }
+    if !tasks_in_range(&guest) {
+        return Err(6);
+    }
+    Ok(guest)
+}
+
+/// The sum of the block's 128 little-endian words, modulo 4,294,967,296.
+fn sum_of_words(block: &[u8]) -> u32 {
+    let sum: u64 = (0..128).map(|k| u64::from(word(block, 4 * k))).sum();
+    (sum % 4_294_967_296) as u32
+}
+
+fn guest_in(block: &[u8]) -> Guest {
+    let column = |of: usize| std::array::from_fn(|task| word(block, entry(task) + 4 * of));
+    Guest {
+        id: word(block, ID),
+        capacity: word(block, CAPACITY),
+        period: word(block, PERIOD),
+        tasks: u32::from(short(block, TASKS)),
+        charge: short(block, CHARGE),
+        run: column(0),
+        every: column(1),
+        deadline: column(2),
+    }
+}
+
+fn zero_where_it_must_be(block: &[u8], tasks: usize) -> bool {
+    let past_the_tasks = entry(tasks)..entry(MOST_TASKS);
+    let zero = |part: Range<usize>| block[part].iter().all(|byte| *byte == 0);
+    zero(FIRST_GAP) && zero(past_the_tasks) && zero(SECOND_GAP)
+}
+
+/// A plan is its guests' blocks in order.
+pub fn blocks_of(plan: &Plan) -> Vec<u8> {
+    (0..)
+        .zip(plan.listed())
+        .flat_map(|(place, guest)| block_of(guest, place))
+        .collect()
+}
+
+fn block_of(guest: &Guest, place: u16) -> [u8; BLOCK] {
+    let mut block = [0; BLOCK];
+    put_short(&mut block, KIND, 1);
+    put_short(&mut block, PLACE, place);
+    put_word(&mut block, ID, guest.id);
+    put_word(&mut block, CAPACITY, guest.capacity);
+    put_word(&mut block, PERIOD, guest.period);
+    put_short(&mut block, TASKS, guest.tasks as u16);
+    put_short(&mut block, CHARGE, guest.charge);
+    for task in guest.places() {
+        put_word(&mut block, entry(task), guest.run[task]);
+        put_word(&mut block, entry(task) + 4, guest.every[task]);
+        put_word(&mut block, entry(task) + 8, guest.deadline[task]);
+    }
+    seal(&mut block);
+    block
+}
+
+/// The check makes the sum of the block's words equal zero.
+pub fn seal(block: &mut [u8]) {
+    put_word(block, CHECK, 0);
+    let rest = sum_of_words(block);
+    put_word(block, CHECK, rest.wrapping_neg());
+}
+
+/// Where a task's entry begins.
+fn entry(task: usize) -> usize {
+    ENTRIES + ENTRY * task
+}
+
+fn short(block: &[u8], at: usize) -> u16 {
+    u16::from_le_bytes([block[at], block[at + 1]])
+}
+
+fn word(block: &[u8], at: usize) -> u32 {
+    u32::from_le_bytes([block[at], block[at + 1], block[at + 2], block[at + 3]])
+}
+
+fn put_short(block: &mut [u8], at: usize, value: u16) {
+    block[at..at + 2].copy_from_slice(&value.to_le_bytes());
+}
+
+fn put_word(block: &mut [u8], at: usize, value: u32) {
+    block[at..at + 4].copy_from_slice(&value.to_le_bytes());
+}

@@ -1,0 +1,33 @@
+//! Plans that document 01 works out by hand.
+
+use crate::plan::{Guest, Plan};
+
+/// Plan A: guest 7, 2/5, task 1/20/20; guest 9, 8/20, tasks 10/50/50 and 8/100/100; charges 0.
+pub fn plan_a() -> Plan {
+    Plan::new(&[
+        Guest::new(7, 2, 5, &[[1, 20, 20]]),
+        Guest::new(9, 8, 20, &[[10, 50, 50], [8, 100, 100]]),
+    ])
+}
+
+/// Guest 8/9 above guest 1/11, where the right side of the second task's equation falls.
+pub fn falling() -> Plan {
+    Plan::new(&[
+        Guest::new(1, 8, 9, &[[1, 31, 31]]),
+        Guest::new(2, 1, 11, &[[1, 31, 31], [1, 31, 31]]),
+    ])
+}
+
+/// Guest 1/1000 with a task 2/10/10: the first gap is past the deadline.
+pub fn long_gap() -> Plan {
+    Plan::new(&[Guest::new(1, 1, 1000, &[[2, 10, 10]])])
+}
+
+/// A guest that is unfit though little is asked, and below it one that is fitted with 8.
+pub fn unfit_above() -> Plan {
+    Plan::new(&[
+        Guest::new(1, 3, 10, &[[1, 100, 100]]),
+        Guest::new(2, 2, 4, &[[1, 100, 100]]),
+        Guest::new(3, 1, 20, &[[1, 100, 100]]),
+    ])
+}

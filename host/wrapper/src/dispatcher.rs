@@ -1,0 +1,135 @@
+//! The dispatcher, as Rust has it.
+
+use crate::{Answer, Dispatcher, Plan, Refusal, exports};
+
+/// What had a tick: guests by their id, tasks by their number from 1.
+#[derive(Clone, Copy, Debug, PartialEq, Eq)]
+pub enum Tick {
+    /// No guest had capacity left.
+    Nobody,
+    /// The guest had nothing to do and used up its capacity.
+    Idled { guest: u32 },
+    /// The task ran and has run left.
+    Ran { guest: u32, task: u32 },
+    /// The task's job finished; the margin is the deadline less the age, negative when late.
+    Finished {
+        guest: u32,
+        task: u32,
+        age: u32,
+        margin: i32,
+    },
+}
+
+/// What a run did: how many ticks, and the last of them if there was one.
+#[derive(Clone, Copy, Debug, PartialEq, Eq)]
+pub struct Progress {
+    pub done: u32,
+    pub last: Option<Tick>,
+}
+
+impl Answer {
+    /// The answer as an enum, or none.
+    pub fn tick(self) -> Option<Tick> {
+        let Answer {
+            kind,
+            guest,
+            task,
+            age,
+            margin,
+        } = self;
+        match kind {
+            1 => Some(Tick::Nobody),
+            2 => Some(Tick::Idled { guest }),
+            3 => Some(Tick::Ran { guest, task }),
+            4 => Some(Tick::Finished {
+                guest,
+                task,
+                age,
+                margin,
+            }),
+            _ => None,
+        }
+    }
+}
+
+impl Dispatcher {
+    /// A fresh state: no job, and all positions 0. The plan need not be an accepted one.
+    ///
+    /// ```
+    /// use coreshare::{Dispatcher, Guest, Plan};
+    ///
+    /// let plan = Plan::new(&[Guest::new(7, 2, 5, &[[1, 20, 20]])]);
+    /// assert_eq!(Dispatcher::fresh(&plan)?.plan, plan);
+    /// assert_eq!(Dispatcher::fresh(&Plan::default()).unwrap_err().number, 1);
+    /// # Ok::<(), coreshare::Refusal>(())
+    /// ```
+    pub fn fresh(plan: &Plan) -> Result<Dispatcher, Refusal> {
+        let outcome = exports::fresh(plan);
+        outcome.refusal.or(outcome.dispatcher)
+    }
+
+    /// Releases a job of a task; a refused release changes nothing.
+    ///
+    /// ```
+    /// use coreshare::{Dispatcher, Guest, Plan};
+    ///
+    /// let plan = Plan::new(&[Guest::new(7, 2, 5, &[[1, 20, 20]])]);
+    /// let mut dispatcher = Dispatcher::fresh(&plan)?;
+    /// dispatcher.release(7, 1)?;
+    /// assert_eq!(dispatcher.release(7, 1).unwrap_err().number, 9);
+    /// assert_eq!(dispatcher.release(7, 2).unwrap_err().number, 8);
+    /// # Ok::<(), coreshare::Refusal>(())
+    /// ```
+    pub fn release(&mut self, id: u32, task: u32) -> Result<(), Refusal> {
+        let outcome = exports::release(self, id, task);
+        *self = outcome.dispatcher;
+        outcome.refusal.or(())
+    }
+
+    /// Goes on by one tick.
+    ///
+    /// ```
+    /// use coreshare::{Dispatcher, Guest, Plan, Tick};
+    ///
+    /// let plan = Plan::new(&[Guest::new(7, 1, 2, &[[1, 20, 20]])]);
+    /// let mut dispatcher = Dispatcher::fresh(&plan)?;
+    /// assert_eq!(dispatcher.tick()?, Tick::Idled { guest: 7 });
+    /// assert_eq!(dispatcher.tick()?, Tick::Nobody);
+    /// dispatcher.release(7, 1)?;
+    /// let finished = Tick::Finished { guest: 7, task: 1, age: 1, margin: 19 };
+    /// assert_eq!(dispatcher.tick()?, finished);
+    /// # Ok::<(), coreshare::Refusal>(())
+    /// ```
+    pub fn tick(&mut self) -> Result<Tick, Refusal> {
+        let outcome = exports::tick(self);
+        *self = outcome.dispatcher;
+        let tick = outcome.refusal.or(outcome.answer.tick())?;
+        Ok(tick.unwrap_or(Tick::Nobody))
+    }
+
+    /// Goes on until a job finishes, or by this many ticks, at most 1,000,000.
+    ///
+    /// ```
+    /// use coreshare::{Dispatcher, Guest, Plan, Tick};
+    ///
+    /// let plan = Plan::new(&[
+    ///     Guest::new(7, 2, 5, &[[1, 20, 20]]),
+    ///     Guest::new(9, 8, 20, &[[10, 50, 50], [8, 100, 100]]),
+    /// ]);
+    /// let mut dispatcher = Dispatcher::fresh(&plan)?;
+    /// dispatcher.release(9, 1)?;
+    /// let progress = dispatcher.run(1_000)?;
+    /// assert_eq!(progress.done, 24);
+    /// let finished = Tick::Finished { guest: 9, task: 1, age: 24, margin: 26 };
+    /// assert_eq!(progress.last, Some(finished));
+    /// # Ok::<(), coreshare::Refusal>(())
+    /// ```
+    pub fn run(&mut self, ticks: u32) -> Result<Progress, Refusal> {
+        let outcome = exports::run(self, ticks);
+        *self = outcome.dispatcher;
+        outcome.refusal.or(Progress {
+            done: outcome.done,
+            last: outcome.answer.tick(),
+        })
+    }
+}

@@ -1,0 +1,33 @@
+//! Safe calls of the core-sharing library.
+//!
+//! On one core, up to 8 guests share the time, each with up to 16 tasks. The library reads and
+//! writes plan blocks, judges guests and tasks, searches the smallest capacity, and dispatches.
+//! Every rule stands in document 01; a refusal carries that document's number and place.
+//!
+//! The root of this crate has the calls as Rust has them, with `Result` and enums. [`exports`] has
+//! the same calls with the outcome whole, field by field as it crosses the C interface.
+//!
+//! ```
+//! use coreshare::{Guest, GuestVerdict, Plan, TaskVerdict};
+//!
+//! let plan = Plan::new(&[
+//!     Guest::new(7, 2, 5, &[[1, 20, 20]]),
+//!     Guest::new(9, 8, 20, &[[10, 50, 50], [8, 100, 100]]),
+//! ]);
+//! assert_eq!(plan.guest_verdict(9), Ok(GuestVerdict::Fitted(14)));
+//! assert_eq!(plan.task_verdict(9, 2), Ok(TaskVerdict::Met(80)));
+//! assert_eq!(plan.accepted(), Ok(true));
+//! ```
+#![no_std]
+#![deny(unsafe_code)]
+
+mod dispatcher;
+pub mod exports;
+mod plan;
+mod records;
+
+pub use dispatcher::{Progress, Tick};
+pub use plan::{BLOCK, GuestVerdict, TaskVerdict, find};
+pub use records::{
+    Answer, Dispatcher, Guest, Plan, Read, Refusal, Released, Run, Start, Ticked, Verdict,
+};

@@ -1,0 +1,168 @@
+//! The structs that cross the C interface, field by field as `coreshare.h` has them.
+
+use core::fmt;
+
+/// One guest's record. Entries past `tasks` are not looked at.
+///
+/// There are two bytes of padding after `charge`, which the library neither reads nor writes:
+/// compare records by their fields and never by their bytes.
+#[repr(C)]
+#[derive(Clone, Copy, Debug, Default, PartialEq, Eq)]
+pub struct Guest {
+    /// Not 0, and once in a plan.
+    pub id: u32,
+    /// 1 to the period.
+    pub capacity: u32,
+    /// 1 to 1,000,000 ticks.
+    pub period: u32,
+    /// The number of tasks, 1 to 16.
+    pub tasks: u32,
+    /// Added once to every task's run.
+    pub charge: u16,
+    /// Each task's run, 1 to 1,000,000.
+    pub run: [u32; 16],
+    /// Each task's period, 1 to 1,000,000.
+    pub every: [u32; 16],
+    /// Each task's deadline, 1 to its period.
+    pub deadline: [u32; 16],
+}
+
+/// A plan: its guests in priority order, first is highest. Guests past `count` are not looked at.
+#[repr(C)]
+#[derive(Clone, Copy, Debug, Default, PartialEq, Eq)]
+pub struct Plan {
+    /// The number of guests, 1 to 8.
+    pub count: u32,
+    pub guests: [Guest; 8],
+}
+
+/// A refusal's number and place, as document 01 lists them; number 0 is no refusal.
+#[repr(C)]
+#[derive(Clone, Copy, Debug, Default, PartialEq, Eq)]
+pub struct Refusal {
+    pub number: u32,
+    pub place: u32,
+}
+
+/// What reading gives. The plan of a refused reading is zero throughout.
+#[repr(C)]
+#[derive(Clone, Copy, Debug, Default, PartialEq, Eq)]
+pub struct Read {
+    pub refusal: Refusal,
+    pub plan: Plan,
+}
+
+/// A verdict with its ticks, both 0 on a refusal.
+#[repr(C)]
+#[derive(Clone, Copy, Debug, Default, PartialEq, Eq)]
+pub struct Verdict {
+    pub number: u32,
+    pub place: u32,
+    pub verdict: u32,
+    pub ticks: u32,
+}
+
+/// The dispatcher's state. Task `t` of guest `g`, both from 0, has its numbers at `16 * g + t`.
+#[repr(C)]
+#[derive(Clone, Copy, Debug, PartialEq, Eq)]
+pub struct Dispatcher {
+    pub plan: Plan,
+    /// Each guest's capacity left.
+    pub left: [u32; 8],
+    /// Each guest's position in its period.
+    pub position: [u32; 8],
+    /// Each task's run left.
+    pub rest: [u32; 128],
+    /// Each task's ticks until its next release may be taken.
+    pub wait: [u32; 128],
+    /// The age of each task's last job.
+    pub age: [u32; 128],
+}
+
+/// What had a tick: kind 0 no answer, 1 nobody, 2 a guest idled, 3 a task ran, 4 a job finished.
+/// The guest is its id, the task its number from 1; what the kind does not name is 0.
+#[repr(C)]
+#[derive(Clone, Copy, Debug, Default, PartialEq, Eq)]
+pub struct Answer {
+    pub kind: u32,
+    pub guest: u32,
+    pub task: u32,
+    pub age: u32,
+    pub margin: i32,
+}
+
+/// What a fresh start gives. The state of a refused start is zero throughout.
+#[repr(C)]
+#[derive(Clone, Copy, Debug, PartialEq, Eq)]
+pub struct Start {
+    pub refusal: Refusal,
+    pub dispatcher: Dispatcher,
+}
+
+/// What a release gives. The state of a refused release is unchanged.
+#[repr(C)]
+#[derive(Clone, Copy, Debug, PartialEq, Eq)]
+pub struct Released {
+    pub refusal: Refusal,
+    pub dispatcher: Dispatcher,
+}
+
+/// What a tick gives. A refused tick has no answer and leaves the state unchanged.
+#[repr(C)]
+#[derive(Clone, Copy, Debug, PartialEq, Eq)]
+pub struct Ticked {
+    pub refusal: Refusal,
+    pub answer: Answer,
+    pub dispatcher: Dispatcher,
+}
+
+/// What a run gives: the ticks done and the last tick's answer.
+#[repr(C)]
+#[derive(Clone, Copy, Debug, PartialEq, Eq)]
+pub struct Run {
+    pub refusal: Refusal,
+    pub done: u32,
+    pub answer: Answer,
+    pub dispatcher: Dispatcher,
+}
+
+impl Refusal {
+    /// The value, unless this is a refusal.
+    pub(crate) fn or<T>(self, value: T) -> Result<T, Refusal> {
+        match self.number {
+            0 => Ok(value),
+            _ => Err(self),
+        }
+    }
+
+    /// What the number means.
+    pub fn meaning(self) -> &'static str {
+        match self.number {
+            0 => "not refused",
+            1 => "the plan's length or guest count is out of range",
+            2 => "the block's words don't sum to zero",
+            3 => "the kind is not 1, or the place is not the block's own",
+            4 => "id, capacity, period or number of tasks is out of range",
+            5 => "a byte that must be zero is not",
+            6 => "a task's run, period or deadline is out of range",
+            7 => "no such guest in the plan",
+            8 => "no such task in the guest",
+            9 => "release before the task's period has passed",
+            10 => "release while the task's last job is unfinished",
+            11 => "no capacity works",
+            12 => "the writer's buffer is shorter than 512",
+            13 => "a run of more than 1,000,000 ticks",
+            14 => "a state outside its ranges",
+            _ => "no number of document 01",
+        }
+    }
+}
+
+impl fmt::Display for Refusal {
+    fn fmt(&self, to: &mut fmt::Formatter<'_>) -> fmt::Result {
+        let Refusal { number, place } = self;
+        write!(to, "refused {number} at {place}: {}", self.meaning())
+    }
+}
+
+impl core::error::Error for Refusal {}

@@ -1,0 +1,99 @@
+//! The C side: the header's layout against the wrapper's, and the example against its text.
+
+use std::fmt::Write;
+use std::mem::{align_of, offset_of, size_of};
+use std::path::{Path, PathBuf};
+use std::process::Command;
+
+use coreshare::{
+    Answer, Dispatcher, Guest, Plan, Read, Refusal, Released, Run, Start, Ticked, Verdict,
+};
+
+/// Compiles a C file of the folder `c` beside this crate, runs it and gives what it wrote.
+fn output_of(name: &str, libraries: &[PathBuf]) -> String {
+    let host = Path::new(env!("CARGO_MANIFEST_DIR")).join("..");
+    let program = Path::new(env!("CARGO_TARGET_TMPDIR")).join(name);
+    let compiled = Command::new("cc")
+        .args([
+            "-std=c11",
+            "-O2",
+            "-Wall",
+            "-Wextra",
+            "-Werror",
+            "-pedantic",
+            "-o",
+        ])
+        .arg(&program)
+        .arg(host.join("c").join(name).with_extension("c"))
+        .args(libraries)
+        .status()
+        .expect("a C compiler called cc");
+    assert!(compiled.success());
+    let run = Command::new(&program).output().expect("the program");
+    assert!(run.status.success());
+    String::from_utf8(run.stdout).expect("text")
+}
+
+fn size_of_field<S, F>(_: fn(&S) -> &F) -> usize {
+    size_of::<F>()
+}
+
+/// The lines that `layout.c` prints of one struct.
+macro_rules! lines {
+    ($to:expr, $name:literal, $type:ty, $($field:ident)*) => {
+        let (size, align) = (size_of::<$type>(), align_of::<$type>());
+        writeln!($to, "{} size {size} align {align}", $name).unwrap();
+        $(
+            let (at, size) = (offset_of!($type, $field), size_of_field(|s: &$type| &s.$field));
+            writeln!($to, "{}.{} at {at} size {size}", $name, stringify!($field)).unwrap();
+        )*
+    };
+}
+
+fn layout() -> String {
+    let mut to = String::new();
+    lines!(to, "CsGuest", Guest, id capacity period tasks charge run every deadline);
+    lines!(to, "CsPlan", Plan, count guests);
+    lines!(to, "CsRefusal", Refusal, number place);
+    lines!(to, "CsRead", Read, refusal plan);
+    lines!(to, "CsVerdict", Verdict, number place verdict ticks);
+    lines!(to, "CsDispatcher", Dispatcher, plan left position rest wait age);
+    lines!(to, "CsStart", Start, refusal dispatcher);
+    lines!(to, "CsReleased", Released, refusal dispatcher);
+    lines!(to, "CsAnswer", Answer, kind guest task age margin);
+    lines!(to, "CsTicked", Ticked, refusal answer dispatcher);
+    lines!(to, "CsRun", Run, refusal done answer dispatcher);
+    to
+}
+
+#[test]
+fn c_and_rust_lay_the_structs_out_alike() {
+    assert_eq!(output_of("layout", &[]), layout());
+}
+
+#[test]
+fn the_sizes_are_those_of_the_header() {
+    let sizes = [
+        size_of::<Guest>(),
+        size_of::<Plan>(),
+        size_of::<Dispatcher>(),
+        size_of::<Run>(),
+    ];
+    assert_eq!(sizes, [212, 1_700, 3_300, 3_332]);
+}
+
+#[test]
+fn the_example_writes_what_document_01_says() {
+    let archive = Path::new(env!("CARGO_MANIFEST_DIR")).join("../../target/staticlib/libhost.a");
+    let text = "guest 9 stands at byte 512
+guest 7 fitted 2
+task 1 met 4
+guest 9 fitted 14
+task 1 met 36
+task 2 met 80
+plan accepted
+guest 9 needs a capacity of 7
+after 24 ticks guest 9 finished task 1: age 24, margin 26
+";
+    assert_eq!(output_of("example", &[archive]), text);
+}
