@@ -1,0 +1,90 @@
+// Plans made step by step, and their bytes written block by block.
+use plan::Guest;
+use plan::Plan;
+use plan::Refusal;
+
+// A plan of no guest.
+pub fn empty() -> Plan {
+    Plan {
+        count: 0,
+        guests: [plan::blank_guest(); 8],
+    }
+}
+
+// A guest with no task yet.
+pub fn guest(id: u32, capacity: u32, period: u32, charge: u16) -> Guest {
+    let mut g = plan::blank_guest();
+    g.id = id;
+    g.capacity = capacity;
+    g.period = period;
+    g.charge = charge;
+    g
+}
+
+// The guest with one task more, below the others; a seventeenth is left out.
+pub fn with_task(g: Guest, run: u32, every: u32, deadline: u32) -> Guest {
+    let mut g = g;
+    let mut runs = g.run;
+    let mut periods = g.every;
+    let mut deadlines = g.deadline;
+    let n = g.tasks;
+    if n < 16 {
+        let i = n as usize;
+        runs[i] = run;
+        periods[i] = every;
+        deadlines[i] = deadline;
+        g.run = runs;
+        g.every = periods;
+        g.deadline = deadlines;
+        g.tasks = n + 1;
+    }
+    g
+}
+
+// The plan with one guest more, below the others; a ninth is left out.
+pub fn with_guest(p: Plan, g: Guest) -> Plan {
+    let mut guests = p.guests;
+    let n = p.count;
+    if n < 8 {
+        guests[n as usize] = g;
+        return Plan {
+            count: n + 1,
+            guests,
+        };
+    }
+    p
+}
+
+// A guest's block at its place, by the writer; a place past the buffer's end is a buffer too short.
+fn write_block(g: Guest, place: usize, buf: &mut [u8]) -> Refusal {
+    if place < 8 {
+        let a = 512 * place;
+        if a <= buf.len() {
+            return block::write(g, place as u32, &mut buf[a..]);
+        }
+    }
+    Refusal {
+        number: 12,
+        place: 0,
+    }
+}
+
+// The plan's blocks, one after the other, up to the first that the writer refuses.
+pub fn write(p: Plan, buf: &mut [u8]) -> Refusal {
+    let guests = p.guests;
+    let count = p.count as usize;
+    let mut k: usize = 0;
+    if count <= 8 {
+        while k < count {
+            let r = write_block(guests[k], k, buf);
+            if 0 < r.number {
+                return r;
+            }
+            k += 1;
+        }
+    }
+    Refusal {
+        number: 0,
+        place: 0,
+    }
+}

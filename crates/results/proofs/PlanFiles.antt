@@ -1,0 +1,35 @@
+-- Demand 2, plan files: plans read back as written, and the only bytes accepted are those we would write. `fileOf p` is what the writer writes for
+-- each guest of p at its place, one block after the other; `cleared p` is p with zeros past its guests and past their tasks.
+use mathlib.Core.Path.{_≡_}
+use mathlib.Core.List.{List}
+use Prim.Native.Nat.{ℕ, _<_}
+use lib.ListN.{length}
+use Rattle.plan.specs.First.{fine}
+use Rattle.plan.specs.Order.{planRefusal}
+use Rattle.plan.specs.Records.{guestAt}
+use Rattle.plan.specs.declared.Plan.{Plan}
+use Rattle.block.specs.Writing.{blockOf, written}
+use Rattle.planfile.specs.Records.{readOf}
+use Rattle.planfile_laws.specs.File.{fileOf, cleared}
+use Rattle.planfile_laws.specs.Fits.{PlanFits, Bytes}
+use Rattle.planfile_laws.proofs.OnlyOurs as ours
+use Rattle.planfile_laws.proofs.ReadBack as back
+
+-- Records that pass the check, written block by block, read as those records.
+pub read-back : (p : Plan) → PlanFits p → planRefusal p .number ≡ 0 → readOf (fileOf p) ≡ record { refusal = fine; plan = cleared p }
+read-back = back.read-back
+
+-- Each block of that file is what the writer leaves in a lent buffer of 512 bytes.
+pub written-so :
+    (p : Plan) → planRefusal p .number ≡ 0
+    → (k : ℕ) → k < p .count → (before : List ℕ) → length before ≡ 512
+    → written (guestAt (p .guests) k) k before ≡ blockOf (guestAt (p .guests) k) k
+written-so = back.written-so
+
+-- Bytes that read as a plan are exactly what is written for what was read,
+pub only-ours : (s : List ℕ) → Bytes s → readOf s .refusal .number ≡ 0 → fileOf (readOf s .plan) ≡ s
+only-ours = ours.only-ours
+
+-- which the writer does not refuse.
+pub read-passes : (s : List ℕ) → readOf s .refusal .number ≡ 0 → planRefusal (readOf s .plan) ≡ fine
+read-passes = ours.read-passes
