@@ -13,7 +13,7 @@ use Rattle.words.specs.Bytes.{bytesOf}
 use Rattle.words.specs.Wrap.{wrapped, complement}
 use Rattle.plan.specs.declared.Guest.{Guest}
 use Rattle.plan.specs.Ranges.{guestOk, tasksOk}
-use Rattle.block.specs.Writing.{withHead, withEntry, withEntries, wordsOf, withCheck, blockOf, writeNumber, writtenBy}
+use Rattle.block.specs.Writing.{withHead, withEntry, withEntries, wordsOf, withCheck, blockOf, writeNumber, writeRefusal, writtenBy, written}
 use Rattle.lists.proofs.Refusals.{none-left, go-on, stop, passed}
 
 -- the writer's number, by the tests that led to it
@@ -98,3 +98,12 @@ pub entries-next : (r e d : List ℕ) (n : ℕ) (x₀ x : List ℕ) → x ≡ wi
     → withEntry n (nth r n) (nth e n) (nth d n) x ≡ withEntries r e d (n + 1) x₀
 unfolding withEntries
 entries-next r e d n x₀ x h = rw (h, add-one) refl
+
+-- a refused write leaves every byte as it was
+same-by : (n : ℕ) (block before : List ℕ) → 0 < n → writtenBy n block before ≡ before
+unfolding writtenBy
+same-by zero block before h = absurd (omega arith)
+same-by (suc n) block before h = refl
+
+pub refused-same : (g : Guest) (place : ℕ) (before : List ℕ) → 0 < writeRefusal g place (length before) .number → written g place before ≡ before
+refused-same g place before h = same-by (writeNumber g place (length before)) (blockOf g place) before h
