@@ -19,7 +19,7 @@ use Rattle.dispatcher.specs.declared.Answer.{Answer}
 use Rattle.dispatcher.specs.declared.Answer.the-variants.{Nobody, Idled, Worked, Finished}
 use Rattle.dispatcher.specs.State.{placeAt, guestIn, restAt}
 use Rattle.dispatcher.specs.Tick.{holder, isHeld, worker, isWorked, ageAfter}
-use Rattle.dispatcher.specs.Answer.{marginOf, answerBy, answer}
+use Rattle.dispatcher.specs.Answer.{marginOf, answerBy, answer, finishes}
 use Rattle.dispatcher.specs.Lent.{turnBy, turn, Telling, Ending}
 use Rattle.lists.proofs.All.{and-left, and-right}
 use Rattle.lists.proofs.Places.{upTo-at, upTo-length}
@@ -45,7 +45,7 @@ unfolding isWorked
 worker-in d e = ltb-true (worker d) (guestIn d (holder d) .tasks) (and-right (isHeld d) _ e)
 
 -- and has run left
-pub worker-runs : (d : Dispatcher) → isWorked d ≡ true → 1 ≤ restAt d (holder d) (worker d)
+worker-runs : (d : Dispatcher) → isWorked d ≡ true → 1 ≤ restAt d (holder d) (worker d)
 unfolding worker
 worker-runs d e =
     let h : worker d < guestIn d (holder d) .tasks = worker-in d e in
@@ -187,3 +187,26 @@ module _ {d : Dispatcher} {ids : List ℕ} {n : ℕ} {t : Turn} (s : Telling d i
     where
       more : 1 < t .had
       more = elim (decLt 1 (t .had)) [ yes m ↦ m | no m ↦ absurd (s .more (omega arith)) ]
+
+-- whether a tick finishes a job, by what was noted
+module _ (d : Dispatcher) {t : Turn} (e : t ≡ turn d) where
+  pub finishes-done : t .had ≡ 1 → finishes (answer d) ≡ true
+  unfolding finishes
+  finishes-done m =
+      let l : 1 ≤ t .had = omega arith in
+      rw (← tell-done d e (worked-held d e l) l refl (omega arith) _ refl) refl
+
+  pub finishes-more : (t .had ≡ 1 → ⊥) → finishes (answer d) ≡ false
+  unfolding finishes
+  finishes-more m =
+      elim (decLt (t .guest) (d .plan .count)) [
+        | yes h ↦
+            elim (decLt (t .had) 1) [
+              | yes l ↦ rw (← tell-idle d e h refl l) refl
+              | no l ↦ rw (← tell-works d e h (omega arith) refl (more (omega arith))) refl
+            ]
+        | no h ↦ rw (← tell-nobody d e (omega arith)) refl
+      ]
+    where
+      more : 1 ≤ t .had → 1 < t .had
+      more l = elim (decLt 1 (t .had)) [ yes h ↦ h | no h ↦ absurd (m (omega arith)) ]

@@ -141,12 +141,23 @@ small-tasks {p} e c =
     let i = plan-in p e in
     record { guests = i .few; each = λ k h. omega (arith, c .many .holds k h, i .guests k h .head .few) }
 
--- what a tick leaves to tell it by, where it finished no job
-pub telling : {d after : Dispatcher} {r : Checked} {t : Turn} → planRefusal (d .plan) .number ≡ 0 → ColumnsIn (d .plan) r → Stepped d after t → (t .had ≡ 1 → ⊥)
-    → Telling d (r .ids) (d .plan .count) t
-telling p c s m = record { sound = p; count = refl; id = c .id .holds; had = s .had; more = m }
+module _ {d after : Dispatcher} {t : Turn} (p : planRefusal (after .plan) .number ≡ 0) (s : Stepped d after t) where
+  -- a tick keeps the plan
+  plan-kept : d .plan ≡ after .plan
+  unfolding next
+  plan-kept = sym (ap (λ (x : Dispatcher). x .plan) (s .state))
 
--- and where it did
-pub ending : {d after : Dispatcher} {t : Turn} → planRefusal (d .plan) .number ≡ 0 → Stepped d after t → t .had ≡ 1 → Ending d (d .plan) t (after .age)
-unfolding next
-ending p s m = record { sound = p; plan = refl; had = s .had; ages = ap (λ (x : Dispatcher). x .age) (s .state); last = m }
+  -- what a tick leaves to tell it by, where it finished no job
+  pub telling : {r : Checked} → ColumnsIn (after .plan) r → (t .had ≡ 1 → ⊥) → Telling d (r .ids) (after .plan .count) t
+  telling c m = record {
+    sound = rw plan-kept p;
+    count = ap (λ (x : Plan). x .count) plan-kept;
+    id = λ k h. c .id .holds k h ∙ ap (λ (x : Plan). guestAt (x .guests) k .id) (sym plan-kept);
+    had = s .had;
+    more = m;
+  }
+
+  -- and where it did
+  pub ending : t .had ≡ 1 → Ending d (after .plan) t (after .age)
+  unfolding next
+  ending m = record { sound = rw plan-kept p; plan = plan-kept; had = s .had; ages = ap (λ (x : Dispatcher). x .age) (s .state); last = m }

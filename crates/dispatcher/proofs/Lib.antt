@@ -3,9 +3,10 @@ pub mod Valid
 pub mod Tick
 pub mod Pass
 pub mod Lent
+pub mod Fresh
+pub mod Release
 pub mod Margin
 pub mod Answers
-pub mod Walking
-pub mod Taking
+pub mod Run
 pub mod Entries
 pub mod Promises

@@ -2,13 +2,13 @@
 use mathlib.Core.Path.{_≡_}
 use Prim.Native.Nat.{ℕ}
 use Rattle.plan.specs.declared.Plan.{Plan}
-use Rattle.plan.proofs.Promises.{one-outcome}
 use Rattle.dispatcher.specs.declared.Dispatcher.{Dispatcher}
-use Rattle.dispatcher.specs.declared.Ran.{Ran}
-use Rattle.dispatcher.specs.declared.Released.{Released}
 use Rattle.dispatcher.specs.declared.Started.{Started}
+use Rattle.dispatcher.specs.declared.Released.{Released}
 use Rattle.dispatcher.specs.declared.Ticked.{Ticked}
+use Rattle.dispatcher.specs.declared.Ran.{Ran}
 use Rattle.dispatcher.specs.Promises.{Starts, Releases, Ticks, Runs}
+use Rattle.plan.proofs.Promises.{one-outcome}
 
 -- fresh start
 pub starts-once : (p : Plan) (r s : Started) → Starts p r → Starts p s → r ≡ s

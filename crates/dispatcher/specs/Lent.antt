@@ -1,25 +1,33 @@
 -- One tick over lent arrays, apart from the plan: what the arrays stand for, and who had the tick as the code notes it.
 use mathlib.Core.Path.{_≡_}
 use mathlib.Core.Bool.{Bool, true, false, _&&_}
-use mathlib.Core.List.{List}
-use Prim.Native.Nat.{ℕ, _≤_, _<_}
-use lib.Dec.{ltb}
+use mathlib.Core.List.{List, [], _∷_}
+use Prim.Native.Nat.{ℕ, zero, suc, _-_, _≤_, _<_}
+use lib.Dec.{ltb, eqb}
 use Rattle.lists.specs.Choice.{pick}
 use Rattle.lists.specs.Places.{nth}
 use Rattle.lists.specs.All.{allTo}
+use Rattle.lists.specs.Refusals.{refusal, _orRefuse_}
 use Rattle.plan.specs.declared.Guest.{Guest}
 use Rattle.plan.specs.declared.Plan.{Plan}
-use Rattle.plan.specs.Records.{guestAt}
-use Rattle.plan.specs.Ranges.{mostTasks, guestOk, tasksOk}
-use Rattle.plan.specs.Charge.{chargedRun}
+use Rattle.plan.specs.Records.{guestAt, everyOf}
+use Rattle.plan.specs.Ranges.{mostTasks, within, guestOk, tasksOk}
+use Rattle.plan.specs.Charge.{chargedRun, charged}
 use Rattle.plan.specs.Order.{newId, planRefusal}
+use Rattle.plan.specs.Place.{placeOf}
 use Rattle.plan.specs.Filled.{Filled}
 use Rattle.dispatcher.specs.declared.Dispatcher.{Dispatcher}
+use Rattle.dispatcher.specs.declared.Aim.{Aim}
+use Rattle.dispatcher.specs.declared.Answer.{Answer}
+use Rattle.dispatcher.specs.declared.Answer.the-variants.{Silent}
 use Rattle.dispatcher.specs.declared.Checked.{Checked}
 use Rattle.dispatcher.specs.declared.Turn.{Turn}
 use Rattle.dispatcher.specs.State.{placeAt, guestIn, restAt}
 use Rattle.dispatcher.specs.Valid.{serverOk, noServer, jobOk, noJob, stateOk}
+use Rattle.dispatcher.specs.Release.{releaseNumber}
 use Rattle.dispatcher.specs.Tick.{refilled, holder, isHeld, leftAfter, worker, isWorked, restAfter, ageAfter, next}
+use Rattle.dispatcher.specs.Answer.{answer}
+use Rattle.dispatcher.specs.Run.{ranTo, runOf}
 
 -- the state of a plan with these arrays
 abbrev pub stateOf : Plan → (left position rest wait age : List ℕ) → Dispatcher
@@ -116,3 +124,40 @@ pub record Ending (d : Dispatcher) (p : Plan) (t : Turn) (age : List ℕ) : Type
   pub had : t ≡ turn d
   pub ages : age ≡ ageAfter d
   pub last : t .had ≡ 1
+
+-- the last tick's answer, by the number done and the state before that tick; no answer where none was done
+unfoldable pub lastBy : ℕ → Dispatcher → Answer
+lastBy zero before = Silent
+lastBy (suc n) before = answer before
+
+-- a run of n ticks that came to an end after `done`, the last of them noted
+pub record Gone (d : Dispatcher) (n done : ℕ) (t : Turn) (after : Dispatcher) : Type 0 where
+  pub before : Dispatcher
+  pub last : 0 < done → Stepped before after t
+  pub ran : runOf n d ≡ ranTo done (lastBy done before) after
+
+-- what a release that no number refuses sets: the place of task i of guest g, at place k, its charged run and its period
+pub record Taking (g : Guest) (k i : ℕ) (r : Aim) : Type 0 where
+  pub place : r .at ≡ placeAt k i
+  pub inside : r .at < 128
+  pub run : r .full ≡ charged g i
+  pub period : r .every ≡ everyOf g i
+
+-- the refusals of a release that is for guest g, at place k: 8, 9, 10
+abbrev pub takeNumber : Guest → (k task : ℕ) (rest wait : List ℕ) → ℕ
+takeNumber g k task rest wait =
+    refusal (
+    within 1 (g .tasks) task orRefuse 8
+    ∷ eqb (nth wait (placeAt k (task - 1))) 0 orRefuse 9
+    ∷ eqb (nth rest (placeAt k (task - 1))) 0 orRefuse 10
+    ∷ [])
+
+-- its outcome
+pub record AimsAt (g : Guest) (k task : ℕ) (rest wait : List ℕ) (r : Aim) : Type 0 where
+  pub refuses : r .number ≡ takeNumber g k task rest wait
+  pub takes : r .number ≡ 0 → Taking g k (task - 1) r
+
+-- the outcome of a release's refusals
+pub record Aims (d : Dispatcher) (id task : ℕ) (r : Aim) : Type 0 where
+  pub refuses : r .number ≡ releaseNumber d id task
+  pub takes : r .number ≡ 0 → Taking (guestIn d (placeOf (d .plan) id)) (placeOf (d .plan) id) (task - 1) r

@@ -3,10 +3,8 @@ pub mod Valid
 pub mod Fresh
 pub mod Release
 pub mod Tick
-pub mod Lent
-pub mod Taking
 pub mod Answer
 pub mod Run
-pub mod Walking
+pub mod Lent
 pub mod Entries
 pub mod Promises

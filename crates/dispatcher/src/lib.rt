@@ -2,12 +2,11 @@
 mod examine;
 mod jobs;
 mod ranges;
-mod releasing;
 mod running;
 mod server;
-mod starting;
+mod start;
 mod step;
-mod steps;
+mod taking;
 mod ticking;
 mod told;
 
@@ -63,17 +62,25 @@ pub struct TickOutcome {
     pub answer: Answer,
 }
 
-// Several ticks, as their steps note them: how many, and who had the last.
-pub struct Walk {
-    pub done: u32,
-    pub turn: Turn,
-}
-
-// What a run over lent arrays gives beside them: the number that it is refused by, or 0, the ticks done and the last one's answer.
+// What a run over lent arrays gives beside them.
 pub struct RunOutcome {
     pub number: u32,
     pub done: u32,
     pub answer: Answer,
+}
+
+// How many steps were done, and who had the last of them.
+pub struct Went {
+    pub done: u32,
+    pub turn: Turn,
+}
+
+// The number that a release is refused by, or 0, and then the place that it is for, with the run and the wait that it sets there.
+pub struct Aim {
+    pub number: u32,
+    pub at: usize,
+    pub full: u32,
+    pub every: u32,
 }
 
 #[repr(C)]

@@ -1,22 +1,68 @@
 // A run of ticks: its checks once, then steps over the state's arrays.
 ghost use mathlib.Core.Path.{_≡_};
+ghost use Rattle.plan.specs.declared.Plan as declared;
 ghost use Rattle.plan.specs.First.{refused};
-ghost use Rattle.dispatcher.specs.Lent.{stateOf};
+ghost use Rattle.dispatcher.specs.declared.Answer.the-variants.{Silent};
+ghost use Rattle.dispatcher.specs.Lent.{stateOf, Small, Columned, Gone};
 ghost use Rattle.dispatcher.specs.Promises.{Runs};
 use crate::Answer;
 use crate::Dispatcher;
 use crate::Ran;
 use crate::RunOutcome;
+use crate::Turn;
+use crate::Went;
 use crate::examine::examine;
-use crate::steps::walk;
+use crate::step::step;
 use crate::told::finished;
 use crate::told::told;
 use plan::Plan;
 use plan::Refusal;
 
-// A run that does no tick: refused by a number, or of none.
-fn none_done(number: u32) -> RunOutcome
-    ensures { λ r. ⌜ r ≡ record { number = number; done = 0; answer = Answer.Silent } ⌝ }
+// Steps until one finishes a job or the number is used up.
+fn steps(
+    left: &mut [u32; 8],
+    position: &mut [u32; 8],
+    rest: &mut [u32; 128],
+    wait: &mut [u32; 128],
+    age: &mut [u32; 128],
+    capacities: &[u32; 16],
+    periods: &[u32; 16],
+    tasks: &[u32; 16],
+    n: usize,
+    ticks: u32,
+) -> Went
+    requires { ⌜ Small n (now tasks) ⌝ }
+    ensures { λ r. ⌜ ((p : declared.Plan) → Columned p n (now (capacities .entry)) (now (periods .entry)) (now (tasks .entry)) → Gone (stateOf p (now (left .entry)) (now (position .entry)) (now (rest .entry)) (now (wait .entry)) (now (age .entry))) ticks (r .done) (r .turn) (stateOf p (now (left .exit)) (now (position .exit)) (now (rest .exit)) (now (wait .exit)) (now (age .exit)))) ⌝ }
+{
+    let mut turn = Turn {
+        guest: 0,
+        task: 0,
+        had: 0,
+    };
+    let mut done: u32 = 0;
+    while done < ticks {
+        turn = step(
+            left,
+            position,
+            rest,
+            wait,
+            age,
+            capacities,
+            periods,
+            tasks,
+            n,
+        );
+        done += 1;
+        if turn.had == 1 {
+            return Went { done, turn };
+        }
+    }
+    Went { done, turn }
+}
+
+// No tick was done.
+fn unmoved(number: u32) -> RunOutcome
+    ensures { λ r. ⌜ r ≡ record { number = number; done = 0; answer = Silent } ⌝ }
 {
     RunOutcome {
         number,
@@ -39,17 +85,17 @@ fn ran(
 {
     let found = examine(plan, left, position, rest, wait, age);
     if !found.ok {
-        return none_done(14);
+        return unmoved(14);
     }
     if 1000000 < ticks {
-        return none_done(13);
+        return unmoved(13);
     }
     let ids = found.ids;
     let capacities = found.capacities;
     let periods = found.periods;
     let tasks = found.tasks;
     let n = plan.count as usize;
-    let w = walk(
+    let went = steps(
         left,
         position,
         rest,
@@ -61,10 +107,10 @@ fn ran(
         n,
         ticks,
     );
-    let done = w.done;
-    let turn = w.turn;
+    let done = went.done;
+    let turn = went.turn;
     if done < 1 {
-        return none_done(0);
+        return unmoved(0);
     }
     if turn.had == 1 {
         return RunOutcome {

@@ -56,7 +56,7 @@ told-requires c κs =
     let d = stateOf (a .plan) (a .left .now) (a .position .now) (a .rest .now) (a .wait .now) (a .age .now) in
     let k = sym (e .before .before .examine .ensures .okay) ∙ not-false _ (e .if1 .left) in
     let f = e .before .before .examine .ensures .columns k in
-    (d, telling (ok-plan d k) f (c .before .before .before .step .ensures (a .plan) (columned f)) (c .before .if2 .left))
+    (d, telling (ok-plan d k) (c .before .before .before .step .ensures (a .plan) (columned f)) f (c .before .if2 .left))
 
 returns-3 : tie.Need-returns-3
 returns-3 c =
@@ -66,7 +66,7 @@ returns-3 c =
     let k = sym (e .before .before .examine .ensures .okay) ∙ not-false _ (e .if1 .left) in
     let f = e .before .before .examine .ensures .columns k in
     let s = c .before .before .before .before .step .ensures (a .plan) (columned f) in
-    tick-done k s (c .told .ensures d (telling (ok-plan d k) f s (c .before .before .if2 .left)))
+    tick-done k s (c .told .ensures d (telling (ok-plan d k) s f (c .before .before .if2 .left)))
 
 pub ticked-spec : {M : Type 1} → statement M
 ticked-spec =

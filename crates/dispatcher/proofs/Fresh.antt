@@ -1,0 +1,34 @@
+-- How a start comes to its whole outcome. Assumes nothing.
+use mathlib.Core.Path.{_≡_, refl}
+use Prim.Native.Nat.{ℕ, zero, suc, _≤_, _<_}
+use native.Mathlib.Omega.{arith}
+use Rattle.plan.specs.declared.Plan.{Plan}
+use Rattle.plan.specs.declared.Refusal.{Refusal}
+use Rattle.plan.specs.Records.{blankPlan}
+use Rattle.plan.specs.Order.{planRefusal}
+use Rattle.dispatcher.specs.declared.Dispatcher.{Dispatcher}
+use Rattle.dispatcher.specs.declared.Started.{Started}
+use Rattle.dispatcher.specs.Fresh.{idle, startedBy, fresh}
+
+-- by the records' number
+blank-by : (x : ℕ) (p : Plan) → 0 < x → idle blankPlan ≡ startedBy x p
+unfolding startedBy
+blank-by zero p h = absurd (omega arith)
+blank-by (suc n) p h = refl
+
+idle-by : (x : ℕ) (p : Plan) → x ≤ 0 → idle p ≡ startedBy x p
+unfolding startedBy
+idle-by zero p h = refl
+idle-by (suc n) p h = absurd (omega arith)
+
+-- a refused start
+pub start-refused : (p : Plan) {r : Refusal} {b : Plan} {d : Dispatcher} → r ≡ planRefusal p → 0 < r .number → b ≡ blankPlan → d ≡ idle b
+    → _≡_ {A = Started} (record { refusal = r; state = d }) (fresh p)
+unfolding fresh
+start-refused p e h f g = rw (g, f, ← e, ← blank-by _ p h) refl
+
+-- a start
+pub start-fresh : (p : Plan) {r : Refusal} {d : Dispatcher} → r ≡ planRefusal p → r .number ≤ 0 → d ≡ idle p
+    → _≡_ {A = Started} (record { refusal = r; state = d }) (fresh p)
+unfolding fresh
+start-fresh p e h g = rw (g, ← e, ← idle-by _ p h) refl

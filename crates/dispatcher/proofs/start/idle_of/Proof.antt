@@ -1,0 +1,16 @@
+-- The arrays are the definition's.
+use borrow.Author.Needs.{needs}
+use native.Mathlib.Omega.{arith}
+use mathlib.Core.Path.{refl}
+use Rattle.dispatcher.specs.Fresh.{idle}
+use Rattle.dispatcher.proofs.start.idle_of.Statement.{statement}
+use Rattle.dispatcher.proofs.start.idle_of.Tie as tie
+use Rattle.dispatcher.proofs.start.idle_of.Reads as reads
+use Rattle.dispatcher.proofs.start.idle_of.Lts as lts
+
+returns : tie.Need-returns
+unfolding idle
+returns c = refl
+
+pub idle-of-spec : {M : Type 1} → statement M
+idle-of-spec = tie.close (tie.spec returns)
