@@ -1,12 +1,11 @@
 -- A guest's verdict has its meaning and is the only one that has it: the search's answer is the least solution. Assumes nothing.
 use mathlib.Core.Path.{_≡_, refl, sym, _∙_, ap}
-use mathlib.Core.Bool.{Bool, true, false, not, false≢true}
+use mathlib.Core.Bool.{Bool, true, not, false≢true}
 use mathlib.Core.List.{[], _∷_}
-use Prim.Native.Nat.{ℕ, zero, suc, _≤_, _<_}
+use Prim.Native.Nat.{ℕ, suc, _≤_, _<_}
 use native.Mathlib.Omega.{arith}
 use lib.Dec.{eqb}
 use borrow.Author.Tests.{eqb-true, eq-eqb, not-true, lt-ltb}
-use Rattle.lists.specs.All.{allTo}
 use Rattle.lists.specs.Refusals.{_orRefuse_}
 use Rattle.lists.specs.Search.{firstFrom}
 use Rattle.lists.specs.declared.Found.{Found}
@@ -20,7 +19,7 @@ use Rattle.verdict.specs.Verdict.{hasGuest, guestSays, guestVerdict}
 use Rattle.verdict.specs.declared.GuestVerdict.{GuestVerdict}
 use Rattle.verdict.specs.declared.GuestVerdict.the-variants.{Refused, Fitted, Unfit}
 use Rattle.analysis.specs.Guests.{There, Fits, Responds, AllFit, GuestMeans}
-use Rattle.lists.proofs.All.{all-at, all-by, and-true}
+use Rattle.lists.proofs.All.{all-at, all-by}
 use Rattle.lists.proofs.Search.{at-of, is-at, first-found, first-before}
 use Rattle.equation.proofs.Solve.{Solved, Answers, solve-answers, solve-by}
 use Rattle.plan.proofs.Order.{plan-in}
@@ -106,14 +105,3 @@ fitted-all p k e j l = fitted-fits p j (all-at (fitted p) (suc k) j (omega arith
 pub all-fitted : (p : Plan) (k : ℕ) → AllFit p k → fittedTo p k ≡ true
 unfolding fittedTo
 all-fitted p k a = all-by (fitted p) (suc k) (λ j l. (let x = a j (omega arith) in fits-fitted p j (x .0) (x .1)))
-
--- a row of tests that fails has a test that fails
-pub all-false : (f : ℕ → Bool) (n : ℕ) → allTo f n ≡ false → (j : ℕ) × (j < n) × (f j ≡ false)
-unfolding allTo
-all-false f zero e = absurd (false≢true (sym e))
-all-false f (suc n) e = go (allTo f n) refl (f n) refl (all-false f n)
-  where
-    go : (a : Bool) → allTo f n ≡ a → (b : Bool) → f n ≡ b → (allTo f n ≡ false → (j : ℕ) × (j < n) × (f j ≡ false)) → (j : ℕ) × (j < suc n) × (f j ≡ false)
-    go a p false q h = (n, omega arith, q)
-    go false p true q h = (let x = h p in (x .0, omega (arith, x .1), x .2))
-    go true p true q h = absurd (false≢true (sym e ∙ and-true p q))

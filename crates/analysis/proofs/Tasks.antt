@@ -25,11 +25,11 @@ use Rattle.verdict.specs.declared.TaskVerdict.{TaskVerdict}
 use Rattle.verdict.specs.declared.TaskVerdict.the-variants.{Met, Unmet, Unjudged}
 use Rattle.analysis.specs.Guests.{There, AllFit}
 use Rattle.analysis.specs.Tasks.{Solves, InTime, TaskMet, TaskUnmet, TaskUnjudged, TaskMeans, AllInTime, AllGood, AcceptMeans}
-use Rattle.lists.proofs.All.{all-at, all-by, and-left, and-right, and-true}
+use Rattle.lists.proofs.All.{all-at, all-by, all-false, and-left, and-right, and-true}
 use Rattle.lists.proofs.Search.{is-at}
 use Rattle.equation.proofs.Solve.{Answers, solve-answers, solve-by}
 use Rattle.verdict.proofs.Verdict.{records-pass, test-passes, no-test, within-right}
-use Rattle.analysis.proofs.Guests.{there-place, there-has, fits-fitted, fitted-all, all-false}
+use Rattle.analysis.proofs.Guests.{there-place, there-has, fits-fitted, fitted-all}
 use Rattle.verdict.specs.declared.Acceptance.the-variants as plan
 use Rattle.verdict.specs.declared.TaskVerdict.the-variants as task
 

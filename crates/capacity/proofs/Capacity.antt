@@ -1,6 +1,6 @@
 -- The plan with another capacity is the plan itself above its place; so capacities are fitted downward and met upward in every plan that passes the check. Assumes nothing.
 use mathlib.Core.Path.{_≡_, refl, sym, _∙_, ap, fun-ext}
-use mathlib.Core.Bool.{Bool, true, false, _&&_}
+use mathlib.Core.Bool.{Bool, true, _&&_}
 use Prim.Native.Nat.{ℕ, _≤_, _<_}
 use native.Mathlib.Decide.{decLt}
 use native.Mathlib.Omega.{arith}
@@ -24,7 +24,7 @@ use Rattle.response.specs.Met.{allMet}
 use Rattle.response.specs.Columns.{taken, guestUnder, fittedAt, taskUnder, taskOf, acceptedUnder}
 use Rattle.capacity.specs.Capacity.{atCapacity, withCapacity, works, smallest}
 use Rattle.capacity.specs.Trial.{fitsAt}
-use Rattle.lists.proofs.All.{all-ext}
+use Rattle.lists.proofs.All.{and-assoc, all-ext}
 use Rattle.lists.proofs.Sum.{sum-same}
 use Rattle.lists.proofs.Table.{table-length, table-at}
 use Rattle.plan.proofs.Order.{PlanIn, plan-in}
@@ -40,11 +40,6 @@ in-list p o k h =
           let e : guestAt (p .guests) k .id ≡ 0 = ap (λ (g : Guest). g .id) (List·getD-eq-default (p .guests) absent {n = k} (omega arith)) in
           absurd (omega (arith, o .guests k h .head .named))
     ]
-
--- both of three
-and-assoc : (a b c : Bool) → ((a && b) && c) ≡ (a && (b && c))
-and-assoc true b c = refl
-and-assoc false b c = refl
 
 module _ (p : Plan) (k : ℕ) (here : k < length (p .guests)) (c : ℕ) where
   -- the guest at the place has the capacity

@@ -1,8 +1,8 @@
 -- How the answer comes from what a step noted. Assumes nothing.
-use mathlib.Core.Path.{_≡_, refl, ap, sym, _∙_}
-use mathlib.Core.Bool.{Bool, true, false, false≢true, _&&_}
+use mathlib.Core.Path.{_≡_, refl, ap, _∙_}
+use mathlib.Core.Bool.{Bool, true, false}
 use mathlib.Core.List.{List}
-use Prim.Native.Nat.{ℕ, _+_, _-_, _*_, _≤_, _<_, min}
+use Prim.Native.Nat.{ℕ, _+_, _≤_, _<_}
 use native.Mathlib.Decide.{decLt}
 use native.Mathlib.Omega.{arith}
 use lib.Dec.{ltb}
@@ -15,17 +15,15 @@ use Rattle.plan.specs.declared.Plan.{Plan}
 use Rattle.plan.specs.Records.{guestAt, deadlineOf}
 use Rattle.dispatcher.specs.declared.Dispatcher.{Dispatcher}
 use Rattle.dispatcher.specs.declared.Turn.{Turn}
-use Rattle.dispatcher.specs.declared.Answer.{Answer}
 use Rattle.dispatcher.specs.declared.Answer.the-variants.{Nobody, Idled, Worked, Finished}
 use Rattle.dispatcher.specs.State.{placeAt, guestIn, restAt}
 use Rattle.dispatcher.specs.Tick.{holder, isHeld, worker, isWorked, ageAfter}
 use Rattle.dispatcher.specs.Answer.{marginOf, answerBy, answer, finishes}
 use Rattle.dispatcher.specs.Lent.{turnBy, turn, Telling, Ending}
-use Rattle.lists.proofs.All.{and-left, and-right}
+use Rattle.lists.proofs.All.{and-right}
 use Rattle.lists.proofs.Places.{upTo-at, upTo-length}
 use Rattle.lists.proofs.Search.{first-found}
-use Rattle.plan.proofs.Ranges.{GuestIn, TaskIn}
-use Rattle.plan.proofs.Order.{PlanIn, plan-in}
+use Rattle.plan.proofs.Order.{plan-in}
 use Rattle.dispatcher.proofs.Tick.{grown, hasRun}
 
 -- the guest's place is noted in any case

@@ -1,13 +1,11 @@
 -- How serving lent arrays comes to the definitions of a tick. Assumes nothing.
 use mathlib.Core.Path.{_≡_, refl, ap, sym, _∙_}
-use mathlib.Core.Bool.{Bool, true, false, _&&_}
+use mathlib.Core.Bool.{true, false}
 use mathlib.Core.List.{List}
-use Prim.Native.Nat.{ℕ, zero, suc, _+_, _-_, _*_, _≤_, _<_}
+use Prim.Native.Nat.{ℕ, zero, suc, _-_, _≤_, _<_}
 use native.Mathlib.Omega.{arith}
-use lib.Dec.{ltb}
 use lib.ListN.{set}
 use borrow.Author.Tests.{lt-ltb, le-ltb, ltb-true}
-use Rattle.lists.specs.Choice.{pick}
 use Rattle.lists.specs.Places.{nth, upTo}
 use Rattle.lists.specs.Search.{firstFrom}
 use Rattle.plan.specs.declared.Plan.{Plan}
@@ -16,12 +14,12 @@ use Rattle.plan.specs.Order.{planRefusal}
 use Rattle.dispatcher.specs.declared.Dispatcher.{Dispatcher}
 use Rattle.dispatcher.specs.declared.Checked.{Checked}
 use Rattle.dispatcher.specs.declared.Turn.{Turn}
-use Rattle.dispatcher.specs.State.{placeAt, guestIn, restAt}
+use Rattle.dispatcher.specs.State.{placeAt}
 use Rattle.dispatcher.specs.Tick.{lessAt, refilled, holder, isHeld, leftAfter, worker, isWorked, restAfter, ageAfter, waitAfter, positionAfter, next}
 use Rattle.dispatcher.specs.Lent.{stateOf, ColumnsIn, Small, Columned, Telling, Ending, Refilled, Served, Stepped, turnBy, turn}
-use Rattle.lists.proofs.All.{and-true, and-false-left, and-false-right}
-use Rattle.lists.proofs.Search.{first-found, first-le}
-use Rattle.plan.proofs.Order.{PlanIn, plan-in}
+use Rattle.lists.proofs.All.{and-true, and-false-right}
+use Rattle.lists.proofs.Search.{first-found}
+use Rattle.plan.proofs.Order.{plan-in}
 use Rattle.dispatcher.proofs.Tick.{full, onward, grown, fallen, hasLeft, hasRun}
 
 -- the guest that was found has capacity left

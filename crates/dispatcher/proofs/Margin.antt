@@ -6,10 +6,10 @@ use native.Mathlib.Omega.{arith}
 use lib.Dec.{ltb}
 use lib.IntN.{ℤ, pos, negsuc, _-ℤ_}
 use lib.Signed.{mag}
+use Rattle.dispatcher.specs.Answer.{marginOf}
 use mir.Syntax.{w32}
 use mir.Val.{SFits, toZ, ofZ}
 use mir.Facts.{toZ-pos, toZ-ofZ}
-use Rattle.dispatcher.specs.Answer.{marginOf}
 
 -- either size of a difference is below what bounds both
 mag-cond : (b : Bool) (m n k : ℕ) → m < k → n < k → mag (cond b (negsuc m) (pos n)) < k

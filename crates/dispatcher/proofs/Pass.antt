@@ -1,6 +1,6 @@
 -- How one pass over the records comes to refusal 14's test and to the columns. Assumes nothing.
-use mathlib.Core.Path.{_≡_, refl, ap, sym, _∙_}
-use mathlib.Core.Bool.{Bool, true, false, false≢true, not, _&&_}
+use mathlib.Core.Path.{_≡_, refl, sym, _∙_}
+use mathlib.Core.Bool.{Bool, true, false, false≢true, _&&_}
 use mathlib.Core.List.{List, []}
 use Prim.Native.Nat.{ℕ, zero, suc, _+_, _≤_, _<_}
 use native.Mathlib.Decide.{decLt}
@@ -11,10 +11,8 @@ use borrow.Author.Tests.{lt-ltb, le-ltb, eq-eqb, eqb-true}
 use Rattle.lists.specs.Choice.{pick}
 use Rattle.lists.specs.Places.{nth}
 use Rattle.lists.specs.All.{allTo}
-use Rattle.plan.specs.declared.Guest.{Guest}
 use Rattle.plan.specs.declared.Plan.{Plan}
 use Rattle.plan.specs.Records.{guestAt}
-use Rattle.plan.specs.Ranges as ranges
 use Rattle.plan.specs.Ranges.{tasksOk}
 use Rattle.plan.specs.First.{refused, orElse, firstRefused}
 use Rattle.plan.specs.Order.{newId, numberOf, guestNumber, planRefusal}
@@ -22,13 +20,14 @@ use Rattle.plan.specs.Filled.{Filled}
 use Rattle.dispatcher.specs.declared.Dispatcher.{Dispatcher}
 use Rattle.dispatcher.specs.declared.Checked.{Checked}
 use Rattle.dispatcher.specs.State.{guestIn}
-use Rattle.dispatcher.specs.Valid.{serverOk, noServer, tasksIn, guestOk, taskOk, rowOk, stateOk}
+use Rattle.dispatcher.specs.Valid.{serverOk, noServer, tasksIn, guestInRange, taskInRange, rowOk, stateOk}
 use Rattle.dispatcher.specs.Lent.{Examines, placeOk, blankAt, guestIsOk, rowIsBlank, guestGoes, ColumnsIn}
 use Rattle.lists.proofs.All.{and-left, and-right, and-true, all-turn, all-by, all-at, all-ext}
 use Rattle.lists.proofs.Refusals.{passed}
 use Rattle.plan.proofs.First.{first-none}
 use Rattle.plan.proofs.Order.{none, counted}
 use Rattle.plan.proofs.Filled.{filled-next, filled-done}
+use Rattle.plan.specs.Ranges as ranges
 
 -- the columns of the first k guests
 pub record Columns (p : Plan) (ids capacities periods tasks : List ℕ) (k : ℕ) : Type 0 where
@@ -92,34 +91,34 @@ module _ (n : ℕ) (left position rest wait age : List ℕ) where
 
 module _ (d : Dispatcher) (k : ℕ) where
   -- a task's test, or that of a place past the tasks of a guest
-  task-is : k < d .plan .count → (t : ℕ) → placeOk (d .rest) (d .wait) (d .age) (guestIn d k .run) (guestIn d k .every) (guestIn d k .charge) k (guestIn d k .tasks) t ≡ taskOk d k t
-  unfolding taskOk tasksIn
+  task-is : k < d .plan .count → (t : ℕ) → placeOk (d .rest) (d .wait) (d .age) (guestIn d k .run) (guestIn d k .every) (guestIn d k .charge) k (guestIn d k .tasks) t ≡ taskInRange d k t
+  unfolding taskInRange tasksIn
   task-is h t = rw (lt-ltb k (d .plan .count) h) refl
 
   -- a guest's test
-  server-is : k < d .plan .count → serverOk (guestIn d k .capacity) (guestIn d k .period) (nth (d .left) k) (nth (d .position) k) ≡ guestOk d k
-  unfolding guestOk
+  server-is : k < d .plan .count → serverOk (guestIn d k .capacity) (guestIn d k .period) (nth (d .left) k) (nth (d .position) k) ≡ guestInRange d k
+  unfolding guestInRange
   server-is h = rw (lt-ltb k (d .plan .count) h) refl
 
   -- a guest in its ranges is one whose record and whose row are
   guest-row : k < d .plan .count
       → guestIsOk (guestIn d k) k (nth (d .left) k) (nth (d .position) k) (d .rest) (d .wait) (d .age) ≡ ((ranges.guestOk (guestIn d k) && tasksOk (guestIn d k)) && rowOk d k)
   unfolding guestIsOk rowOk
-  guest-row h = rw (server-is h, all-ext _ (taskOk d k) 16 (λ t l. task-is h t)) refl
+  guest-row h = rw (server-is h, all-ext _ (taskInRange d k) 16 (λ t l. task-is h t)) refl
 
   -- the tests of a row past the guests
-  past-task-is : d .plan .count ≤ k → (t : ℕ) → blankAt (d .rest) (d .wait) (d .age) k t ≡ taskOk d k t
-  unfolding taskOk tasksIn
+  past-task-is : d .plan .count ≤ k → (t : ℕ) → blankAt (d .rest) (d .wait) (d .age) k t ≡ taskInRange d k t
+  unfolding taskInRange tasksIn
   past-task-is h t = rw (le-ltb k (d .plan .count) h, le-ltb t 0 (omega arith)) refl
 
-  past-server-is : d .plan .count ≤ k → noServer (nth (d .left) k) (nth (d .position) k) ≡ guestOk d k
-  unfolding guestOk
+  past-server-is : d .plan .count ≤ k → noServer (nth (d .left) k) (nth (d .position) k) ≡ guestInRange d k
+  unfolding guestInRange
   past-server-is h = rw (le-ltb k (d .plan .count) h) refl
 
   -- a blank row is a row past the guests
   blank-row : d .plan .count ≤ k → rowIsBlank k (nth (d .left) k) (nth (d .position) k) (d .rest) (d .wait) (d .age) ≡ rowOk d k
   unfolding rowIsBlank rowOk
-  blank-row h = rw (past-server-is h, all-ext _ (taskOk d k) 16 (λ t l. past-task-is h t)) refl
+  blank-row h = rw (past-server-is h, all-ext _ (taskInRange d k) 16 (λ t l. past-task-is h t)) refl
 
 -- tests that pass together agree
 same : (a b : Bool) → (a ≡ true → b ≡ true) → (b ≡ true → a ≡ true) → a ≡ b

@@ -1,10 +1,10 @@
 -- How a release comes to its whole outcome. Assumes nothing.
 use mathlib.Core.Path.{_≡_, refl, sym, _∙_}
 use mathlib.Core.Bool.{true, false, _&&_}
-use mathlib.Core.List.{List, [], _∷_}
+use mathlib.Core.List.{List, []}
 use Prim.Native.Nat.{ℕ, zero, suc, _-_, _≤_, _<_}
 use native.Mathlib.Omega.{arith}
-use lib.Dec.{leb, ltb, eqb}
+use lib.Dec.{leb, eqb}
 use lib.ListN.{set}
 use borrow.Author.Tests.{lt-ltb, le-ltb, le-leb, lt-leb, eq-eqb, ne-eqb}
 use Rattle.lists.specs.Places.{nth}
@@ -30,7 +30,7 @@ use Rattle.lists.proofs.All.{and-left, and-true, and-false-left, and-false-righ
 use Rattle.lists.proofs.Refusals.{none-left, go-on, stop, passed}
 use Rattle.lists.proofs.Search.{first-ext}
 use Rattle.plan.proofs.First.{first-none}
-use Rattle.plan.proofs.Order.{PlanIn, counted, plan-in}
+use Rattle.plan.proofs.Order.{counted, plan-in}
 use Rattle.dispatcher.proofs.Valid.{runs-small}
 use Rattle.plan.proofs.Ranges.{head-says}
 

@@ -1,19 +1,16 @@
 -- How steps come to a run. Assumes nothing.
-use mathlib.Core.Path.{_≡_, refl, ap, sym, _∙_}
-use mathlib.Core.Bool.{Bool, true, false}
-use Prim.Native.Nat.{ℕ, zero, suc, _+_, _-_, _≤_, _<_}
+use mathlib.Core.Path.{_≡_, refl, _∙_}
+use Prim.Native.Nat.{ℕ, suc, _+_, _-_, _≤_, _<_}
 use native.Mathlib.Numerals.{add-one}
 use native.Mathlib.Omega.{arith}
 use Rattle.lists.specs.Choice.{pick}
 use Rattle.dispatcher.specs.declared.Dispatcher.{Dispatcher}
 use Rattle.dispatcher.specs.declared.Turn.{Turn}
 use Rattle.dispatcher.specs.declared.Answer.{Answer}
-use Rattle.dispatcher.specs.declared.Answer.the-variants.{Silent}
-use Rattle.dispatcher.specs.declared.Ran.{Ran}
 use Rattle.dispatcher.specs.Tick.{next}
 use Rattle.dispatcher.specs.Answer.{answer, finishes}
 use Rattle.dispatcher.specs.Run.{ranTo, runFrom, runOf}
-use Rattle.dispatcher.specs.Lent.{turn, Stepped, lastBy, Gone}
+use Rattle.dispatcher.specs.Lent.{Stepped, lastBy, Gone}
 use Rattle.dispatcher.proofs.Answers.{finishes-done, finishes-more}
 
 -- one tick more, by whether it finishes a job

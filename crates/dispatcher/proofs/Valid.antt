@@ -1,28 +1,23 @@
 -- How the code comes to refusal 14's test, and what a state that passes says. Assumes nothing.
-use mathlib.Core.Path.{_≡_, refl, ap, sym, _∙_}
+use mathlib.Core.Path.{_≡_, refl, sym, _∙_}
 use mathlib.Core.Bool.{Bool, true, false, _&&_}
 use mathlib.Core.List.{List}
 use Prim.Native.Nat.{ℕ, zero, suc, _≤_, _<_}
 use native.Mathlib.Omega.{arith}
-use lib.Dec.{ltb, leb, eqb}
-use borrow.Author.Tests.{ltb-true, lt-leb, eq-eqb, ne-eqb, eqb-true}
+use lib.Dec.{leb, eqb}
+use borrow.Author.Tests.{lt-leb, ne-eqb, eqb-true}
 use Rattle.lists.specs.Choice.{pick}
-use Rattle.lists.specs.Places.{nth}
 use Rattle.lists.specs.All.{allTo}
 use Rattle.plan.specs.declared.Guest.{Guest}
-use Rattle.plan.specs.declared.Plan.{Plan}
-use Rattle.plan.specs.declared.Refusal.{Refusal}
-use Rattle.plan.specs.Records.{guestAt, runOf, everyOf, deadlineOf}
+use Rattle.plan.specs.Records.{runOf, everyOf, deadlineOf}
 use Rattle.plan.specs.Ranges.{mostTasks, guestOk, tasksOk}
 use Rattle.plan.specs.Order.{planRefusal}
 use Rattle.plan.specs.Charge.{chargedRun}
 use Rattle.dispatcher.specs.declared.Dispatcher.{Dispatcher}
-use Rattle.dispatcher.specs.State.{placeAt, guestIn}
 use Rattle.dispatcher.specs.Lent.{placeOk, blankAt, guestIsOk, rowIsBlank}
-use Rattle.dispatcher.specs.Valid.{serverOk, noServer, jobOk, noJob, tasksIn, taskOk, rowOk, stateOk}
+use Rattle.dispatcher.specs.Valid.{serverOk, noServer, jobOk, noJob, rowOk, stateOk}
 use Rattle.lists.proofs.All.{and-left, all-at}
 use Rattle.plan.proofs.Ranges.{task-says}
-use Rattle.plan.proofs.Order.{plan-in}
 
 -- a loop's end: n places were tested and no more
 pub all-end : (f : ℕ → Bool) (i n : ℕ) {ok : Bool} → ok ≡ allTo f i → i ≤ n → n ≤ i → ok ≡ allTo f n

@@ -33,22 +33,22 @@ unfoldable pub tasksIn : Dispatcher → ℕ → ℕ
 tasksIn d k = pick (ltb k (d .plan .count)) (guestIn d k .tasks) 0
 
 -- the two numbers of guest k
-unfoldable pub guestOk : Dispatcher → ℕ → Bool
-guestOk d k =
+unfoldable pub guestInRange : Dispatcher → ℕ → Bool
+guestInRange d k =
     pick (ltb k (d .plan .count))
     (serverOk (guestIn d k .capacity) (guestIn d k .period) (nth (d .left) k) (nth (d .position) k))
     (noServer (nth (d .left) k) (nth (d .position) k))
 
 -- the three numbers of task t of guest k
-unfoldable pub taskOk : Dispatcher → ℕ → ℕ → Bool
-taskOk d k t =
+unfoldable pub taskInRange : Dispatcher → ℕ → ℕ → Bool
+taskInRange d k t =
     pick (ltb t (tasksIn d k))
     (jobOk (charged (guestIn d k) t) (everyOf (guestIn d k) t) (restAt d k t) (waitAt d k t) (ageAt d k t))
     (noJob (restAt d k t) (waitAt d k t) (ageAt d k t))
 
 -- all numbers of guest k
 unfoldable pub rowOk : Dispatcher → ℕ → Bool
-rowOk d k = guestOk d k && allTo (taskOk d k) mostTasks
+rowOk d k = guestInRange d k && allTo (taskInRange d k) mostTasks
 
 -- the state is not refused
 unfoldable pub stateOk : Dispatcher → Bool

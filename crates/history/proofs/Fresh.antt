@@ -13,7 +13,7 @@ use Rattle.plan.specs.Charge.{charged}
 use Rattle.plan.specs.Ranges.{longest}
 use Rattle.plan.specs.Order.{planRefusal}
 use Rattle.dispatcher.specs.State.{placeAt, guestIn, restAt, waitAt, ageAt}
-use Rattle.dispatcher.specs.Valid.{serverOk, noServer, jobOk, noJob, tasksIn, guestOk, taskOk}
+use Rattle.dispatcher.specs.Valid.{serverOk, noServer, jobOk, noJob, tasksIn, guestInRange, taskInRange}
 use Rattle.dispatcher.specs.Fresh.{idle, startedBy, fresh}
 use Rattle.lists.proofs.All.{and-true}
 use Rattle.plan.proofs.Order.{PlanIn, plan-in}
@@ -74,15 +74,15 @@ module _ (p : Plan) where
   idle-plan = refl
 
   -- each guest is in its ranges
-  guest-idle : PlanIn p → (k : ℕ) → k < 8 → guestOk (idle p) k ≡ true
-  unfolding guestOk idle
+  guest-idle : PlanIn p → (k : ℕ) → k < 8 → guestInRange (idle p) k ≡ true
+  unfolding guestInRange idle
   guest-idle P k h =
       server-idle (ltb k (p .count)) (guestAt (p .guests) k .capacity) (guestAt (p .guests) k .period) (leftAt (idle p) k) (posAt (idle p) k)
       (λ q. (let G = P .guests k (ltb-true k (p .count) q) .head in omega (arith, G .some, G .fits))) (idle-left k h) (idle-position k h)
 
   -- and each task
-  task-idle : (k t : ℕ) → k < 8 → t < 16 → taskOk (idle p) k t ≡ true
-  unfolding taskOk
+  task-idle : (k t : ℕ) → k < 8 → t < 16 → taskInRange (idle p) k t ≡ true
+  unfolding taskInRange
   task-idle k t h l =
       job-idle (ltb t (tasksIn (idle p) k)) (charged (guestIn (idle p) k) t) (everyOf (guestIn (idle p) k) t) (restAt (idle p) k t)
       (waitAt (idle p) k t) (ageAt (idle p) k t) (idle-rest k t h l) (idle-wait k t h l) (idle-age k t h l)

@@ -9,7 +9,7 @@ use Rattle.lists.specs.Choice.{pick}
 use Rattle.plan.specs.Ranges.{longest}
 use Rattle.plan.specs.Order.{planRefusal}
 use Rattle.dispatcher.specs.declared.Dispatcher.{Dispatcher}
-use Rattle.dispatcher.specs.Valid.{serverOk, noServer, jobOk, noJob, guestOk, taskOk, rowOk, stateOk}
+use Rattle.dispatcher.specs.Valid.{serverOk, noServer, jobOk, noJob, guestInRange, taskInRange, rowOk, stateOk}
 use Rattle.lists.proofs.All.{and-left, and-right, and-true, all-at, all-by}
 
 -- the records are in order
@@ -18,28 +18,28 @@ unfolding stateOk
 ok-plan d e = eqb-true _ 0 (and-left (eqb (planRefusal (d .plan) .number) 0) _ e)
 
 -- so is each guest
-pub ok-guest : (d : Dispatcher) → stateOk d ≡ true → (k : ℕ) → k < 8 → guestOk d k ≡ true
+pub ok-guest : (d : Dispatcher) → stateOk d ≡ true → (k : ℕ) → k < 8 → guestInRange d k ≡ true
 unfolding stateOk rowOk
 ok-guest d e k h =
-    and-left (guestOk d k) _ (all-at (rowOk d) 8 k h (and-right (eqb (planRefusal (d .plan) .number) 0) _ e))
+    and-left (guestInRange d k) _ (all-at (rowOk d) 8 k h (and-right (eqb (planRefusal (d .plan) .number) 0) _ e))
 
 -- and each task
-pub ok-task : (d : Dispatcher) → stateOk d ≡ true → (k t : ℕ) → k < 8 → t < 16 → taskOk d k t ≡ true
+pub ok-task : (d : Dispatcher) → stateOk d ≡ true → (k t : ℕ) → k < 8 → t < 16 → taskInRange d k t ≡ true
 unfolding stateOk rowOk
 ok-task d e k t h l =
-    all-at (taskOk d k) 16 t l (and-right (guestOk d k) _ (all-at (rowOk d) 8 k h (and-right (eqb (planRefusal (d .plan) .number) 0) _ e)))
+    all-at (taskInRange d k) 16 t l (and-right (guestInRange d k) _ (all-at (rowOk d) 8 k h (and-right (eqb (planRefusal (d .plan) .number) 0) _ e)))
 
 -- and from the parts the whole
 pub ok-by :
     (d : Dispatcher)
     → planRefusal (d .plan) .number ≡ 0
-    → ((k : ℕ) → k < 8 → guestOk d k ≡ true)
-    → ((k t : ℕ) → k < 8 → t < 16 → taskOk d k t ≡ true)
+    → ((k : ℕ) → k < 8 → guestInRange d k ≡ true)
+    → ((k t : ℕ) → k < 8 → t < 16 → taskInRange d k t ≡ true)
     → stateOk d ≡ true
 unfolding stateOk rowOk
 ok-by d e g t =
     and-true (eq-eqb _ 0 e)
-    (all-by (rowOk d) 8 (λ k h. and-true (g k h) (all-by (taskOk d k) 16 (λ j l. t k j h l))))
+    (all-by (rowOk d) 8 (λ k h. and-true (g k h) (all-by (taskInRange d k) 16 (λ j l. t k j h l))))
 
 -- by whether it is a guest
 pub server-by :

@@ -18,7 +18,7 @@ use Rattle.plan.specs.Charge.{charged}
 use Rattle.plan.specs.Order.{planRefusal}
 use Rattle.dispatcher.specs.declared.Dispatcher.{Dispatcher}
 use Rattle.dispatcher.specs.State.{placeAt, guestIn, restAt, waitAt, ageAt}
-use Rattle.dispatcher.specs.Valid.{tasksIn, guestOk, taskOk, stateOk}
+use Rattle.dispatcher.specs.Valid.{tasksIn, guestInRange, taskInRange, stateOk}
 use Rattle.dispatcher.specs.Tick.{lessAt, refilled, holder, isHeld, leftAfter, worker, isWorked, restAfter, ageAfter, waitAfter, positionAfter, next}
 use Rattle.dispatcher.specs.Release.{taken}
 use Rattle.lists.proofs.Places.{upTo-rest, upTo-get, set-get}
@@ -109,16 +109,16 @@ module _ (d : Dispatcher) where
       (upTo-get (λ k age. pick (ltb 0 (nth (d .rest) k)) (min (age + 1) longest) age) 128 (d .age) (placeAt k t))
 
   -- a guest
-  guest-next : (k : ℕ) → guestOk d k ≡ true → guestOk (next d) k ≡ true
-  unfolding guestOk next
+  guest-next : (k : ℕ) → guestInRange d k ≡ true → guestInRange (next d) k ≡ true
+  unfolding guestInRange next
   guest-next k e =
       server-by (ltb k (d .plan .count)) (guestIn d k .capacity) (guestIn d k .period) (leftAt d k) (posAt d k) (leftAt (next d) k)
       (posAt (next d) k) (λ q l p. (left-within k l, position-within k p))
       (λ q l p. (left-past k (ltb-false _ _ q) l, position-past k (ltb-false _ _ q) p)) e
 
   -- a task
-  task-next : (k t : ℕ) → taskOk d k t ≡ true → taskOk (next d) k t ≡ true
-  unfolding taskOk tasksIn next
+  task-next : (k t : ℕ) → taskInRange d k t ≡ true → taskInRange (next d) k t ≡ true
+  unfolding taskInRange tasksIn next
   task-next k t e =
       job-by (ltb t (tasksIn d k)) (charged (guestIn d k) t) (everyOf (guestIn d k) t) (restAt d k t) (waitAt d k t) (ageAt d k t)
       (restAt (next d) k t) (waitAt (next d) k t) (ageAt (next d) k t)
@@ -141,14 +141,14 @@ unfolding taken
 taken-plan d k t = refl
 
 -- and the guests' numbers
-taken-guest : (d : Dispatcher) (k t g : ℕ) → guestOk (taken d k t) g ≡ guestOk d g
-unfolding taken guestOk
+taken-guest : (d : Dispatcher) (k t g : ℕ) → guestInRange (taken d k t) g ≡ guestInRange d g
+unfolding taken guestInRange
 taken-guest d k t g = refl
 
 module _ (d : Dispatcher) (k t : ℕ) (in-plan : k < d .plan .count) (in-guest : t < guestIn d k .tasks) (few : guestIn d k .tasks ≤ 16) where
   -- the released task itself
-  task-new : taskOk d k t ≡ true → taskOk (taken d k t) k t ≡ true
-  unfolding taskOk tasksIn taken
+  task-new : taskInRange d k t ≡ true → taskInRange (taken d k t) k t ≡ true
+  unfolding taskInRange tasksIn taken
   task-new e =
       job-by (ltb t (tasksIn d k)) (charged (guestIn d k) t) (everyOf (guestIn d k) t) (restAt d k t) (waitAt d k t) (ageAt d k t)
       (restAt (taken d k t) k t) (waitAt (taken d k t) k t) (ageAt (taken d k t) k t)
@@ -161,8 +161,8 @@ module _ (d : Dispatcher) (k t : ℕ) (in-plan : k < d .plan .count) (in-guest :
       e
 
   -- any other task is as it was
-  task-other : (g j : ℕ) → (placeAt g j ≡ placeAt k t → ⊥) → taskOk d g j ≡ true → taskOk (taken d k t) g j ≡ true
-  unfolding taskOk tasksIn taken
+  task-other : (g j : ℕ) → (placeAt g j ≡ placeAt k t → ⊥) → taskInRange d g j ≡ true → taskInRange (taken d k t) g j ≡ true
+  unfolding taskInRange tasksIn taken
   task-other g j n e =
       rw (
         getD-set-other (d .rest) (placeAt k t) (placeAt g j) (charged (guestIn d k) t) 0 n,
@@ -178,10 +178,10 @@ module _ (d : Dispatcher) (k t : ℕ) (in-plan : k < d .plan .count) (in-guest :
       plan : planRefusal (taken d k t .plan) .number ≡ 0
       plan = rw (taken-plan d k t) (ok-plan d e)
 
-      guest : (g : ℕ) → g < 8 → guestOk (taken d k t) g ≡ true
+      guest : (g : ℕ) → g < 8 → guestInRange (taken d k t) g ≡ true
       guest g h = rw (taken-guest d k t g) (ok-guest d e g h)
 
-      task : (g j : ℕ) → g < 8 → j < 16 → taskOk (taken d k t) g j ≡ true
+      task : (g j : ℕ) → g < 8 → j < 16 → taskInRange (taken d k t) g j ≡ true
       task g j h l =
           elim (ℕ-discrete (placeAt g j) (placeAt k t)) [
             | yes q ↦

@@ -77,3 +77,31 @@ pub all-ext : (f g : ℕ → Bool) (n : ℕ) → ((k : ℕ) → k < n → f k �
 unfolding allTo
 all-ext f g zero h = refl
 all-ext f g (suc n) h = rw (all-ext f g n (λ k l. h k (omega arith)), h n (omega arith)) refl
+
+-- tests regrouped
+pub and-assoc : (a b c : Bool) → ((a && b) && c) ≡ (a && (b && c))
+and-assoc true b c = refl
+and-assoc false b c = refl
+
+-- two tests in a row, or one row of both
+and-swap : (a b f g : Bool) → ((a && b) && (f && g)) ≡ ((a && f) && (b && g))
+and-swap false b f g = refl
+and-swap true true f g = refl
+and-swap true false true g = refl
+and-swap true false false g = refl
+
+pub all-and : (f g : ℕ → Bool) (n : ℕ) → allTo (λ k. f k && g k) n ≡ (allTo f n && allTo g n)
+unfolding allTo
+all-and f g zero = refl
+all-and f g (suc n) = rw (all-and f g n) (and-swap (allTo f n) (allTo g n) (f n) (g n))
+
+-- not all pass, so one fails
+pub all-false : (f : ℕ → Bool) (n : ℕ) → allTo f n ≡ false → (j : ℕ) × (j < n) × (f j ≡ false)
+unfolding allTo
+all-false f zero e = absurd (false≢true (sym e))
+all-false f (suc n) e = go (allTo f n) refl (f n) refl (all-false f n)
+  where
+    go : (a : Bool) → allTo f n ≡ a → (b : Bool) → f n ≡ b → (allTo f n ≡ false → (j : ℕ) × (j < n) × (f j ≡ false)) → (j : ℕ) × (j < suc n) × (f j ≡ false)
+    go a p false q h = (n, omega arith, q)
+    go false p true q h = (let x = h p in (x .0, omega (arith, x .1), x .2))
+    go true p true q h = absurd (false≢true (sym e ∙ and-true p q))

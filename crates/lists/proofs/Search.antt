@@ -87,20 +87,6 @@ count-at p n k h b e = least-is p n 0 (At k) record { low = omega arith; high = 
 pub count-none : (p : ℕ → Bool) (n k : ℕ) → n ≤ k → Passed p k → Nothing ≡ least p n 0
 count-none p n k h b = least-is p n 0 Nothing record { never = λ z l m. b z (omega arith) }
 
--- what is said by a test is said by one that agrees with it
-says-ext : (p q : ℕ → Bool) (n : ℕ) → ((k : ℕ) → k < n → p k ≡ q k) → (r : Found) → Says p n 0 r → Says q n 0 r
-says-ext p q n h Nothing o = record { never = λ z l m. sym (h z (omega arith)) ∙ o .never z l m }
-says-ext p q n h (At y) o = record {
-  low = o .low;
-  high = o .high;
-  holds = sym (h y (omega arith)) ∙ o .holds;
-  first = λ z l m. sym (h z (omega arith)) ∙ o .first z l m;
-}
-
--- tests that agree below n find the same
-pub least-ext : (p q : ℕ → Bool) (n : ℕ) → ((k : ℕ) → k < n → p k ≡ q k) → least p n 0 ≡ least q n 0
-least-ext p q n h = least-is q n 0 (least p n 0) (says-ext p q n h (least p n 0) (least-says p n 0))
-
 -- an answer, from the test
 pub at-of : (f : Found) → isAt f ≡ true → (y : ℕ) × (f ≡ At y)
 at-of Nothing e = absurd (false≢true e)

@@ -46,3 +46,9 @@ pub first-ext : (f g : ℕ → ℕ) (m k : ℕ) → ((z : ℕ) → k ≤ z → z
 unfolding firstRefused
 first-ext f g zero k h = refl
 first-ext f g (suc m) k h = rw (h k (omega arith) (omega arith), first-ext f g m (suc k) (λ z l b. h z (omega arith) (omega arith))) refl
+
+-- no number anywhere, so nothing is refused
+pub first-fine : (f : ℕ → ℕ) (m k : ℕ) → ((z : ℕ) → k ≤ z → z < k + m → f z ≡ 0) → firstRefused f m k ≡ fine
+unfolding firstRefused orElse
+first-fine f zero k h = refl
+first-fine f (suc m) k h = rw (h k (omega arith) (omega arith)) (first-fine f m (suc k) (λ z l b. h z (omega arith) (omega arith)))

@@ -20,7 +20,7 @@ use Rattle.plan.proofs.Order.{counted}
 use Rattle.lists.proofs.All.{all-ext}
 use Rattle.lists.proofs.Refusals.{none-left, go-on}
 use Rattle.block.proofs.Reading.{block-in}
-use Rattle.planfile_laws.proofs.ReadBack.{first-fine}
+use Rattle.plan.proofs.First.{first-fine}
 use Rattle.lists.proofs.Table.{table-before}
 use Rattle.planfile.proofs.File.{FileIn, file-in}
 use Rattle.planfile_laws.proofs.BlockOnly.{written-again}

@@ -2,7 +2,7 @@
 use mathlib.Core.Path.{_≡_, refl, sym, ap, _∙_}
 use mathlib.Core.Bool.{true}
 use mathlib.Core.List.{List, _++_, append-nil}
-use Prim.Native.Nat.{ℕ, zero, suc, _+_, _*_, _%_, _≤_, _<_}
+use Prim.Native.Nat.{ℕ, _*_, _%_, _≤_, _<_}
 use native.Mathlib.Omega.{arith}
 use lib.ListN.{length, drop, replicate, drop-of-length-le}
 use borrow.Author.Tests.{eq-eqb, le-leb}
@@ -10,7 +10,7 @@ use Rattle.plan.specs.declared.Guest.{Guest}
 use Rattle.plan.specs.declared.Plan.{Plan}
 use Rattle.plan.specs.Records.{guestAt, blank}
 use Rattle.plan.specs.Ranges.{headOk, taskOk, tasksOk}
-use Rattle.plan.specs.First.{fine, orElse, firstRefused}
+use Rattle.plan.specs.First.{fine}
 use Rattle.plan.specs.Order.{newId, planRefusal}
 use Rattle.block.specs.Reading.{guestOf}
 use Rattle.block.specs.Writing.{blockOf, written}
@@ -21,18 +21,13 @@ use Rattle.planfile_laws.specs.Fits.{PlanFits}
 use Rattle.lists.proofs.All.{and-true, all-by, all-ext}
 use Rattle.lists.proofs.Table.{table-ext}
 use Rattle.plan.proofs.Ranges.{TaskIn, HeadIn, GuestIn}
+use Rattle.plan.proofs.First.{first-fine}
 use Rattle.plan.proofs.Order.{PlanIn, plan-in}
 use Rattle.block.proofs.Writing.{none, by-none}
 use Rattle.planfile.proofs.File.{sized}
 use Rattle.planfile.proofs.Records.{reading, read-fine}
 use Rattle.planfile_laws.proofs.BlockBack.{block-length, number-back, guest-back}
 use Rattle.planfile_laws.proofs.Joined.{joined-length, joined-at}
-
--- no place has a number, so nothing is refused
-pub first-fine : (f : ℕ → ℕ) (m k : ℕ) → ((z : ℕ) → k ≤ z → z < k + m → f z ≡ 0) → firstRefused f m k ≡ fine
-unfolding firstRefused orElse
-first-fine f zero k h = refl
-first-fine f (suc m) k h = rw (h k (omega arith) (omega arith)) (first-fine f m (suc k) (λ z l b. h z (omega arith) (omega arith)))
 
 -- a guest in its ranges passes the tests
 head-passes : {id capacity period tasks : ℕ} → HeadIn id capacity period tasks → headOk id capacity period tasks ≡ true

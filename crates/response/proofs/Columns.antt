@@ -1,8 +1,8 @@
 -- What the code reads off columns and records is what the definitions say of the plan. Assumes nothing.
 use mathlib.Core.Path.{_≡_, refl, sym, _∙_, ap, fun-ext}
-use mathlib.Core.Bool.{Bool, true, false, _&&_}
+use mathlib.Core.Bool.{Bool, _&&_}
 use mathlib.Core.List.{List}
-use Prim.Native.Nat.{ℕ, zero, suc, _+_, _-_, _*_, _≤_, _<_}
+use Prim.Native.Nat.{ℕ, suc, _+_, _-_, _*_, _≤_, _<_}
 use native.Mathlib.Nat.{add-zero, mul-le-mul-right}
 use native.Mathlib.Numerals.{add-one}
 use native.Mathlib.Omega.{arith}
@@ -28,20 +28,8 @@ use Rattle.response.specs.Met.{allMet, accepted}
 use Rattle.response.specs.Columns.{taken, guestUnder, fittedAt, loadIn, taskUnder, taskOf, acceptedUnder}
 use Rattle.rounding.proofs.Up.{up-mono}
 use Rattle.equation.proofs.Rise.{Grows}
-use Rattle.lists.proofs.All.{all-ext}
+use Rattle.lists.proofs.All.{all-ext, all-and}
 use Rattle.lists.proofs.Sum.{sum-same, sum-le}
-
--- two tests in a row, or one row of both
-and-swap : (a b f g : Bool) → ((a && b) && (f && g)) ≡ ((a && f) && (b && g))
-and-swap false b f g = refl
-and-swap true true f g = refl
-and-swap true false true g = refl
-and-swap true false false g = refl
-
-pub all-and : (f g : ℕ → Bool) (n : ℕ) → allTo (λ k. f k && g k) n ≡ (allTo f n && allTo g n)
-unfolding allTo
-all-and f g zero = refl
-all-and f g (suc n) = rw (all-and f g n) (and-swap (allTo f n) (allTo g n) (f n) (g n))
 
 -- columns that hold the guests above place k
 pub record Above (p : Plan) (k : ℕ) (capacities periods : List ℕ) : Type 0 where

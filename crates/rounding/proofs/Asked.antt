@@ -1,12 +1,12 @@
 -- Laws of what is asked of a window. Assumes nothing.
-use mathlib.Core.Path.{_≡_, refl}
+use mathlib.Core.Path.{_≡_}
 use Prim.Native.Nat.{ℕ, _+_, _*_, _≤_, _<_}
 use native.Mathlib.Nat.{mul-le-mul-right}
 use native.Mathlib.Omega.{arith}
 use Rattle.lists.specs.Sum.{sumTo}
 use Rattle.rounding.specs.Up.{up}
 use Rattle.rounding.specs.Asked.{asked, cut}
-use Rattle.lists.proofs.Sum.{sum-none, sum-next, sum-le, sum-same}
+use Rattle.lists.proofs.Sum.{sum-none, sum-next, sum-le}
 use Rattle.rounding.proofs.Up.{up-mono, le-up}
 
 -- nobody asks nothing
@@ -23,12 +23,6 @@ asked-next cost every n v = sum-next _ n
 pub asked-mono : (cost every : ℕ → ℕ) (n : ℕ) {v w : ℕ} → v ≤ w → asked cost every n v ≤ asked cost every n w
 unfolding asked
 asked-mono cost every n {v} {w} h = sum-le _ _ n (λ k l. mul-le-mul-right (cost k) (up-mono (every k) h))
-
--- the same costs and periods ask the same
-pub asked-same : (cost every cost′ every′ : ℕ → ℕ) (n v : ℕ) → ((k : ℕ) → k < n → cost k ≡ cost′ k) → ((k : ℕ) → k < n → every k ≡ every′ k)
-    → asked cost every n v ≡ asked cost′ every′ n v
-unfolding asked
-asked-same cost every cost′ every′ n v c e = sum-same _ _ n (λ k l. rw (c k l, e k l) refl)
 
 -- counts whose last began before the window's end ask no more
 pub asked-counts :

@@ -1,10 +1,8 @@
 -- The verdicts of a guest and of a task and the acceptance of a plan, each with its refusals in order.
-use mathlib.Core.Bool.{Bool, true, false, _&&_}
+use mathlib.Core.Bool.{Bool, true, false}
 use mathlib.Core.List.{List, [], _∷_}
 use Prim.Native.Nat.{ℕ, zero, suc, _-_}
 use lib.Dec.{ltb}
-use Rattle.lists.specs.All.{allTo}
-use Rattle.lists.specs.Search.{isAt}
 use Rattle.lists.specs.Refusals.{Test, refusal, _orRefuse_}
 use Rattle.lists.specs.declared.Found.{Found}
 use Rattle.lists.specs.declared.Found.the-variants.{At, Nothing}
@@ -21,7 +19,7 @@ use Rattle.verdict.specs.declared.TaskVerdict.{TaskVerdict}
 use Rattle.verdict.specs.declared.TaskVerdict.the-variants.{Met, Unmet, Unjudged}
 use Rattle.verdict.specs.declared.Acceptance.{Acceptance}
 use Rattle.verdict.specs.declared.Acceptance.the-variants.{Accepted, NotAccepted}
-use Rattle.response.specs.Guest.{guestResponse, fitted, fittedTo}
+use Rattle.response.specs.Guest.{guestResponse, fittedTo}
 use Rattle.response.specs.Task.{taskResponse}
 use Rattle.response.specs.Met.{accepted}
 use Rattle.verdict.specs.declared.GuestVerdict.the-variants as guest

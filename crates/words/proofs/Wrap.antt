@@ -13,10 +13,6 @@ wrapped-none f = omega (arith, sum-none f)
 pub wrapped-next : (f : ℕ → ℕ) (k s w : ℕ) → s ≡ wrapped f k → w ≡ f k → (s + w) % 2 ^ 32 ≡ wrapped f (k + 1)
 wrapped-next f k s w hs hw = omega (arith, sum-next f k)
 
--- what wrapping subtraction gives is the complement
-pub complement-is : (r s : ℕ) → (r + s) % 2 ^ 32 ≡ 0 → r < 2 ^ 32 → s < 2 ^ 32 → r ≡ complement s
-complement-is r s h l m = omega arith
-
 -- a word that makes the sum zero is the complement of the rest
 pub complement-only : (r S : ℕ) → (S + r) % 2 ^ 32 ≡ 0 → r < 2 ^ 32 → complement (S % 2 ^ 32) ≡ r
 complement-only r S h l = omega arith

@@ -1,14 +1,8 @@
 -- By the records' refusal.
 use borrow.Author.Needs.{needs}
-use native.Mathlib.Omega.{arith}
 use Rattle.dispatcher.proofs.Fresh.{start-refused, start-fresh}
 use Rattle.dispatcher.proofs.Dispatcher.fresh.Statement.{statement}
 use Rattle.dispatcher.proofs.Dispatcher.fresh.Tie as tie
-use Rattle.dispatcher.proofs.Dispatcher.fresh.Reads as reads
-use Rattle.dispatcher.proofs.Dispatcher.fresh.Lts as lts
-use Rattle.dispatcher.proofs.start.blank_plan.Reads as blank-plan-reads
-use Rattle.dispatcher.proofs.start.idle_of.Reads as idle-of-reads
-use Rattle.plan.proofs.check.Reads as check-reads
 
 check-requires : tie.Need-check-requires
 check-requires c κs = search needs

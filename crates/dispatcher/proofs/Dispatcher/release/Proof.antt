@@ -1,12 +1,9 @@
 -- By the number: what is set is what the definition sets, at a place of the 128.
-use borrow.Author.Needs.{needs}
 use native.Mathlib.Omega.{arith}
+use borrow.Author.Needs.{needs}
 use Rattle.dispatcher.proofs.Release.{release-refused, release-taken}
 use Rattle.dispatcher.proofs.Dispatcher.release.Statement.{statement}
 use Rattle.dispatcher.proofs.Dispatcher.release.Tie as tie
-use Rattle.dispatcher.proofs.Dispatcher.release.Reads as reads
-use Rattle.dispatcher.proofs.Dispatcher.release.Lts as lts
-use Rattle.dispatcher.proofs.taking.aim.Reads as aim-reads
 
 aim-requires : tie.Need-aim-requires
 aim-requires c κs = search needs

@@ -1,16 +1,12 @@
 -- The loop's invariant: `ok` says whether the rows passed are blank, those of guests not being looked at.
-use borrow.Author.Needs.{needs}
-use native.Mathlib.Omega.{arith}
-use mathlib.Core.Path.{_≡_, refl, sym}
+use mathlib.Core.Path.{_≡_}
 use Prim.Native.Nat.{_≤_, _-_}
+use borrow.Author.Needs.{needs}
 use Rattle.lists.specs.All.{allTo}
 use Rattle.dispatcher.proofs.Valid.{all-end}
 use Rattle.dispatcher.proofs.Pass.{pastOk, past-none, past-turn}
 use Rattle.dispatcher.proofs.examine.blanks_ok.Statement.{statement}
 use Rattle.dispatcher.proofs.examine.blanks_ok.Tie as tie
-use Rattle.dispatcher.proofs.examine.blanks_ok.Reads as reads
-use Rattle.dispatcher.proofs.examine.blanks_ok.Lts as lts
-use Rattle.dispatcher.proofs.ranges.blank_ok.Reads as blank-ok-reads
 
 abbrev Inv-loop : tie.InvT-loop
 Inv-loop n left position rest wait age ok₀ k₀ ok k = (n ≤ k) × ((k ≤ 8) × (ok ≡ allTo (pastOk n left position rest wait age) k))

@@ -1,15 +1,9 @@
 -- By the count of guests, then by the guests and the rows past them.
 use borrow.Author.Needs.{needs}
-use native.Mathlib.Omega.{arith}
 use Rattle.plan.proofs.Order.{count-few, count-many}
 use Rattle.dispatcher.proofs.Pass.{uncounted, examined}
 use Rattle.dispatcher.proofs.examine.examine.Statement.{statement}
 use Rattle.dispatcher.proofs.examine.examine.Tie as tie
-use Rattle.dispatcher.proofs.examine.examine.Reads as reads
-use Rattle.dispatcher.proofs.examine.examine.Lts as lts
-use Rattle.dispatcher.proofs.examine.blanks_ok.Reads as blanks-ok-reads
-use Rattle.dispatcher.proofs.examine.guests_ok.Reads as guests-ok-reads
-use Rattle.dispatcher.proofs.examine.nothing.Reads as nothing-reads
 
 cast-n : tie.Need-cast-n
 cast-n c = search needs

@@ -1,8 +1,8 @@
 -- The loop's invariant: `ok` says whether the guests passed go, and the columns hold their numbers.
-use borrow.Author.Needs.{needs}
-use native.Mathlib.Omega.{arith}
-use mathlib.Core.Path.{_≡_, refl, sym}
+use mathlib.Core.Path.{_≡_, sym}
 use Prim.Native.Nat.{_≤_, _-_}
+use native.Mathlib.Omega.{arith}
+use borrow.Author.Needs.{needs}
 use Rattle.lists.specs.All.{allTo}
 use Rattle.dispatcher.specs.Lent.{stateOf, guestGoes}
 use Rattle.lists.proofs.All.{all-none}
@@ -10,10 +10,6 @@ use Rattle.dispatcher.proofs.Valid.{all-end}
 use Rattle.dispatcher.proofs.Pass.{Columns, columns-none, columns-next, columns-done, goes-turn}
 use Rattle.dispatcher.proofs.examine.guests_ok.Statement.{statement}
 use Rattle.dispatcher.proofs.examine.guests_ok.Tie as tie
-use Rattle.dispatcher.proofs.examine.guests_ok.Reads as reads
-use Rattle.dispatcher.proofs.examine.guests_ok.Lts as lts
-use Rattle.dispatcher.proofs.ranges.guest_ok.Reads as guest-ok-reads
-use Rattle.plan.proofs.new_id.Reads as new-id-reads
 
 abbrev Inv-loop : tie.InvT-loop
 Inv-loop left position rest wait age plan n ids₀ capacities₀ periods₀ tasks₀ ok₀ k₀ ids capacities periods tasks ok k = (k ≤ n) × ((ok ≡ allTo (guestGoes (stateOf plan left position rest wait age)) k) × Columns plan ids capacities periods tasks k)

@@ -1,16 +1,12 @@
 -- The loop's invariant: the waits of the places passed have fallen, and no other.
-use borrow.Author.Needs.{needs}
-use native.Mathlib.Omega.{arith}
-use Prim.Native.Nat.{_≤_, _-_}
 use mathlib.Core.Path.{_≡_, sym}
-use Rattle.dispatcher.proofs.Tick.{fallen}
+use Prim.Native.Nat.{_≤_, _-_}
+use borrow.Author.Needs.{needs}
 use Rattle.lists.specs.Places.{upTo}
+use Rattle.dispatcher.proofs.Tick.{fallen}
 use Rattle.lists.proofs.Places.{upTo-none, upTo-next, upTo-done}
 use Rattle.dispatcher.proofs.jobs.fall.Statement.{statement}
 use Rattle.dispatcher.proofs.jobs.fall.Tie as tie
-use Rattle.dispatcher.proofs.jobs.fall.Reads as reads
-use Rattle.dispatcher.proofs.jobs.fall.Lts as lts
-use Rattle.dispatcher.proofs.jobs.less.Reads as less-reads
 
 abbrev Inv-loop : tie.InvT-loop
 Inv-loop wait₀ i₀ wait i = (i ≤ 128) × (wait ≡ upTo fallen i wait₀)

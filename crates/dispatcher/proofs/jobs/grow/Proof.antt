@@ -1,16 +1,12 @@
 -- The loop's invariant: the ages of the places passed are grown, and no other.
-use borrow.Author.Needs.{needs}
-use native.Mathlib.Omega.{arith}
-use Prim.Native.Nat.{_≤_, _-_}
 use mathlib.Core.Path.{_≡_, sym}
-use Rattle.dispatcher.proofs.Tick.{grown}
+use Prim.Native.Nat.{_≤_, _-_}
+use borrow.Author.Needs.{needs}
 use Rattle.lists.specs.Places.{upTo}
+use Rattle.dispatcher.proofs.Tick.{grown}
 use Rattle.lists.proofs.Places.{upTo-none, upTo-next, upTo-done}
 use Rattle.dispatcher.proofs.jobs.grow.Statement.{statement}
 use Rattle.dispatcher.proofs.jobs.grow.Tie as tie
-use Rattle.dispatcher.proofs.jobs.grow.Reads as reads
-use Rattle.dispatcher.proofs.jobs.grow.Lts as lts
-use Rattle.dispatcher.proofs.jobs.older.Reads as older-reads
 
 abbrev Inv-loop : tie.InvT-loop
 Inv-loop age₀ rest i₀ age i = (i ≤ 128) × (age ≡ upTo (grown rest) i age₀)

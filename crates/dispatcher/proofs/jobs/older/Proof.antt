@@ -1,12 +1,10 @@
 -- One age: by whether the job is unfinished, and whether the age has stopped.
-use borrow.Author.Needs.{needs}
-use native.Mathlib.Omega.{arith}
-use borrow.Author.Tests.{lt-ltb, le-ltb}
 use mathlib.Core.Path.{refl}
+use native.Mathlib.Omega.{arith}
+use borrow.Author.Needs.{needs}
+use borrow.Author.Tests.{lt-ltb, le-ltb}
 use Rattle.dispatcher.proofs.jobs.older.Statement.{statement}
 use Rattle.dispatcher.proofs.jobs.older.Tie as tie
-use Rattle.dispatcher.proofs.jobs.older.Reads as reads
-use Rattle.dispatcher.proofs.jobs.older.Lts as lts
 
 add-result : tie.Need-add-result
 add-result c = search needs

@@ -1,16 +1,13 @@
 -- The loop's invariant: the search from t on finds what the whole search finds.
-use borrow.Author.Needs.{needs}
-use native.Mathlib.Omega.{arith}
-use Prim.Native.Nat.{_≤_, _-_}
 use mathlib.Core.Path.{_≡_, sym, _∙_}
+use Prim.Native.Nat.{_≤_, _-_}
+use borrow.Author.Needs.{needs}
 use borrow.Author.Tests.{lt-ltb, le-ltb}
 use Rattle.lists.specs.Search.{firstFrom}
 use Rattle.lists.proofs.Search.{first-hit, first-skip, first-none, first-all}
 use Rattle.dispatcher.proofs.Tick.{hasRun}
 use Rattle.dispatcher.proofs.jobs.worker.Statement.{statement}
 use Rattle.dispatcher.proofs.jobs.worker.Tie as tie
-use Rattle.dispatcher.proofs.jobs.worker.Reads as reads
-use Rattle.dispatcher.proofs.jobs.worker.Lts as lts
 
 abbrev Inv-loop : tie.InvT-loop
 Inv-loop rest k n base t₀ t = (t ≤ n) × (firstFrom (hasRun rest k) (n - t) t ≡ firstFrom (hasRun rest k) n 0)

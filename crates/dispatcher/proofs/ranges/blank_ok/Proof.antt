@@ -1,16 +1,13 @@
 -- The loop's invariant: `ok` says whether the places passed are blank.
-use borrow.Author.Needs.{needs}
-use native.Mathlib.Omega.{arith}
 use mathlib.Core.Path.{_≡_, refl, sym}
 use Prim.Native.Nat.{_≤_, _-_}
+use borrow.Author.Needs.{needs}
 use Rattle.lists.specs.All.{allTo}
-use Rattle.lists.proofs.All.{all-none, all-turn}
 use Rattle.dispatcher.specs.Lent.{blankAt}
+use Rattle.lists.proofs.All.{all-none, all-turn}
 use Rattle.dispatcher.proofs.Valid.{blank-is}
 use Rattle.dispatcher.proofs.ranges.blank_ok.Statement.{statement}
 use Rattle.dispatcher.proofs.ranges.blank_ok.Tie as tie
-use Rattle.dispatcher.proofs.ranges.blank_ok.Reads as reads
-use Rattle.dispatcher.proofs.ranges.blank_ok.Lts as lts
 
 abbrev Inv-loop : tie.InvT-loop
 Inv-loop k left position rest wait age base ok₀ t₀ ok t = (t ≤ 16) × (ok ≡ allTo (blankAt rest wait age k) t)

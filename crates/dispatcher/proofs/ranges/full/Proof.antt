@@ -1,13 +1,9 @@
 -- A task's run is at most 1,000,000 and a charge at most 65,535, so the charged run fits.
-use borrow.Author.Needs.{needs}
 use native.Mathlib.Omega.{arith}
+use borrow.Author.Needs.{needs}
 use Rattle.dispatcher.proofs.Valid.{charged-small, full-is}
 use Rattle.dispatcher.proofs.ranges.full.Statement.{statement}
 use Rattle.dispatcher.proofs.ranges.full.Tie as tie
-use Rattle.dispatcher.proofs.ranges.full.Reads as reads
-use Rattle.dispatcher.proofs.ranges.full.Lts as lts
-use Rattle.dispatcher.proofs.ranges.limit.Reads as limit-reads
-use Rattle.plan.proofs.charged_run.Reads as charged-run-reads
 
 limit-requires : tie.Need-limit-requires
 limit-requires c κs = search needs

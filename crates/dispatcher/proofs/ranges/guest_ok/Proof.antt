@@ -1,18 +1,12 @@
 -- By the record's own ranges, then by the numbers of its places.
+use mathlib.Core.Path.{sym, _∙_}
 use borrow.Author.Needs.{needs}
-use native.Mathlib.Omega.{arith}
-use mathlib.Core.Path.{_≡_, sym, _∙_}
 use borrow.Author.Tests.{not-true, not-false}
 use Rattle.plan.specs.Ranges.{tasksOk}
 use Rattle.plan.proofs.Ranges.{head-says}
 use Rattle.dispatcher.proofs.Valid.{head-fails, tasks-fail, numbers-decide, runs-small}
 use Rattle.dispatcher.proofs.ranges.guest_ok.Statement.{statement}
 use Rattle.dispatcher.proofs.ranges.guest_ok.Tie as tie
-use Rattle.dispatcher.proofs.ranges.guest_ok.Reads as reads
-use Rattle.dispatcher.proofs.ranges.guest_ok.Lts as lts
-use Rattle.dispatcher.proofs.ranges.jobs_ok.Reads as jobs-ok-reads
-use Rattle.plan.proofs.head_ok.Reads as head-ok-reads
-use Rattle.plan.proofs.tasks_ok.Reads as tasks-ok-reads
 
 cast-many : tie.Need-cast-many
 cast-many c = search needs

@@ -1,13 +1,8 @@
 -- Each number is held to its limit.
 use borrow.Author.Needs.{needs}
-use native.Mathlib.Omega.{arith}
 use Rattle.dispatcher.proofs.Valid.{job-is}
 use Rattle.dispatcher.proofs.ranges.job_ok.Statement.{statement}
 use Rattle.dispatcher.proofs.ranges.job_ok.Tie as tie
-use Rattle.dispatcher.proofs.ranges.job_ok.Reads as reads
-use Rattle.dispatcher.proofs.ranges.job_ok.Lts as lts
-use Rattle.dispatcher.proofs.ranges.full.Reads as full-reads
-use Rattle.dispatcher.proofs.ranges.limit.Reads as limit-reads
 
 full-requires : tie.Need-full-requires
 full-requires c κs = search needs

@@ -1,18 +1,14 @@
 -- The loop's invariant: `ok` says whether the places passed are in their ranges.
-use borrow.Author.Needs.{needs}
-use native.Mathlib.Omega.{arith}
-use mathlib.Core.Path.{_≡_, refl, sym}
+use mathlib.Core.Path.{_≡_, sym}
 use Prim.Native.Nat.{_≤_, _-_}
+use borrow.Author.Needs.{needs}
 use borrow.Author.Tests.{ltb-true}
 use Rattle.lists.specs.All.{allTo}
+use Rattle.dispatcher.specs.Lent.{placeOk}
 use Rattle.lists.proofs.All.{all-none, all-turn}
 use Rattle.dispatcher.proofs.Valid.{all-end}
-use Rattle.dispatcher.specs.Lent.{placeOk}
 use Rattle.dispatcher.proofs.ranges.jobs_ok.Statement.{statement}
 use Rattle.dispatcher.proofs.ranges.jobs_ok.Tie as tie
-use Rattle.dispatcher.proofs.ranges.jobs_ok.Reads as reads
-use Rattle.dispatcher.proofs.ranges.jobs_ok.Lts as lts
-use Rattle.dispatcher.proofs.ranges.job_ok.Reads as job-ok-reads
 
 abbrev Inv-loop : tie.InvT-loop
 Inv-loop rest wait age run every charge k many base ok₀ t₀ ok t = (t ≤ 16) × (ok ≡ allTo (placeOk rest wait age run every charge k many) t)

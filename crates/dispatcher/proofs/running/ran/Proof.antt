@@ -1,7 +1,6 @@
 -- By refusals 14 and 13, then by whether a tick was done and whether the last finished a job.
+use mathlib.Core.Path.{sym, _∙_}
 use borrow.Author.Needs.{needs}
-use native.Mathlib.Omega.{arith}
-use mathlib.Core.Path.{_≡_, refl, sym, _∙_}
 use borrow.Author.Tests.{not-true, not-false}
 use Rattle.dispatcher.specs.Lent.{stateOf}
 use Rattle.dispatcher.proofs.Valid.{ok-plan}
@@ -9,13 +8,6 @@ use Rattle.dispatcher.proofs.Lent.{columned, small-tasks, telling, endi
 use Rattle.dispatcher.proofs.Entries.{run-refused, run-long, run-idle, run-done}
 use Rattle.dispatcher.proofs.running.ran.Statement.{statement}
 use Rattle.dispatcher.proofs.running.ran.Tie as tie
-use Rattle.dispatcher.proofs.running.ran.Reads as reads
-use Rattle.dispatcher.proofs.running.ran.Lts as lts
-use Rattle.dispatcher.proofs.examine.examine.Reads as examine-reads
-use Rattle.dispatcher.proofs.running.steps.Reads as steps-reads
-use Rattle.dispatcher.proofs.running.unmoved.Reads as unmoved-reads
-use Rattle.dispatcher.proofs.told.finished.Reads as finished-reads
-use Rattle.dispatcher.proofs.told.told.Reads as told-reads
 
 examine-requires : tie.Need-examine-requires
 examine-requires c κs = search needs

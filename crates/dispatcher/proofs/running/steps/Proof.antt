@@ -1,16 +1,11 @@
 -- The loop's invariant: the ticks done are those of a run on its way, whatever plan the columns are of.
-use borrow.Author.Needs.{needs}
-use native.Mathlib.Omega.{arith}
-use mathlib.Core.Path.{_≡_, refl}
 use Prim.Native.Nat.{_≤_, _-_}
+use borrow.Author.Needs.{needs}
 use Rattle.plan.specs.declared.Plan.{Plan}
 use Rattle.dispatcher.specs.Lent.{stateOf, Columned}
 use Rattle.dispatcher.proofs.Run.{Going, starts, goes-on, stops, used-up}
 use Rattle.dispatcher.proofs.running.steps.Statement.{statement}
 use Rattle.dispatcher.proofs.running.steps.Tie as tie
-use Rattle.dispatcher.proofs.running.steps.Reads as reads
-use Rattle.dispatcher.proofs.running.steps.Lts as lts
-use Rattle.dispatcher.proofs.step.step.Reads as step-reads
 
 abbrev Inv-loop : tie.InvT-loop
 Inv-loop left₀ position₀ rest₀ wait₀ age₀ capacities periods tasks n ticks turn₀ done₀ left position rest wait age turn done = (done ≤ ticks) × ((p : Plan) → Columned p n capacities periods tasks → Going (stateOf p left₀ position₀ rest₀ wait₀ age₀) ticks done turn (stateOf p left position rest wait age))

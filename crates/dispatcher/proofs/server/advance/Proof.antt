@@ -1,16 +1,12 @@
 -- The loop's invariant: the guests passed have moved on, and no other.
-use borrow.Author.Needs.{needs}
-use native.Mathlib.Omega.{arith}
-use Prim.Native.Nat.{_≤_, _-_}
 use mathlib.Core.Path.{_≡_, sym}
+use Prim.Native.Nat.{_≤_, _-_}
+use borrow.Author.Needs.{needs}
 use Rattle.lists.specs.Places.{upTo}
 use Rattle.lists.proofs.Places.{upTo-none, upTo-next, upTo-done}
 use Rattle.dispatcher.proofs.Tick.{onward}
 use Rattle.dispatcher.proofs.server.advance.Statement.{statement}
 use Rattle.dispatcher.proofs.server.advance.Tie as tie
-use Rattle.dispatcher.proofs.server.advance.Reads as reads
-use Rattle.dispatcher.proofs.server.advance.Lts as lts
-use Rattle.dispatcher.proofs.server.moved.Reads as moved-reads
 
 abbrev Inv-loop : tie.InvT-loop
 Inv-loop position₀ periods n k₀ position k = (k ≤ n) × (position ≡ upTo (onward periods) k position₀)

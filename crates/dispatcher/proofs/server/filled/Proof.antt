@@ -1,11 +1,7 @@
 -- By whether the position is 0.
-use borrow.Author.Needs.{needs}
-use native.Mathlib.Omega.{arith}
 use borrow.Author.Tests.{eq-eqb, ne-eqb}
 use Rattle.dispatcher.proofs.server.filled.Statement.{statement}
 use Rattle.dispatcher.proofs.server.filled.Tie as tie
-use Rattle.dispatcher.proofs.server.filled.Reads as reads
-use Rattle.dispatcher.proofs.server.filled.Lts as lts
 
 returns : tie.Need-returns
 returns c = simp (eq-eqb _ _ (c .if1 .taken))

@@ -1,16 +1,13 @@
 -- The loop's invariant: the search from k on finds what the whole search finds.
-use borrow.Author.Needs.{needs}
-use native.Mathlib.Omega.{arith}
-use Prim.Native.Nat.{_≤_, _-_}
 use mathlib.Core.Path.{_≡_, sym, _∙_}
+use Prim.Native.Nat.{_≤_, _-_}
+use borrow.Author.Needs.{needs}
 use borrow.Author.Tests.{lt-ltb, le-ltb}
 use Rattle.lists.specs.Search.{firstFrom}
 use Rattle.lists.proofs.Search.{first-hit, first-skip, first-none, first-all}
 use Rattle.dispatcher.proofs.Tick.{hasLeft}
 use Rattle.dispatcher.proofs.server.holder.Statement.{statement}
 use Rattle.dispatcher.proofs.server.holder.Tie as tie
-use Rattle.dispatcher.proofs.server.holder.Reads as reads
-use Rattle.dispatcher.proofs.server.holder.Lts as lts
 
 abbrev Inv-loop : tie.InvT-loop
 Inv-loop left n k₀ k = (k ≤ n) × (firstFrom (hasLeft left) (n - k) k ≡ firstFrom (hasLeft left) n 0)

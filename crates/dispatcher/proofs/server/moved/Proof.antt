@@ -1,12 +1,10 @@
 -- By whether the next position is below the period.
-use borrow.Author.Needs.{needs}
-use native.Mathlib.Omega.{arith}
 use Prim.Native.Nat.{_+_}
+use native.Mathlib.Omega.{arith}
+use borrow.Author.Needs.{needs}
 use borrow.Author.Tests.{lt-ltb, le-ltb}
 use Rattle.dispatcher.proofs.server.moved.Statement.{statement}
 use Rattle.dispatcher.proofs.server.moved.Tie as tie
-use Rattle.dispatcher.proofs.server.moved.Reads as reads
-use Rattle.dispatcher.proofs.server.moved.Lts as lts
 
 add-after : tie.Need-add-after
 add-after c = search needs

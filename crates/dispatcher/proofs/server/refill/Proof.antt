@@ -1,16 +1,12 @@
 -- The loop's invariant: the guests passed are refilled, and no other.
-use borrow.Author.Needs.{needs}
-use native.Mathlib.Omega.{arith}
-use Prim.Native.Nat.{_≤_, _-_}
 use mathlib.Core.Path.{_≡_, sym}
+use Prim.Native.Nat.{_≤_, _-_}
+use borrow.Author.Needs.{needs}
 use Rattle.lists.specs.Places.{upTo}
 use Rattle.lists.proofs.Places.{upTo-none, upTo-next, upTo-done}
 use Rattle.dispatcher.proofs.Tick.{full}
 use Rattle.dispatcher.proofs.server.refill.Statement.{statement}
 use Rattle.dispatcher.proofs.server.refill.Tie as tie
-use Rattle.dispatcher.proofs.server.refill.Reads as reads
-use Rattle.dispatcher.proofs.server.refill.Lts as lts
-use Rattle.dispatcher.proofs.server.filled.Reads as filled-reads
 
 abbrev Inv-loop : tie.InvT-loop
 Inv-loop left₀ position capacities n k₀ left k = (k ≤ n) × (left ≡ upTo (full position capacities) k left₀)

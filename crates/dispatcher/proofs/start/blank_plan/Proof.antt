@@ -1,12 +1,8 @@
 -- Eight records of zeros.
-use borrow.Author.Needs.{needs}
-use native.Mathlib.Omega.{arith}
 use mathlib.Core.Path.{refl}
+use borrow.Author.Needs.{needs}
 use Rattle.dispatcher.proofs.start.blank_plan.Statement.{statement}
 use Rattle.dispatcher.proofs.start.blank_plan.Tie as tie
-use Rattle.dispatcher.proofs.start.blank_plan.Reads as reads
-use Rattle.dispatcher.proofs.start.blank_plan.Lts as lts
-use Rattle.plan.proofs.blank_guest.Reads as blank-guest-reads
 
 blank-guest-requires : tie.Need-blank-guest-requires
 blank-guest-requires c κs = search needs

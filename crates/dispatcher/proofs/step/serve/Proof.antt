@@ -1,13 +1,9 @@
 -- By who has the tick: nobody, a guest that idles it away, or a task. A place that a search found holds something, so nothing falls below 0.
-use borrow.Author.Needs.{needs}
 use native.Mathlib.Omega.{arith}
+use borrow.Author.Needs.{needs}
 use Rattle.dispatcher.proofs.Lent.{has-left, has-run, nobody, idles, works}
 use Rattle.dispatcher.proofs.step.serve.Statement.{statement}
 use Rattle.dispatcher.proofs.step.serve.Tie as tie
-use Rattle.dispatcher.proofs.step.serve.Reads as reads
-use Rattle.dispatcher.proofs.step.serve.Lts as lts
-use Rattle.dispatcher.proofs.jobs.worker.Reads as worker-reads
-use Rattle.dispatcher.proofs.server.holder.Reads as holder-reads
 
 holder-requires : tie.Need-holder-requires
 holder-requires c κs = search needs

@@ -1,16 +1,8 @@
 -- Each part ensures its sentence of the rule, of arrays that no part before it has changed but by its own sentence.
 use borrow.Author.Needs.{needs}
-use native.Mathlib.Omega.{arith}
 use Rattle.dispatcher.proofs.Lent.{stepped}
 use Rattle.dispatcher.proofs.step.step.Statement.{statement}
 use Rattle.dispatcher.proofs.step.step.Tie as tie
-use Rattle.dispatcher.proofs.step.step.Reads as reads
-use Rattle.dispatcher.proofs.step.step.Lts as lts
-use Rattle.dispatcher.proofs.jobs.fall.Reads as fall-reads
-use Rattle.dispatcher.proofs.jobs.grow.Reads as grow-reads
-use Rattle.dispatcher.proofs.server.advance.Reads as advance-reads
-use Rattle.dispatcher.proofs.server.refill.Reads as refill-reads
-use Rattle.dispatcher.proofs.step.serve.Reads as serve-reads
 
 refill-requires : tie.Need-refill-requires
 refill-requires c κs = search needs

@@ -1,20 +1,13 @@
 -- 14 and 7, then the guest's own refusals: the plan is in order, so its records are in their ranges.
-use borrow.Author.Needs.{needs}
+use mathlib.Core.Path.{sym, _∙_}
 use native.Mathlib.Omega.{arith}
-use mathlib.Core.Path.{_≡_, sym, _∙_}
+use borrow.Author.Needs.{needs}
 use borrow.Author.Tests.{not-true, not-false}
 use Rattle.plan.proofs.Order.{plan-in}
-use Rattle.dispatcher.specs.Lent.{stateOf}
 use Rattle.dispatcher.proofs.Valid.{ok-plan}
 use Rattle.dispatcher.proofs.Release.{aims-bad, aims-none, aims-on, place-in, records-in}
 use Rattle.dispatcher.proofs.taking.aim.Statement.{statement}
 use Rattle.dispatcher.proofs.taking.aim.Tie as tie
-use Rattle.dispatcher.proofs.taking.aim.Reads as reads
-use Rattle.dispatcher.proofs.taking.aim.Lts as lts
-use Rattle.dispatcher.proofs.examine.examine.Reads as examine-reads
-use Rattle.dispatcher.proofs.taking.aim_at.Reads as aim-at-reads
-use Rattle.dispatcher.proofs.taking.missed.Reads as missed-reads
-use Rattle.plan.proofs.place_of.Reads as place-of-reads
 
 examine-requires : tie.Need-examine-requires
 examine-requires c κs = search needs

@@ -1,15 +1,11 @@
 -- The tests come in the order of their numbers. The guest is in its ranges, so its task's place and charged run fit.
-use borrow.Author.Needs.{needs}
-use native.Mathlib.Omega.{arith}
 use mathlib.Core.Path.{refl}
 use Prim.Native.Nat.{_-_}
+use native.Mathlib.Omega.{arith}
+use borrow.Author.Needs.{needs}
 use Rattle.dispatcher.proofs.Release.{few-tasks, no-task, past-tasks, too-soon, unfinished, takes-it, charged-fits}
 use Rattle.dispatcher.proofs.taking.aim_at.Statement.{statement}
 use Rattle.dispatcher.proofs.taking.aim_at.Tie as tie
-use Rattle.dispatcher.proofs.taking.aim_at.Reads as reads
-use Rattle.dispatcher.proofs.taking.aim_at.Lts as lts
-use Rattle.dispatcher.proofs.taking.missed.Reads as missed-reads
-use Rattle.plan.proofs.charged_run.Reads as charged-run-reads
 
 missed-requires : tie.Need-missed-requires
 missed-requires c κs = search needs

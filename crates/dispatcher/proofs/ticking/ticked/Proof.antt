@@ -1,7 +1,6 @@
 -- By refusal 14's test, then by whether a job was finished. A state that passes has a plan in order, so the columns are those that a step asks for.
+use mathlib.Core.Path.{sym, _∙_}
 use borrow.Author.Needs.{needs}
-use native.Mathlib.Omega.{arith}
-use mathlib.Core.Path.{_≡_, refl, sym, _∙_}
 use borrow.Author.Tests.{not-true, not-false}
 use Rattle.dispatcher.specs.Lent.{stateOf}
 use Rattle.dispatcher.proofs.Valid.{ok-plan}
@@ -9,12 +8,6 @@ use Rattle.dispatcher.proofs.Lent.{columned, small-tasks, telling, endi
 use Rattle.dispatcher.proofs.Entries.{tick-refused, tick-done}
 use Rattle.dispatcher.proofs.ticking.ticked.Statement.{statement}
 use Rattle.dispatcher.proofs.ticking.ticked.Tie as tie
-use Rattle.dispatcher.proofs.ticking.ticked.Reads as reads
-use Rattle.dispatcher.proofs.ticking.ticked.Lts as lts
-use Rattle.dispatcher.proofs.examine.examine.Reads as examine-reads
-use Rattle.dispatcher.proofs.step.step.Reads as step-reads
-use Rattle.dispatcher.proofs.told.finished.Reads as finished-reads
-use Rattle.dispatcher.proofs.told.told.Reads as told-reads
 
 examine-requires : tie.Need-examine-requires
 examine-requires c κs = search needs

@@ -1,13 +1,9 @@
 -- The plan is in order, so the places that were noted are small, and so are deadline and age.
-use borrow.Author.Needs.{needs}
 use native.Mathlib.Omega.{arith}
 use Rattle.dispatcher.proofs.Margin.{margin-kept}
 use Rattle.dispatcher.proofs.Answers.{fits, tell-finished}
 use Rattle.dispatcher.proofs.told.finished.Statement.{statement}
 use Rattle.dispatcher.proofs.told.finished.Tie as tie
-use Rattle.dispatcher.proofs.told.finished.Reads as reads
-use Rattle.dispatcher.proofs.told.finished.Lts as lts
-use Rattle.dispatcher.proofs.told.margin.Reads as margin-reads
 
 mul-g : tie.Need-mul-g
 mul-g c = omega (arith, fits (c .pre .1) .guest)

@@ -1,11 +1,8 @@
 -- Neither number is above 1,000,000, so the difference fits.
 use borrow.Author.Needs.{needs}
-use native.Mathlib.Omega.{arith}
 use Rattle.dispatcher.proofs.Margin.{margin-fits, margin-read}
 use Rattle.dispatcher.proofs.told.margin.Statement.{statement}
 use Rattle.dispatcher.proofs.told.margin.Tie as tie
-use Rattle.dispatcher.proofs.told.margin.Reads as reads
-use Rattle.dispatcher.proofs.told.margin.Lts as lts
 
 cast-result : tie.Need-cast-result
 cast-result c = search needs

@@ -1,11 +1,8 @@
 -- By who had the tick. The plan is in order, so the places that were noted are small.
-use borrow.Author.Needs.{needs}
 use native.Mathlib.Omega.{arith}
 use Rattle.dispatcher.proofs.Answers.{guest-small, task-small, told-nobody, told-idle, told-works}
 use Rattle.dispatcher.proofs.told.told.Statement.{statement}
 use Rattle.dispatcher.proofs.told.told.Tie as tie
-use Rattle.dispatcher.proofs.told.told.Reads as reads
-use Rattle.dispatcher.proofs.told.told.Lts as lts
 
 returns : tie.Need-returns
 returns c = λ d s. told-nobody s (c .if1 .taken)
