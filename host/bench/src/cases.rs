@@ -33,6 +33,7 @@ pub fn all() -> Vec<Case> {
         read("read-1-block", inputs::near_a_million()[..512].to_vec()),
         read("read-8-blocks", inputs::near_a_million()),
         write("write-block", inputs::near_a_million()),
+        write_by_value("write-block-by-value", inputs::near_a_million()),
         accept("accept-plan-a", inputs::plan_a(), true),
         accept("accept-near-a-million", inputs::near_a_million(), true),
         accept("accept-growing", inputs::growing(), true),
@@ -51,6 +52,8 @@ pub fn all() -> Vec<Case> {
         release("release-full", inputs::endless()),
         tick("tick-plan-a", inputs::plan_a()),
         tick("tick-full", inputs::endless()),
+        tick_by_value("tick-plan-a-by-value", inputs::plan_a()),
+        tick_by_value("tick-full-by-value", inputs::endless()),
         run("run-million-plan-a-idle", inputs::plan_a(), false),
         run("run-million-full", inputs::endless(), true),
     ]
@@ -86,6 +89,25 @@ fn write(name: &'static str, bytes: Vec<u8>) -> Case {
     let plain = move || {
         let guest = black_box(&plain.guests[0]);
         plain::block::write(guest, 0, black_box(&mut to_plain)).expect("taken");
+        u64::from(to_plain[508])
+    };
+    Case::new(name, ours, plain)
+}
+
+/// Plain Rust behind the library's own interface: the record by value, in a call of its own.
+fn write_by_value(name: &'static str, bytes: Vec<u8>) -> Case {
+    #[inline(never)]
+    fn by_value(guest: plain::Guest, place: u32, buffer: &mut [u8]) {
+        plain::block::write(&guest, place, buffer).expect("taken");
+    }
+    let (ours, plain) = plans(&bytes);
+    let (mut to_ours, mut to_plain) = ([0; 512], [0; 512]);
+    let ours = move || {
+        let refusal = exports::write(black_box(&ours.guests[0]), 0, black_box(&mut to_ours));
+        u64::from(refusal.number) + u64::from(to_ours[508])
+    };
+    let plain = move || {
+        by_value(*black_box(&plain.guests[0]), 0, black_box(&mut to_plain));
         u64::from(to_plain[508])
     };
     Case::new(name, ours, plain)
@@ -177,6 +199,25 @@ fn tick(name: &'static str, bytes: Vec<u8>) -> Case {
     };
     let plain = move || {
         black_box(&mut plain).tick().expect("in range");
+        u64::from(plain.position[0])
+    };
+    Case::new(name, ours, plain)
+}
+
+/// One tick after another, of plain Rust too by value: the state in, the next state out.
+fn tick_by_value(name: &'static str, bytes: Vec<u8>) -> Case {
+    #[inline(never)]
+    fn by_value(mut state: plain::Dispatcher) -> plain::Dispatcher {
+        state.tick().expect("in range");
+        state
+    }
+    let (mut ours, mut plain) = states(&bytes, true);
+    let ours = move || {
+        ours = exports::tick(black_box(&ours)).dispatcher;
+        u64::from(ours.position[0])
+    };
+    let plain = move || {
+        plain = by_value(*black_box(&plain));
         u64::from(plain.position[0])
     };
     Case::new(name, ours, plain)
