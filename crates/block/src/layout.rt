@@ -1,4 +1,6 @@
-// Where the numbers of a block stand, in words, as specs/Layout.antt has it.
+// Where the numbers of a block stand, in words, as specs/Layout.antt has it; its size alone is in bytes.
+
+pub const SIZE: usize = 512;
 
 pub const WORDS: usize = 128;
 

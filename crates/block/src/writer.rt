@@ -1,11 +1,13 @@
-// A block written: the record tested, its words filled in, and their bytes put into the lent buffer.
+// A block written: the record tested, and its words put straight into the lent buffer.
 ghost use mathlib.Core.Path.{_≡_};
 ghost use mathlib.Core.List.{_++_};
-ghost use Prim.Native.Nat.{ℕ, _≤_};
-ghost use lib.ListN.{length, drop};
+ghost use Prim.Native.Nat.{ℕ, _*_, _≤_, _<_};
+ghost use lib.ListN.{length, replicate, drop};
+ghost use Rattle.lists.specs.Places.{nth};
+ghost use Rattle.words.specs.Bytes.{withU32, bytesOf};
 ghost use Rattle.plan.specs.Ranges.{mostTasks};
-ghost use Rattle.block.specs.Layout.{blockSize, lastPlace};
-ghost use Rattle.block.specs.Writing.{wordsOf, blockOf, writeNumber};
+ghost use Rattle.block.specs.Layout.{blockSize, blockWords, lastPlace, runWord, everyWord, deadlineWord};
+ghost use Rattle.block.specs.Writing.{withHead, wordsOf, blockOf, writeNumber};
 use crate::layout;
 use plan::Guest;
 
@@ -32,29 +34,52 @@ pub fn write_number(g: Guest, place: u32, size: usize) -> u32
     0
 }
 
-// The block's words but for the check.
-fn words_of(g: Guest, place: u32) -> [u32; 128]
-    requires { ⌜ (place ≤ lastPlace) × (g .tasks ≤ mostTasks) ⌝ }
-    ensures { λ r. ⌜ r ≡ wordsOf g place ⌝ }
+// The first 512 bytes set to zero, and the head's words put in.
+fn put_head(g: Guest, place: u32, buf: &mut [u8])
+    requires { ⌜ (blockSize ≤ length (now buf)) × ((place ≤ lastPlace) × (g .tasks ≤ mostTasks)) ⌝ }
+    ensures { λ _. ⌜ now (buf .exit) ≡ bytesOf (nth (withHead g place (replicate blockWords 0))) blockWords ++ drop blockSize (now (buf .entry)) ⌝ }
 {
+    words::put_zeros(buf, layout::SIZE);
+    words::put_u32(
+        buf,
+        4 * layout::KIND_PLACE,
+        layout::GUEST_KIND + 65536 * place,
+    );
+    words::put_u32(buf, 4 * layout::ID, g.id);
+    words::put_u32(buf, 4 * layout::CAPACITY, g.capacity);
+    words::put_u32(buf, 4 * layout::PERIOD, g.period);
+    words::put_u32(
+        buf,
+        4 * layout::TASKS_CHARGE,
+        g.tasks + 65536 * (g.charge as u32),
+    );
+}
+
+// Entry i put in.
+fn put_entry(buf: &mut [u8], i: usize, run: u32, every: u32, deadline: u32)
+    requires { ⌜ (blockSize ≤ length (now buf)) × (i < mostTasks) ⌝ }
+    ensures { λ _. ⌜ now (buf .exit) ≡ withU32 (withU32 (withU32 (now (buf .entry)) (4 * runWord i) run) (4 * everyWord i) every) (4 * deadlineWord i) deadline ⌝ }
+{
+    words::put_u32(buf, 4 * (layout::RUN + 3 * i), run);
+    words::put_u32(buf, 4 * (layout::EVERY + 3 * i), every);
+    words::put_u32(buf, 4 * (layout::DEADLINE + 3 * i), deadline);
+}
+
+// The head and the guest's entries put in: the block's words but for the check.
+fn put_entries(g: Guest, place: u32, buf: &mut [u8])
+    requires { ⌜ (blockSize ≤ length (now buf)) × ((place ≤ lastPlace) × (g .tasks ≤ mostTasks)) ⌝ }
+    ensures { λ _. ⌜ now (buf .exit) ≡ bytesOf (nth (wordsOf g place)) blockWords ++ drop blockSize (now (buf .entry)) ⌝ }
+{
+    put_head(g, place, buf);
     let run = g.run;
     let every = g.every;
     let deadline = g.deadline;
     let n = g.tasks as usize;
-    let mut x = [0u32; 128];
-    x[layout::KIND_PLACE] = layout::GUEST_KIND + 65536 * place;
-    x[layout::ID] = g.id;
-    x[layout::CAPACITY] = g.capacity;
-    x[layout::PERIOD] = g.period;
-    x[layout::TASKS_CHARGE] = g.tasks + 65536 * (g.charge as u32);
     let mut i: usize = 0;
     while i < n {
-        x[layout::RUN + 3 * i] = run[i];
-        x[layout::EVERY + 3 * i] = every[i];
-        x[layout::DEADLINE + 3 * i] = deadline[i];
+        put_entry(buf, i, run[i], every[i], deadline[i]);
         i += 1;
     }
-    x
 }
 
 // The guest's block put into the first 512 bytes.
@@ -62,7 +87,7 @@ pub fn put_block(g: Guest, place: u32, buf: &mut [u8])
     requires { ⌜ (blockSize ≤ length (now buf)) × ((place ≤ lastPlace) × (g .tasks ≤ mostTasks)) ⌝ }
     ensures { λ _. ⌜ now (buf .exit) ≡ blockOf g place ++ drop blockSize (now (buf .entry)) ⌝ }
 {
-    let mut x = words_of(g, place);
-    x[layout::CHECK] = words::complement_of(words::sum_array(&x, layout::CHECK));
-    words::put_words(&x, buf);
+    put_entries(g, place, buf);
+    let sum = words::sum_words(buf, layout::CHECK);
+    words::put_u32(buf, 4 * layout::CHECK, words::complement_of(sum));
 }

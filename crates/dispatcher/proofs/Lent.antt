@@ -1,11 +1,15 @@
 -- How serving lent arrays comes to the definitions of a tick. Assumes nothing.
-use mathlib.Core.Path.{_≡_, refl, ap, sym, _∙_}
-use mathlib.Core.Bool.{true, false}
+use mathlib.Core.Path.{_≡_, refl, ap, sym, subst, _∙_}
+use mathlib.Core.Logic.{⊎-elim}
+use mathlib.Core.Bool.{Bool, true, false, _&&_}
 use mathlib.Core.List.{List}
-use Prim.Native.Nat.{ℕ, zero, suc, _-_, _≤_, _<_}
+use Prim.Native.Nat.{ℕ, zero, suc, _-_, _*_, _/_, _%_, _≤_, _<_}
+use native.Mathlib.Decide.{decLe}
 use native.Mathlib.Omega.{arith}
+use lib.Dec.{ltb, eqb}
 use lib.ListN.{set}
-use borrow.Author.Tests.{lt-ltb, le-ltb, ltb-true}
+use lib.Seq.{getD-set-other, set-getD}
+use borrow.Author.Tests.{lt-ltb, le-ltb, ltb-true, eqb-true}
 use Rattle.lists.specs.Places.{nth, upTo}
 use Rattle.lists.specs.Search.{firstFrom}
 use Rattle.plan.specs.declared.Plan.{Plan}
@@ -16,11 +20,14 @@ use Rattle.dispatcher.specs.declared.Checked.{Checked}
 use Rattle.dispatcher.specs.declared.Turn.{Turn}
 use Rattle.dispatcher.specs.State.{placeAt}
 use Rattle.dispatcher.specs.Tick.{lessAt, refilled, holder, isHeld, leftAfter, worker, isWorked, restAfter, ageAfter, waitAfter, positionAfter, next}
-use Rattle.dispatcher.specs.Lent.{stateOf, ColumnsIn, Small, Columned, Telling, Ending, Refilled, Served, Stepped, turnBy, turn}
-use Rattle.lists.proofs.All.{and-true, and-false-right}
+use Rattle.dispatcher.specs.Valid.{noJob, guestInRange, taskInRange, rowOk, stateOk}
+use Rattle.dispatcher.specs.Lent.{stateOf, blankAt, ColumnsIn, Small, Columned, Quiet, Telling, Ending, Refilled, Served, Stepped, turnBy, turn}
+use Rattle.lists.proofs.All.{and-left, and-right, and-true, and-false-right, all-at}
+use Rattle.lists.proofs.Places.{upTo-rest, upTo-get}
 use Rattle.lists.proofs.Search.{first-found}
 use Rattle.plan.proofs.Order.{plan-in}
 use Rattle.dispatcher.proofs.Tick.{full, onward, grown, fallen, hasLeft, hasRun}
+use Rattle.dispatcher.proofs.Pass.{past-task-is}
 
 -- the guest that was found has capacity left
 pub has-left : (left : List ℕ) (n k : ℕ) → k ≡ firstFrom (hasLeft left) n 0 → k < n → 1 ≤ nth left k
@@ -108,6 +115,27 @@ unfolding upTo
 upTo-ext f g zero l h = refl
 upTo-ext f g (suc n) l h = rw (upTo-ext f g n l (λ k x b. h k x (omega arith)), h n (nth l n) (omega arith)) refl
 
+-- places from m on that a change leaves as they are need not be passed
+upTo-short : (f : ℕ → ℕ → ℕ) (m n : ℕ) (l : List ℕ) → m ≤ n → ((k : ℕ) → m ≤ k → k < n → f k (nth l k) ≡ nth l k) → upTo f n l ≡ upTo f m l
+unfolding upTo
+upTo-short f m zero l p h = let e : m ≡ 0 = omega arith in rw e refl
+upTo-short f m (suc n) l p h =
+    elim (decLe m n) [
+      | yes q ↦
+          rw (h n q (omega arith), ← upTo-rest f n l n (omega arith)) (set-getD (upTo f n l) n 0)
+          ∙ upTo-short f m n l q (λ k a b. h k a (omega arith))
+      | no q ↦ let e : m ≡ suc n = omega arith in rw e refl
+    ]
+
+module _ {n : ℕ} {rest wait : List ℕ} (few : n ≤ 8) (z : Quiet n rest wait) where
+  -- no wait falls past the guests
+  fallen-short : upTo fallen (n * 16) wait ≡ upTo fallen 128 wait
+  fallen-short = sym (upTo-short fallen (n * 16) 128 wait (omega arith) (λ k a b. omega (arith, z .waits k a b)))
+
+  -- and no age rises
+  grown-short : (age : List ℕ) → upTo (grown rest) (n * 16) age ≡ upTo (grown rest) 128 age
+  grown-short age = sym (upTo-short (grown rest) (n * 16) 128 age (omega arith) (λ k a b. rw (z .runs k a b) refl))
+
 module _ {p : Plan} {n : ℕ} {capacities periods tasks : List ℕ} (u : Columned p n capacities periods tasks) (left position rest wait age : List ℕ) where
   -- the code's capacities are the rule's
   refilled-is : upTo (full position capacities) n left ≡ refilled (stateOf p left position rest wait age)
@@ -121,13 +149,47 @@ module _ {p : Plan} {n : ℕ} {capacities periods tasks : List ℕ} (u : Columne
 
   -- the parts of a tick make the tick
   pub stepped : {l l' q r' w a : List ℕ} {t : Turn} → l ≡ upTo (full position capacities) n left → q ≡ upTo (onward periods) n position
-      → w ≡ upTo fallen 128 wait → a ≡ upTo (grown rest) 128 age
+      → w ≡ upTo fallen (n * 16) wait → a ≡ upTo (grown rest) (n * 16) age → n ≤ 8 → Quiet n rest wait
       → ((d : Dispatcher) → Refilled d n tasks l rest → Served d l' r' t)
       → Stepped (stateOf p left position rest wait age) (stateOf p l' q r' w a) t
   unfolding next waitAfter ageAfter
-  stepped e f g h serves =
+  stepped e f g h few z serves =
       let s = serves (stateOf p left position rest wait age) record { count = u .count; many = u .many; filled = e ∙ refilled-is; runs = refl } in
-      record { state = rw (s .lefts, f, onward-is, s .runs, g, h) refl; had = s .had }
+      record { state = rw (s .lefts, f, onward-is, s .runs, g, h, fallen-short few z, grown-short few z age) refl; had = s .had }
+
+  module _ (m : Small n tasks) (z : Quiet n rest wait) where
+    -- a place from n guests on is not the one that loses a run
+    far : (b : Bool) → isWorked (stateOf p left position rest wait age) ≡ b → (k : ℕ) → n * 16 ≤ k → k < 128
+        → nth (lessAt b rest (placeAt (holder (stateOf p left position rest wait age)) (worker (stateOf p left position rest wait age)))) k ≡ 0
+    unfolding lessAt isWorked isHeld
+    far false e k a b = z .runs k a b
+    far true e k a b =
+        let d = stateOf p left position rest wait age in
+        let h = ltb-true (holder d) (p .count) (and-left (ltb (holder d) (p .count)) _ e) in
+        let t = ltb-true (worker d) _ (and-right (ltb (holder d) (p .count)) _ e) in
+        let c = u .count in
+        let l : holder d < n = omega arith in
+        let s = m .each (holder d) l in
+        let y = u .many (holder d) l in
+        getD-set-other rest (placeAt (holder d) (worker d)) k _ 0 (λ q. omega arith) ∙ z .runs k a b
+
+    -- no run is left there after the tick
+    rests-kept : (k : ℕ) → n * 16 ≤ k → k < 128 → nth (restAfter (stateOf p left position rest wait age)) k ≡ 0
+    unfolding restAfter
+    rests-kept k a b = far _ refl k a b
+
+    -- and no wait
+    waits-kept : (k : ℕ) → n * 16 ≤ k → k < 128 → nth (waitAfter (stateOf p left position rest wait age)) k ≡ 0
+    unfolding waitAfter
+    waits-kept k a b = ⊎-elim (λ e. omega (arith, e, z .waits k a b)) (λ e. e ∙ z .waits k a b) (upTo-get fallen 128 wait k)
+
+    -- a tick leaves the places past the guests quiet
+    pub quiet-kept : {l q r w a : List ℕ} {t : Turn} → Stepped (stateOf p left position rest wait age) (stateOf p l q r w a) t → Quiet n r w
+    unfolding next
+    quiet-kept s = record {
+      runs = λ k a b. ap (λ (x : Dispatcher). nth (x .rest) k) (s .state) ∙ rests-kept k a b;
+      waits = λ k a b. ap (λ (x : Dispatcher). nth (x .wait) k) (s .state) ∙ waits-kept k a b;
+    }
 
 -- columns of a state that is not refused are columns of its plan
 pub columned : {p : Plan} {r : Checked} → ColumnsIn p r → Columned p (p .count) (r .capacities) (r .periods) (r .tasks)
@@ -159,3 +221,25 @@ module _ {d after : Dispatcher} {t : Turn} (p : planRefusal (after .plan) .numbe
   pub ending : t .had ≡ 1 → Ending d (after .plan) t (after .age)
   unfolding next
   ending m = record { sound = rw plan-kept p; plan = plan-kept; had = s .had; ages = ap (λ (x : Dispatcher). x .age) (s .state); last = m }
+
+module _ (d : Dispatcher) (e : stateOk d ≡ true) where
+  -- a row past the guests of a state that is not refused is blank
+  blank-at : (j t : ℕ) → d .plan .count ≤ j → j < 8 → t < 16 → blankAt (d .rest) (d .wait) (d .age) j t ≡ true
+  unfolding stateOk rowOk
+  blank-at j t a b c =
+      past-task-is d j a t
+      ∙ all-at (taskInRange d j) 16 t c (and-right (guestInRange d j) _ (all-at (rowOk d) 8 j b (and-right (eqb (planRefusal (d .plan) .number) 0) _ e)))
+
+  -- seen place by place
+  blank-place : (k : ℕ) → d .plan .count * 16 ≤ k → k < 128 → noJob (nth (d .rest) k) (nth (d .wait) k) (nth (d .age) k) ≡ true
+  blank-place k a b =
+      let q : placeAt (k / 16) (k % 16) ≡ k = omega arith in
+      let h = blank-at (k / 16) (k % 16) (omega arith) (omega arith) (omega arith) in
+      subst (λ (x : ℕ). noJob (nth (d .rest) x) (nth (d .wait) x) (nth (d .age) x) ≡ true) q h
+
+  -- so no job runs or waits there
+  pub quiet : Quiet (d .plan .count) (d .rest) (d .wait)
+  quiet = record {
+    runs = λ k a b. eqb-true (nth (d .rest) k) 0 (and-left (eqb (nth (d .rest) k) 0) (eqb (nth (d .wait) k) 0) (and-left (eqb (nth (d .rest) k) 0 && eqb (nth (d .wait) k) 0) _ (blank-place k a b)));
+    waits = λ k a b. eqb-true (nth (d .wait) k) 0 (and-right (eqb (nth (d .rest) k) 0) (eqb (nth (d .wait) k) 0) (and-left (eqb (nth (d .rest) k) 0 && eqb (nth (d .wait) k) 0) _ (blank-place k a b)));
+  }

@@ -107,7 +107,7 @@ module _ (d : Dispatcher) (k : ℕ) where
   guest-row h = rw (server-is h, all-ext _ (taskInRange d k) 16 (λ t l. task-is h t)) refl
 
   -- the tests of a row past the guests
-  past-task-is : d .plan .count ≤ k → (t : ℕ) → blankAt (d .rest) (d .wait) (d .age) k t ≡ taskInRange d k t
+  pub past-task-is : d .plan .count ≤ k → (t : ℕ) → blankAt (d .rest) (d .wait) (d .age) k t ≡ taskInRange d k t
   unfolding taskInRange tasksIn
   past-task-is h t = rw (le-ltb k (d .plan .count) h, le-ltb t 0 (omega arith)) refl
 

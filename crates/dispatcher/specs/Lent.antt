@@ -2,7 +2,7 @@
 use mathlib.Core.Path.{_≡_}
 use mathlib.Core.Bool.{Bool, true, false, _&&_}
 use mathlib.Core.List.{List, [], _∷_}
-use Prim.Native.Nat.{ℕ, zero, suc, _-_, _≤_, _<_}
+use Prim.Native.Nat.{ℕ, zero, suc, _-_, _*_, _≤_, _<_}
 use lib.Dec.{ltb, eqb}
 use Rattle.lists.specs.Choice.{pick}
 use Rattle.lists.specs.Places.{nth}
@@ -81,6 +81,11 @@ pub record Columned (p : Plan) (n : ℕ) (capacities periods tasks : List ℕ) :
   pub capacity : (k : ℕ) → k < n → nth capacities k ≡ guestAt (p .guests) k .capacity
   pub period : (k : ℕ) → k < n → nth periods k ≡ guestAt (p .guests) k .period
   pub many : (k : ℕ) → k < n → nth tasks k ≡ guestAt (p .guests) k .tasks
+
+-- arrays where no job runs or waits past the first n guests
+pub record Quiet (n : ℕ) (rest wait : List ℕ) : Type 0 where
+  pub runs : (k : ℕ) → n * 16 ≤ k → k < 128 → nth rest k ≡ 0
+  pub waits : (k : ℕ) → n * 16 ≤ k → k < 128 → nth wait k ≡ 0
 
 -- by whether a guest has the tick: its place, its task's place, and the run left that the task had; 0 where no task works
 unfoldable pub turnBy : Bool → Dispatcher → Turn

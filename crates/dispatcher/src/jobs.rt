@@ -1,6 +1,6 @@
 // The tasks' part in a tick, over the lent arrays of 128.
 ghost use mathlib.Core.Path.{_≡_};
-ghost use Prim.Native.Nat.{ℕ, _+_, _-_, _≤_, _<_, min};
+ghost use Prim.Native.Nat.{ℕ, _+_, _-_, _*_, _≤_, _<_, min};
 ghost use lib.Dec.{ltb};
 ghost use Rattle.lists.specs.Choice.{pick};
 ghost use Rattle.lists.specs.Places.{nth, upTo};
@@ -15,12 +15,14 @@ fn less(wait: u32) -> u32
     if 0 < wait { wait - 1 } else { 0 }
 }
 
-// Each wait above 0 falls by one.
-pub fn fall(wait: &mut [u32; 128])
-    ensures { λ r. ⌜ now (wait .exit) ≡ upTo (λ k x. x - 1) 128 (now (wait .entry)) ⌝ }
+// Each wait above 0 of the first n guests falls by one.
+pub fn fall(wait: &mut [u32; 128], n: usize)
+    requires { ⌜ n ≤ 8 ⌝ }
+    ensures { λ r. ⌜ now (wait .exit) ≡ upTo (λ k x. x - 1) (n * 16) (now (wait .entry)) ⌝ }
 {
+    let m = n * 16;
     let mut i: usize = 0;
-    while i < 128 {
+    while i < m {
         wait[i] = less(wait[i]);
         i += 1;
     }
@@ -37,12 +39,14 @@ fn older(age: u32, rest: u32) -> u32
     }
 }
 
-// The age of every job unfinished at the tick's start rises by one, stopping at 1,000,000.
-pub fn grow(age: &mut [u32; 128], rest: &[u32; 128])
-    ensures { λ r. ⌜ now (age .exit) ≡ upTo (λ k x. pick (ltb 0 (nth (now (rest .entry)) k)) (min (x + 1) longest) x) 128 (now (age .entry)) ⌝ }
+// The age of every job of the first n guests unfinished at the tick's start rises by one, stopping at 1,000,000.
+pub fn grow(age: &mut [u32; 128], rest: &[u32; 128], n: usize)
+    requires { ⌜ n ≤ 8 ⌝ }
+    ensures { λ r. ⌜ now (age .exit) ≡ upTo (λ k x. pick (ltb 0 (nth (now (rest .entry)) k)) (min (x + 1) longest) x) (n * 16) (now (age .entry)) ⌝ }
 {
+    let m = n * 16;
     let mut i: usize = 0;
-    while i < 128 {
+    while i < m {
         age[i] = older(age[i], rest[i]);
         i += 1;
     }

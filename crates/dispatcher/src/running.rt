@@ -3,7 +3,7 @@ ghost use mathlib.Core.Path.{_≡_};
 ghost use Rattle.plan.specs.declared.Plan as declared;
 ghost use Rattle.plan.specs.First.{refused};
 ghost use Rattle.dispatcher.specs.declared.Answer.the-variants.{Silent};
-ghost use Rattle.dispatcher.specs.Lent.{stateOf, Small, Columned, Gone};
+ghost use Rattle.dispatcher.specs.Lent.{stateOf, Small, Columned, Quiet, Gone};
 ghost use Rattle.dispatcher.specs.Promises.{Runs};
 use crate::Answer;
 use crate::Dispatcher;
@@ -32,7 +32,7 @@ fn steps(
     ticks: u32,
 ) -> Went
     requires { ⌜ Small n (now tasks) ⌝ }
-    ensures { λ r. ⌜ ((p : declared.Plan) → Columned p n (now (capacities .entry)) (now (periods .entry)) (now (tasks .entry)) → Gone (stateOf p (now (left .entry)) (now (position .entry)) (now (rest .entry)) (now (wait .entry)) (now (age .entry))) ticks (r .done) (r .turn) (stateOf p (now (left .exit)) (now (position .exit)) (now (rest .exit)) (now (wait .exit)) (now (age .exit)))) ⌝ }
+    ensures { λ r. ⌜ ((p : declared.Plan) → Columned p n (now (capacities .entry)) (now (periods .entry)) (now (tasks .entry)) → Quiet n (now (rest .entry)) (now (wait .entry)) → Gone (stateOf p (now (left .entry)) (now (position .entry)) (now (rest .entry)) (now (wait .entry)) (now (age .entry))) ticks (r .done) (r .turn) (stateOf p (now (left .exit)) (now (position .exit)) (now (rest .exit)) (now (wait .exit)) (now (age .exit)))) ⌝ }
 {
     let mut turn = Turn {
         guest: 0,

@@ -4,7 +4,7 @@ ghost use Prim.Native.Nat.{ℕ, _-_, _≤_, _<_};
 ghost use Rattle.plan.specs.declared.Plan.{Plan};
 ghost use Rattle.dispatcher.specs.declared.Dispatcher.{Dispatcher};
 ghost use Rattle.dispatcher.specs.Tick.{next};
-ghost use Rattle.dispatcher.specs.Lent.{stateOf, Small, Columned, Refilled, Served, Stepped};
+ghost use Rattle.dispatcher.specs.Lent.{stateOf, Small, Columned, Quiet, Refilled, Served, Stepped};
 use crate::Turn;
 use crate::jobs::fall;
 use crate::jobs::grow;
@@ -46,7 +46,7 @@ fn serve(left: &mut [u32; 8], rest: &mut [u32; 128], tasks: &[u32; 16], n: usize
     }
 }
 
-// One tick, in order; the ages go by the runs left at its start.
+// One tick, in order; the ages go by the runs left at its start. Past the n guests no job runs or waits, so no age or wait there moves.
 pub fn step(
     left: &mut [u32; 8],
     position: &mut [u32; 8],
@@ -59,11 +59,11 @@ pub fn step(
     n: usize,
 ) -> Turn
     requires { ⌜ Small n (now tasks) ⌝ }
-    ensures { λ r. ⌜ ((p : Plan) → Columned p n (now (capacities .entry)) (now (periods .entry)) (now (tasks .entry)) → Stepped (stateOf p (now (left .entry)) (now (position .entry)) (now (rest .entry)) (now (wait .entry)) (now (age .entry))) (stateOf p (now (left .exit)) (now (position .exit)) (now (rest .exit)) (now (wait .exit)) (now (age .exit))) r) ⌝ }
+    ensures { λ r. ⌜ ((p : Plan) → Columned p n (now (capacities .entry)) (now (periods .entry)) (now (tasks .entry)) → Quiet n (now (rest .entry)) (now (wait .entry)) → Stepped (stateOf p (now (left .entry)) (now (position .entry)) (now (rest .entry)) (now (wait .entry)) (now (age .entry))) (stateOf p (now (left .exit)) (now (position .exit)) (now (rest .exit)) (now (wait .exit)) (now (age .exit))) r) ⌝ }
 {
     refill(left, position, capacities, n);
-    grow(age, rest);
-    fall(wait);
+    grow(age, rest, n);
+    fall(wait, n);
     advance(position, periods, n);
     serve(left, rest, tasks, n)
 }

@@ -1,9 +1,14 @@
 -- Laws of sums modulo 2 to the 32. Assumes nothing.
-use mathlib.Core.Path.{_≡_}
-use Prim.Native.Nat.{ℕ, _+_, _%_, _^_, _<_}
+use mathlib.Core.Path.{_≡_, refl}
+use mathlib.Core.List.{List, _++_}
+use Prim.Native.Nat.{ℕ, zero, suc, _+_, _%_, _^_, _≤_, _<_}
 use native.Mathlib.Omega.{arith}
+use Rattle.lists.specs.Sum.{sumTo}
+use Rattle.words.specs.Word.{word}
+use Rattle.words.specs.Bytes.{bytesOf}
 use Rattle.words.specs.Wrap.{wrapped, complement}
 use Rattle.lists.proofs.Sum.{sum-none, sum-next}
+use Rattle.words.proofs.Bytes.{word-bytesOf-mod}
 
 -- nothing is summed
 pub wrapped-none : (f : ℕ → ℕ) → 0 ≡ wrapped f 0
@@ -20,3 +25,13 @@ complement-only r S h l = omega arith
 -- and the complement makes it zero
 pub complement-sum : (S : ℕ) → (S + complement (S % 2 ^ 32)) % 2 ^ 32 ≡ 0
 complement-sum S = omega arith
+
+-- sums of a number's lower 32 bits are sums of the numbers
+low-next : (s r a b : ℕ) → s % 2 ^ 32 ≡ r % 2 ^ 32 → a ≡ b % 2 ^ 32 → (s + a) % 2 ^ 32 ≡ (r + b) % 2 ^ 32
+low-next s r a b h e = omega arith
+
+-- the words of bytes sum to what the words put in do
+pub wrapped-bytes : (f : ℕ → ℕ) (n : ℕ) (t : List ℕ) (m : ℕ) → m ≤ n → wrapped (word (bytesOf f n ++ t)) m ≡ wrapped f m
+unfolding sumTo
+wrapped-bytes f n t zero h = refl
+wrapped-bytes f n t (suc m) h = low-next (sumTo (word (bytesOf f n ++ t)) m) (sumTo f m) _ (f m) (wrapped-bytes f n t m (omega arith)) (word-bytesOf-mod f n t m h)

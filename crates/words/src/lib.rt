@@ -2,10 +2,9 @@
 ghost use mathlib.Core.Path.{_≡_};
 ghost use mathlib.Core.List.{_++_};
 ghost use Prim.Native.Nat.{ℕ, _+_, _*_, _≤_, _<_};
-ghost use lib.ListN.{length, drop};
-ghost use Rattle.lists.specs.Places.{nth};
+ghost use lib.ListN.{length, replicate, drop};
 ghost use Rattle.words.specs.Word.{u32At, word};
-ghost use Rattle.words.specs.Bytes.{withU32, bytesOf};
+ghost use Rattle.words.specs.Bytes.{withU32};
 ghost use Rattle.words.specs.Wrap.{wrapped, complement};
 
 // A byte in 32 bits.
@@ -56,20 +55,6 @@ pub fn sum_words(b: &[u8], n: usize) -> u32
     sum
 }
 
-// The sum of the first n words of an array.
-pub fn sum_array(x: &[u32; 128], n: usize) -> u32
-    requires { ⌜ n ≤ 128 ⌝ }
-    ensures { λ r. ⌜ r ≡ wrapped (nth (now (x .entry))) n ⌝ }
-{
-    let mut sum: u32 = 0;
-    let mut k = 0;
-    while k < n {
-        sum = std::num::wrapping_add_u32(sum, x[k]);
-        k += 1;
-    }
-    sum
-}
-
 // The word that makes a sum zero.
 pub fn complement_of(sum: u32) -> u32
     ensures { λ r. ⌜ r ≡ complement sum ⌝ }
@@ -77,14 +62,14 @@ pub fn complement_of(sum: u32) -> u32
     std::num::wrapping_sub_u32(0, sum)
 }
 
-// The words of an array put into the first 512 bytes.
-pub fn put_words(x: &[u32; 128], buf: &mut [u8])
-    requires { ⌜ 512 ≤ length (now buf) ⌝ }
-    ensures { λ _. ⌜ now (buf .exit) ≡ bytesOf (nth (now (x .entry))) 128 ++ drop 512 (now (buf .entry)) ⌝ }
+// The first n bytes set to zero.
+pub fn put_zeros(b: &mut [u8], n: usize)
+    requires { ⌜ n ≤ length (now b) ⌝ }
+    ensures { λ _. ⌜ now (b .exit) ≡ replicate n 0 ++ drop n (now (b .entry)) ⌝ }
 {
-    let mut k = 0;
-    while k < 128 {
-        put_u32(buf, 4 * k, x[k]);
-        k += 1;
+    let mut i = 0;
+    while i < n {
+        b[i] = 0;
+        i += 1;
     }
 }

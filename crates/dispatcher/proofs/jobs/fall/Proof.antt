@@ -1,6 +1,6 @@
 -- The loop's invariant: the waits of the places passed have fallen, and no other.
 use mathlib.Core.Path.{_≡_, sym}
-use Prim.Native.Nat.{_≤_, _-_}
+use Prim.Native.Nat.{_≤_, _*_, _-_}
 use borrow.Author.Needs.{needs}
 use Rattle.lists.specs.Places.{upTo}
 use Rattle.dispatcher.proofs.Tick.{fallen}
@@ -9,10 +9,13 @@ use Rattle.dispatcher.proofs.jobs.fall.Statement.{statement}
 use Rattle.dispatcher.proofs.jobs.fall.Tie as tie
 
 abbrev Inv-loop : tie.InvT-loop
-Inv-loop wait₀ i₀ wait i = (i ≤ 128) × (wait ≡ upTo fallen i wait₀)
+Inv-loop wait₀ n m i₀ wait i = (i ≤ n * 16) × (wait ≡ upTo fallen i wait₀)
 
 abbrev μ-loop : tie.MeasureT-loop
-μ-loop wait₀ i₀ wait i = 128 - i
+μ-loop wait₀ n m i₀ wait i = n * 16 - i
+
+mul-m : tie.Need-mul-m Inv-loop μ-loop
+mul-m c = search needs
 
 loop-holds : tie.Need-loop-holds Inv-loop μ-loop
 loop-holds c = (search needs, sym (upTo-none _ _))
@@ -42,7 +45,7 @@ loop-again : tie.Need-loop-again Inv-loop μ-loop
 loop-again c = (search needs, upTo-next fallen _ _ _ _ (c .before .before .before .loop .inv .1) (c .less .ensures))
 
 returns : tie.Need-returns Inv-loop μ-loop
-returns c = upTo-done fallen _ 128 _ _ (c .before .loop .inv .1) (search needs) (search needs)
+returns c = upTo-done fallen _ _ _ _ (c .before .loop .inv .1) (search needs) (search needs)
 
 pub fall-spec : {M : Type 1} → statement M
 fall-spec =
@@ -50,6 +53,7 @@ fall-spec =
     (tie.spec
     Inv-loop
     μ-loop
+    mul-m
     loop-holds
     mul-less
     element-copy-out-less

@@ -1,6 +1,6 @@
 -- The loop's invariant: the ages of the places passed are grown, and no other.
 use mathlib.Core.Path.{_≡_, sym}
-use Prim.Native.Nat.{_≤_, _-_}
+use Prim.Native.Nat.{_≤_, _*_, _-_}
 use borrow.Author.Needs.{needs}
 use Rattle.lists.specs.Places.{upTo}
 use Rattle.dispatcher.proofs.Tick.{grown}
@@ -9,10 +9,13 @@ use Rattle.dispatcher.proofs.jobs.grow.Statement.{statement}
 use Rattle.dispatcher.proofs.jobs.grow.Tie as tie
 
 abbrev Inv-loop : tie.InvT-loop
-Inv-loop age₀ rest i₀ age i = (i ≤ 128) × (age ≡ upTo (grown rest) i age₀)
+Inv-loop age₀ rest n m i₀ age i = (i ≤ n * 16) × (age ≡ upTo (grown rest) i age₀)
 
 abbrev μ-loop : tie.MeasureT-loop
-μ-loop age₀ rest i₀ age i = 128 - i
+μ-loop age₀ rest n m i₀ age i = n * 16 - i
+
+mul-m : tie.Need-mul-m Inv-loop μ-loop
+mul-m c = search needs
 
 loop-holds : tie.Need-loop-holds Inv-loop μ-loop
 loop-holds c = (search needs, sym (upTo-none _ _))
@@ -48,7 +51,7 @@ loop-again : tie.Need-loop-again Inv-loop μ-loop
 loop-again c = (search needs, upTo-next (grown (c .before .before .before .before .before .args .rest .now)) _ _ _ _ (c .before .before .before .before .loop .inv .1) (c .older .ensures))
 
 returns : tie.Need-returns Inv-loop μ-loop
-returns c = upTo-done (grown (c .before .before .args .rest .now)) _ 128 _ _ (c .before .loop .inv .1) (search needs) (search needs)
+returns c = upTo-done (grown (c .before .before .args .rest .now)) _ _ _ _ (c .before .loop .inv .1) (search needs) (search needs)
 
 pub grow-spec : {M : Type 1} → statement M
 grow-spec =
@@ -56,6 +59,7 @@ grow-spec =
     (tie.spec
     Inv-loop
     μ-loop
+    mul-m
     loop-holds
     mul-older
     element-copy-out-older

@@ -4,7 +4,7 @@ use borrow.Author.Needs.{needs}
 use borrow.Author.Tests.{not-true, not-false}
 use Rattle.dispatcher.specs.Lent.{stateOf}
 use Rattle.dispatcher.proofs.Valid.{ok-plan}
-use Rattle.dispatcher.proofs.Lent.{columned, small-tasks, telling, ending}
+use Rattle.dispatcher.proofs.Lent.{columned, small-tasks, quiet, telling, ending}
 use Rattle.dispatcher.proofs.Entries.{run-refused, run-long, run-idle, run-done}
 use Rattle.dispatcher.proofs.running.ran.Statement.{statement}
 use Rattle.dispatcher.proofs.running.ran.Tie as tie
@@ -41,7 +41,7 @@ returns-3 c =
     let f = c .before .before .before .before .before .before .before .before .before .before .before .before .before .before .before .before .before in
     let e = f .before in
     let k = sym (e .before .before .examine .ensures .okay) ∙ not-false _ (e .if1 .left) in
-    let g = c .before .before .before .steps .ensures (e .before .before .before .before .before .before .before .before .args .plan) (columned (e .before .before .examine .ensures .columns k)) in
+    let g = c .before .before .before .steps .ensures (e .before .before .before .before .before .before .before .before .args .plan) (columned (e .before .before .examine .ensures .columns k)) (quiet _ k) in
     rw (c .unmoved3 .ensures) (run-idle k (f .if2 .left) g (c .before .if3 .taken))
 
 finished-requires : tie.Need-finished-requires
@@ -50,7 +50,7 @@ finished-requires c κs =
     let a = e .before .before .before .before .before .before .before .before .args in
     let d = stateOf (a .plan) (a .left .now) (a .position .now) (a .rest .now) (a .wait .now) (a .age .now) in
     let k = sym (e .before .before .examine .ensures .okay) ∙ not-false _ (e .if1 .left) in
-    let g = c .before .before .before .before .before .steps .ensures (a .plan) (columned (e .before .before .examine .ensures .columns k)) in
+    let g = c .before .before .before .before .before .steps .ensures (a .plan) (columned (e .before .before .examine .ensures .columns k)) (quiet _ k) in
     (g .before, ending (ok-plan d k) (g .last (c .before .before .before .if3 .left)) (c .before .if4 .taken))
 
 returns-4 : tie.Need-returns-4
@@ -61,7 +61,7 @@ returns-4 c =
     let d = stateOf (a .plan) (a .left .now) (a .position .now) (a .rest .now) (a .wait .now) (a .age .now) in
     let k = sym (e .before .before .examine .ensures .okay) ∙ not-false _ (e .if1 .left) in
     let s = c .before .before .before .before .before in
-    let g = s .before .steps .ensures (a .plan) (columned (e .before .before .examine .ensures .columns k)) in
+    let g = s .before .steps .ensures (a .plan) (columned (e .before .before .examine .ensures .columns k)) (quiet _ k) in
     run-done k (f .if2 .left) g (c .before .before .before .before .if3 .left) (c .finished .ensures (g .before) (ending (ok-plan d k) (g .last (c .before .before .before .before .if3 .left)) (c .before .before .if4 .taken)))
 
 told-requires : tie.Need-told-requires
@@ -71,7 +71,7 @@ told-requires c κs =
     let d = stateOf (a .plan) (a .left .now) (a .position .now) (a .rest .now) (a .wait .now) (a .age .now) in
     let k = sym (e .before .before .examine .ensures .okay) ∙ not-false _ (e .if1 .left) in
     let f = e .before .before .examine .ensures .columns k in
-    let g = c .before .before .before .before .before .steps .ensures (a .plan) (columned f) in
+    let g = c .before .before .before .before .before .steps .ensures (a .plan) (columned f) (quiet _ k) in
     (g .before, telling (ok-plan d k) (g .last (c .before .before .before .if3 .left)) f (c .before .if4 .left))
 
 returns-5 : tie.Need-returns-5
@@ -83,7 +83,7 @@ returns-5 c =
     let k = sym (e .before .before .examine .ensures .okay) ∙ not-false _ (e .if1 .left) in
     let f = e .before .before .examine .ensures .columns k in
     let s = c .before .before .before .before .before in
-    let g = s .before .steps .ensures (a .plan) (columned f) in
+    let g = s .before .steps .ensures (a .plan) (columned f) (quiet _ k) in
     run-done k (t .if2 .left) g (c .before .before .before .before .if3 .left) (c .told .ensures (g .before) (telling (ok-plan d k) (g .last (c .before .before .before .before .if3 .left)) f (c .before .before .if4 .left)))
 
 pub ran-spec : {M : Type 1} → statement M

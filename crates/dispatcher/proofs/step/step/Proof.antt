@@ -1,4 +1,4 @@
--- Each part ensures its sentence of the rule, of arrays that no part before it has changed but by its own sentence.
+-- Each part ensures its sentence of the rule, of arrays that no part before it has changed but by its own sentence; the places past the guests are quiet.
 use borrow.Author.Needs.{needs}
 use Rattle.dispatcher.proofs.Lent.{stepped}
 use Rattle.dispatcher.proofs.step.step.Statement.{statement}
@@ -22,8 +22,9 @@ serve-requires c κs = search needs
 returns : tie.Need-returns
 returns c =
     let s = c .before .before .before .before .before in
-    let a = s .before .before .before .before .before .before .before .before .args in
-    λ p u. stepped u (a .left .now) (a .position .now) (a .rest .now) (a .wait .now) (a .age .now) (s .before .before .before .before .before .refill .ensures) (c .before .before .before .advance .ensures) (s .fall .ensures) (s .before .before .grow .ensures) (c .serve .ensures)
+    let b = s .before .before .before .before .before .before .before .before in
+    let a = b .args in
+    λ p u z. stepped u (a .left .now) (a .position .now) (a .rest .now) (a .wait .now) (a .age .now) (s .before .before .before .before .before .refill .ensures) (c .before .before .before .advance .ensures) (s .fall .ensures) (s .before .before .grow .ensures) (b .pre .guests) z (c .serve .ensures)
 
 pub step-spec : {M : Type 1} → statement M
 step-spec =

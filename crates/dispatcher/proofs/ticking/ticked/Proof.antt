@@ -4,7 +4,7 @@ use borrow.Author.Needs.{needs}
 use borrow.Author.Tests.{not-true, not-false}
 use Rattle.dispatcher.specs.Lent.{stateOf}
 use Rattle.dispatcher.proofs.Valid.{ok-plan}
-use Rattle.dispatcher.proofs.Lent.{columned, small-tasks, telling, ending}
+use Rattle.dispatcher.proofs.Lent.{columned, small-tasks, quiet, telling, ending}
 use Rattle.dispatcher.proofs.Entries.{tick-refused, tick-done}
 use Rattle.dispatcher.proofs.ticking.ticked.Statement.{statement}
 use Rattle.dispatcher.proofs.ticking.ticked.Tie as tie
@@ -30,7 +30,7 @@ finished-requires c κs =
     let a = e .before .before .before .before .before .before .before .before .args in
     let d = stateOf (a .plan) (a .left .now) (a .position .now) (a .rest .now) (a .wait .now) (a .age .now) in
     let k = sym (e .before .before .examine .ensures .okay) ∙ not-false _ (e .if1 .left) in
-    let s = c .before .before .before .step .ensures (a .plan) (columned (e .before .before .examine .ensures .columns k)) in
+    let s = c .before .before .before .step .ensures (a .plan) (columned (e .before .before .examine .ensures .columns k)) (quiet _ k) in
     (d, ending (ok-plan d k) s (c .before .if2 .taken))
 
 returns-2 : tie.Need-returns-2
@@ -39,7 +39,7 @@ returns-2 c =
     let a = e .before .before .before .before .before .before .before .before .args in
     let d = stateOf (a .plan) (a .left .now) (a .position .now) (a .rest .now) (a .wait .now) (a .age .now) in
     let k = sym (e .before .before .examine .ensures .okay) ∙ not-false _ (e .if1 .left) in
-    let s = c .before .before .before .before .step .ensures (a .plan) (columned (e .before .before .examine .ensures .columns k)) in
+    let s = c .before .before .before .before .step .ensures (a .plan) (columned (e .before .before .examine .ensures .columns k)) (quiet _ k) in
     tick-done k s (c .finished .ensures d (ending (ok-plan d k) s (c .before .before .if2 .taken)))
 
 told-requires : tie.Need-told-requires
@@ -49,7 +49,7 @@ told-requires c κs =
     let d = stateOf (a .plan) (a .left .now) (a .position .now) (a .rest .now) (a .wait .now) (a .age .now) in
     let k = sym (e .before .before .examine .ensures .okay) ∙ not-false _ (e .if1 .left) in
     let f = e .before .before .examine .ensures .columns k in
-    (d, telling (ok-plan d k) (c .before .before .before .step .ensures (a .plan) (columned f)) f (c .before .if2 .left))
+    (d, telling (ok-plan d k) (c .before .before .before .step .ensures (a .plan) (columned f) (quiet _ k)) f (c .before .if2 .left))
 
 returns-3 : tie.Need-returns-3
 returns-3 c =
@@ -58,7 +58,7 @@ returns-3 c =
     let d = stateOf (a .plan) (a .left .now) (a .position .now) (a .rest .now) (a .wait .now) (a .age .now) in
     let k = sym (e .before .before .examine .ensures .okay) ∙ not-false _ (e .if1 .left) in
     let f = e .before .before .examine .ensures .columns k in
-    let s = c .before .before .before .before .step .ensures (a .plan) (columned f) in
+    let s = c .before .before .before .before .step .ensures (a .plan) (columned f) (quiet _ k) in
     tick-done k s (c .told .ensures d (telling (ok-plan d k) s f (c .before .before .if2 .left)))
 
 pub ticked-spec : {M : Type 1} → statement M
