@@ -1,10 +1,11 @@
 -- How a call comes to its whole outcome. Assumes nothing.
 use mathlib.Core.Path.{_≡_, refl, sym, _∙_}
-use mathlib.Core.Bool.{true, false}
+use mathlib.Core.Bool.{Bool, true, false}
 use mathlib.Core.List.{[]}
 use Prim.Native.Nat.{ℕ, zero, suc, _≤_, _<_}
 use native.Mathlib.Omega.{arith}
 use borrow.Author.Tests.{le-leb, lt-leb}
+use Rattle.lists.specs.Choice.{pick}
 use Rattle.plan.specs.First.{refused, fine}
 use Rattle.dispatcher.specs.declared.Dispatcher.{Dispatcher}
 use Rattle.dispatcher.specs.declared.Turn.{Turn}
@@ -13,22 +14,12 @@ use Rattle.dispatcher.specs.declared.Answer.the-variants.{Silent}
 use Rattle.dispatcher.specs.declared.Ticked.{Ticked}
 use Rattle.dispatcher.specs.declared.Ran.{Ran}
 use Rattle.dispatcher.specs.Valid.{stateOk}
-use Rattle.dispatcher.specs.Answer.{answer}
-use Rattle.dispatcher.specs.Run.{runOf}
-use Rattle.dispatcher.specs.Lent.{Stepped, lastBy, Gone}
+use Rattle.dispatcher.specs.Tick.{next}
+use Rattle.dispatcher.specs.Answer.{answer, finishes}
+use Rattle.dispatcher.specs.Run.{ranTo, runFrom, runOf}
+use Rattle.dispatcher.specs.Lent.{lastBy, Gone}
 use Rattle.dispatcher.specs.Entries.{tickedBy, tick, longestRun, ranBy, run}
 use Rattle.lists.proofs.Refusals.{none-left, go-on, stop}
-
--- a refused tick
-pub tick-refused : (d : Dispatcher) → stateOk d ≡ false → _≡_ {A = Ticked} (record { refusal = refused 14 0; answer = Silent; state = d }) (tick d)
-unfolding tick tickedBy
-tick-refused d e = rw (stop 14 _ e) refl
-
--- a tick that is done
-pub tick-done : {d after : Dispatcher} {t : Turn} {a : Answer} → stateOk d ≡ true → Stepped d after t → a ≡ answer d
-    → _≡_ {A = Ticked} (record { refusal = fine; answer = a; state = after }) (tick d)
-unfolding tick tickedBy
-tick-done e s f = rw (go-on 14 _ e ∙ none-left, s .state, f) refl
 
 -- a run of a state outside its ranges
 pub run-refused : (d : Dispatcher) (n : ℕ) → stateOk d ≡ false → _≡_ {A = Ran} (record { refusal = refused 14 0; done = 0; answer = Silent; state = d }) (run d n)
@@ -60,3 +51,25 @@ module _ {d after : Dispatcher} {n done : ℕ} {t : Turn} (e : stateOk d ≡ tru
   -- it did some
   pub run-done : {a : Answer} → 1 ≤ done → a ≡ answer (g .before) → _≡_ {A = Ran} (record { refusal = fine; done = done; answer = a; state = after }) (run d n)
   run-done l q = rw (q, ← last-some done (g .before) l) (sym (g .ran) ∙ run-is d n e h)
+
+-- what a run says of its last tick
+abbrev tickOf : Ran → Ticked
+tickOf r = record { refusal = r .refusal; answer = r .answer; state = r .state }
+
+-- a run of one tick ends after it, whether it finishes a job or not
+run-one : (d : Dispatcher) → tickOf (runOf 1 d) ≡ record { refusal = fine; answer = answer d; state = next d }
+unfolding runOf runFrom
+run-one d = go (finishes (answer d))
+  where
+    go : (b : Bool) → tickOf (pick b (ranTo 1 (answer d) (next d)) (ranTo 1 (answer d) (next d))) ≡ record { refusal = fine; answer = answer d; state = next d }
+    go true = refl
+    go false = refl
+
+-- and is refused where a tick is
+pub tick-of-run : (d : Dispatcher) {r : Ran} → r ≡ run d 1 → tickOf r ≡ tick d
+unfolding tick tickedBy
+tick-of-run d e = rw e (go (stateOk d) refl)
+  where
+    go : (b : Bool) → stateOk d ≡ b → tickOf (run d 1) ≡ tick d
+    go true h = rw (← run-is d 1 h (omega arith), go-on 14 _ h ∙ none-left) (run-one d)
+    go false h = rw (← run-refused d 1 h, stop 14 _ h) refl

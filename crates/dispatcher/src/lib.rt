@@ -56,12 +56,6 @@ pub struct Checked {
     pub tasks: [u32; 16],
 }
 
-// What a tick over lent arrays gives beside them: the number that it is refused by, or 0, and its answer.
-pub struct TickOutcome {
-    pub number: u32,
-    pub answer: Answer,
-}
-
 // What a run over lent arrays gives beside them.
 pub struct RunOutcome {
     pub number: u32,

@@ -3,9 +3,10 @@ ghost use mathlib.Core.Path.{_≡_};
 ghost use Rattle.plan.specs.declared.Plan as declared;
 ghost use Rattle.plan.specs.First.{refused};
 ghost use Rattle.dispatcher.specs.declared.Answer.the-variants.{Silent};
-ghost use Rattle.dispatcher.specs.Lent.{stateOf, Small, Columned, Quiet, Gone};
+ghost use Rattle.dispatcher.specs.Lent.{stateOf, Examines, Small, Columned, Quiet, Gone};
 ghost use Rattle.dispatcher.specs.Promises.{Runs};
 use crate::Answer;
+use crate::Checked;
 use crate::Dispatcher;
 use crate::Ran;
 use crate::RunOutcome;
@@ -71,8 +72,9 @@ fn unmoved(number: u32) -> RunOutcome
     }
 }
 
-// A run over lent arrays: they come back as they were where it is refused.
-fn ran(
+// A run over lent arrays that were examined: they come back as they were where it is refused.
+pub fn ran(
+    found: Checked,
     plan: Plan,
     left: &mut [u32; 8],
     position: &mut [u32; 8],
@@ -81,9 +83,9 @@ fn ran(
     age: &mut [u32; 128],
     ticks: u32,
 ) -> RunOutcome
+    requires { ⌜ Examines (stateOf plan (now left) (now position) (now rest) (now wait) (now age)) found ⌝ }
     ensures { λ r. ⌜ Runs (stateOf plan (now (left .entry)) (now (position .entry)) (now (rest .entry)) (now (wait .entry)) (now (age .entry))) ticks (record { refusal = refused (r .number) 0; done = r .done; answer = r .answer; state = stateOf plan (now (left .exit)) (now (position .exit)) (now (rest .exit)) (now (wait .exit)) (now (age .exit)) }) ⌝ }
 {
-    let found = examine(plan, left, position, rest, wait, age);
     if !found.ok {
         return unmoved(14);
     }
@@ -135,7 +137,9 @@ impl Dispatcher {
         let mut rest = self.rest;
         let mut wait = self.wait;
         let mut age = self.age;
+        let found = examine(self.plan, &left, &position, &rest, &wait, &age);
         let r = ran(
+            found,
             self.plan,
             &mut left,
             &mut position,

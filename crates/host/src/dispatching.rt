@@ -81,10 +81,11 @@ pub extern "C" fn cs_tick(state: Dispatcher) -> Tick
     let ticked = state.tick();
     let refusal = ticked.refusal;
     let answer = ticked.answer;
+    let told = tell(answer);
     let state = ticked.state;
     Tick {
         refusal,
-        answer: tell(answer),
+        answer: told,
         state,
     }
 }
@@ -96,11 +97,13 @@ pub extern "C" fn cs_run(state: Dispatcher, ticks: u32) -> Run
     let ran = state.run(ticks);
     let refusal = ran.refusal;
     let answer = ran.answer;
+    let done = ran.done;
+    let told = tell(answer);
     let state = ran.state;
     Run {
         refusal,
-        done: ran.done,
-        answer: tell(answer),
+        done,
+        answer: told,
         state,
     }
 }

@@ -1,4 +1,4 @@
--- By refusals 14 and 13, then by whether a tick was done and whether the last finished a job.
+-- `dispatcher::running::ran` meets its contract. Assumes nothing.
 use mathlib.Core.Path.{sym, _∙_}
 use borrow.Author.Needs.{needs}
 use borrow.Author.Tests.{not-true, not-false}
@@ -9,20 +9,17 @@ use Rattle.dispatcher.proofs.Entries.{run-refused, run-long, run-idle, 
 use Rattle.dispatcher.proofs.running.ran.Statement.{statement}
 use Rattle.dispatcher.proofs.running.ran.Tie as tie
 
-examine-requires : tie.Need-examine-requires
-examine-requires c κs = search needs
-
 unmoved-requires : tie.Need-unmoved-requires
 unmoved-requires c κs = search needs
 
 returns : tie.Need-returns
-returns c = rw (c .unmoved .ensures) (run-refused _ _ (sym (c .before .before .before .examine .ensures .okay) ∙ not-true _ (c .before .if1 .taken)))
+returns c = rw (c .unmoved .ensures) (run-refused _ _ (sym (c .before .before .before .pre .okay) ∙ not-true _ (c .before .if1 .taken)))
 
 unmoved-requires-2 : tie.Need-unmoved-requires-2
 unmoved-requires-2 c κs = search needs
 
 returns-2 : tie.Need-returns-2
-returns-2 c = rw (c .unmoved2 .ensures) (run-long _ _ (sym (c .before .before .before .before .examine .ensures .okay) ∙ not-false _ (c .before .before .if1 .left)) (c .before .if2 .taken))
+returns-2 c = rw (c .unmoved2 .ensures) (run-long _ _ (sym (c .before .before .before .before .pre .okay) ∙ not-false _ (c .before .before .if1 .left)) (c .before .if2 .taken))
 
 cast-n : tie.Need-cast-n
 cast-n c = search needs
@@ -30,8 +27,8 @@ cast-n c = search needs
 steps-requires : tie.Need-steps-requires
 steps-requires c κs =
     let e = c .before .before .before .before .before .before .before .before .before .before .before .before .before .before in
-    let k = sym (e .before .before .examine .ensures .okay) ∙ not-false _ (e .if1 .left) in
-    small-tasks (ok-plan _ k) (e .before .before .examine .ensures .columns k)
+    let k = sym (e .before .before .pre .okay) ∙ not-false _ (e .if1 .left) in
+    small-tasks (ok-plan _ k) (e .before .before .pre .columns k)
 
 unmoved-requires-3 : tie.Need-unmoved-requires-3
 unmoved-requires-3 c κs = search needs
@@ -40,37 +37,37 @@ returns-3 : tie.Need-returns-3
 returns-3 c =
     let f = c .before .before .before .before .before .before .before .before .before .before .before .before .before .before .before .before .before in
     let e = f .before in
-    let k = sym (e .before .before .examine .ensures .okay) ∙ not-false _ (e .if1 .left) in
-    let g = c .before .before .before .steps .ensures (e .before .before .before .before .before .before .before .before .args .plan) (columned (e .before .before .examine .ensures .columns k)) (quiet _ k) in
+    let k = sym (e .before .before .pre .okay) ∙ not-false _ (e .if1 .left) in
+    let g = c .before .before .before .steps .ensures (e .before .before .args .plan) (columned (e .before .before .pre .columns k)) (quiet _ k) in
     rw (c .unmoved3 .ensures) (run-idle k (f .if2 .left) g (c .before .if3 .taken))
 
 finished-requires : tie.Need-finished-requires
 finished-requires c κs =
     let e = c .before .before .before .before .before .before .before .before .before .before .before .before .before .before .before .before .before .before .before .before in
-    let a = e .before .before .before .before .before .before .before .before .args in
+    let a = e .before .before .args in
     let d = stateOf (a .plan) (a .left .now) (a .position .now) (a .rest .now) (a .wait .now) (a .age .now) in
-    let k = sym (e .before .before .examine .ensures .okay) ∙ not-false _ (e .if1 .left) in
-    let g = c .before .before .before .before .before .steps .ensures (a .plan) (columned (e .before .before .examine .ensures .columns k)) (quiet _ k) in
+    let k = sym (e .before .before .pre .okay) ∙ not-false _ (e .if1 .left) in
+    let g = c .before .before .before .before .before .steps .ensures (a .plan) (columned (e .before .before .pre .columns k)) (quiet _ k) in
     (g .before, ending (ok-plan d k) (g .last (c .before .before .before .if3 .left)) (c .before .if4 .taken))
 
 returns-4 : tie.Need-returns-4
 returns-4 c =
     let f = c .before .before .before .before .before .before .before .before .before .before .before .before .before .before .before .before .before .before .before .before in
     let e = f .before in
-    let a = e .before .before .before .before .before .before .before .before .args in
+    let a = e .before .before .args in
     let d = stateOf (a .plan) (a .left .now) (a .position .now) (a .rest .now) (a .wait .now) (a .age .now) in
-    let k = sym (e .before .before .examine .ensures .okay) ∙ not-false _ (e .if1 .left) in
+    let k = sym (e .before .before .pre .okay) ∙ not-false _ (e .if1 .left) in
     let s = c .before .before .before .before .before in
-    let g = s .before .steps .ensures (a .plan) (columned (e .before .before .examine .ensures .columns k)) (quiet _ k) in
+    let g = s .before .steps .ensures (a .plan) (columned (e .before .before .pre .columns k)) (quiet _ k) in
     run-done k (f .if2 .left) g (c .before .before .before .before .if3 .left) (c .finished .ensures (g .before) (ending (ok-plan d k) (g .last (c .before .before .before .before .if3 .left)) (c .before .before .if4 .taken)))
 
 told-requires : tie.Need-told-requires
 told-requires c κs =
     let e = c .before .before .before .before .before .before .before .before .before .before .before .before .before .before .before .before .before .before .before .before in
-    let a = e .before .before .before .before .before .before .before .before .args in
+    let a = e .before .before .args in
     let d = stateOf (a .plan) (a .left .now) (a .position .now) (a .rest .now) (a .wait .now) (a .age .now) in
-    let k = sym (e .before .before .examine .ensures .okay) ∙ not-false _ (e .if1 .left) in
-    let f = e .before .before .examine .ensures .columns k in
+    let k = sym (e .before .before .pre .okay) ∙ not-false _ (e .if1 .left) in
+    let f = e .before .before .pre .columns k in
     let g = c .before .before .before .before .before .steps .ensures (a .plan) (columned f) (quiet _ k) in
     (g .before, telling (ok-plan d k) (g .last (c .before .before .before .if3 .left)) f (c .before .if4 .left))
 
@@ -78,10 +75,10 @@ returns-5 : tie.Need-returns-5
 returns-5 c =
     let t = c .before .before .before .before .before .before .before .before .before .before .before .before .before .before .before .before .before .before .before .before in
     let e = t .before in
-    let a = e .before .before .before .before .before .before .before .before .args in
+    let a = e .before .before .args in
     let d = stateOf (a .plan) (a .left .now) (a .position .now) (a .rest .now) (a .wait .now) (a .age .now) in
-    let k = sym (e .before .before .examine .ensures .okay) ∙ not-false _ (e .if1 .left) in
-    let f = e .before .before .examine .ensures .columns k in
+    let k = sym (e .before .before .pre .okay) ∙ not-false _ (e .if1 .left) in
+    let f = e .before .before .pre .columns k in
     let s = c .before .before .before .before .before in
     let g = s .before .steps .ensures (a .plan) (columned f) (quiet _ k) in
     run-done k (t .if2 .left) g (c .before .before .before .before .if3 .left) (c .told .ensures (g .before) (telling (ok-plan d k) (g .last (c .before .before .before .before .if3 .left)) f (c .before .before .if4 .left)))
@@ -90,7 +87,6 @@ pub ran-spec : {M : Type 1} → statement M
 ran-spec =
     tie.close
     (tie.spec
-    examine-requires
     unmoved-requires
     returns
     unmoved-requires-2

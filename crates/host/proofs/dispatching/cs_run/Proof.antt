@@ -13,7 +13,7 @@ tell-requires c κs = search needs
 
 returns : tie.Need-returns
 unfolding runTold
-returns c = rw (c .tell .ensures) (ap runTold (c .before .before .before .run .ensures))
+returns c = rw (c .before .tell .ensures) (ap runTold (c .before .before .before .run .ensures))
 
 pub cs-run-spec : {M : Type 1} → statement M
 cs-run-spec = tie.close (tie.spec run-requires tell-requires returns)

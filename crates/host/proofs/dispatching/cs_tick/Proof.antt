@@ -13,7 +13,7 @@ tell-requires c κs = search needs
 
 returns : tie.Need-returns
 unfolding tickTold
-returns c = rw (c .tell .ensures) (ap tickTold (c .before .before .before .tick .ensures))
+returns c = rw (c .before .tell .ensures) (ap tickTold (c .before .before .before .tick .ensures))
 
 pub cs-tick-spec : {M : Type 1} → statement M
 cs-tick-spec = tie.close (tie.spec tick-requires tell-requires returns)
