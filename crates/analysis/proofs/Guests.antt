@@ -1,16 +1,15 @@
 -- A guest's verdict has its meaning and is the only one that has it: the search's answer is the least solution. Assumes nothing.
 use mathlib.Core.Path.{_≡_, refl, sym, _∙_, ap}
-use mathlib.Core.Bool.{Bool, true, not, false≢true}
+use mathlib.Core.Bool.{true, false≢true}
 use mathlib.Core.List.{[], _∷_}
 use Prim.Native.Nat.{ℕ, suc, _≤_, _<_}
 use native.Mathlib.Omega.{arith}
 use lib.Dec.{eqb}
-use borrow.Author.Tests.{eqb-true, eq-eqb, not-true, lt-ltb}
+use borrow.Author.Tests.{eq-eqb, lt-ltb, ltb-true}
 use Rattle.lists.specs.Refusals.{_orRefuse_}
-use Rattle.lists.specs.Search.{firstFrom}
 use Rattle.lists.specs.declared.Found.{Found}
 use Rattle.lists.specs.declared.Found.the-variants.{At, Nothing}
-use Rattle.plan.specs.Order.{newId}
+use Rattle.plan.specs.Order.{planRefusal}
 use Rattle.plan.specs.Place.{placeOf}
 use Rattle.plan.specs.Records.{guestAt}
 use Rattle.plan.specs.declared.Plan.{Plan}
@@ -18,29 +17,35 @@ use Rattle.response.specs.Guest.{guestRight, guestResponse, fitted, fittedTo}
 use Rattle.verdict.specs.Verdict.{hasGuest, guestSays, guestVerdict}
 use Rattle.verdict.specs.declared.GuestVerdict.{GuestVerdict}
 use Rattle.verdict.specs.declared.GuestVerdict.the-variants.{Refused, Fitted, Unfit}
-use Rattle.analysis.specs.Guests.{There, Fits, Responds, AllFit, GuestMeans}
+use Rattle.analysis.specs.Guests.{There, GuestSolves, Responds, AllFit, GuestMeans}
 use Rattle.lists.proofs.All.{all-at, all-by}
-use Rattle.lists.proofs.Search.{at-of, is-at, first-found, first-before}
+use Rattle.lists.proofs.Search.{at-of, is-at, first-before}
 use Rattle.equation.proofs.Solve.{Solved, Answers, solve-answers, solve-by}
 use Rattle.plan.proofs.Order.{plan-in}
+use Rattle.lists.proofs.Refusals.{passed}
 use Rattle.verdict.proofs.Verdict.{records-pass, test-passes, no-test}
+use Rattle.verdict.proofs.NoRefusal.{by-records}
+use Rattle.analysis.proofs.Ids.{idOf, found-id, id-one}
 
--- the id stands at no other place before, so the search finds it there
+-- the search finds the id at its place, since an id stands for one guest
 pub there-place : (p : Plan) (id k : ℕ) → There p id k → placeOf p id ≡ k
-unfolding placeOf newId
+unfolding placeOf
 there-place p id k t =
-    let f : ℕ → Bool = λ j. eqb (guestAt (p .guests) j .id) id in
-    let found : ¬ (firstFrom f (p .count) 0 < k) = λ l. (
-    let same = eqb-true (guestAt (p .guests) (firstFrom f (p .count) 0) .id) id (first-found f (p .count) 0 (omega (arith, t .place))) in
-    let new = all-at (λ j. not (eqb (guestAt (p .guests) j .id) (guestAt (p .guests) k .id))) k (firstFrom f (p .count) 0) l (plan-in p (t .order) .new k (t .place)) in
-    false≢true (sym (not-true _ new) ∙ eq-eqb _ _ (same ∙ sym (t .named)))) in
-    let passed : ¬ (k < firstFrom f (p .count) 0) = λ l. false≢true (sym (first-before f (p .count) 0 k (omega arith) l) ∙ eq-eqb _ _ (t .named)) in
-    omega arith
+    let passed : ¬ (k < placeOf p id) = λ l. false≢true (sym (first-before (λ j. eqb (idOf p j) id) (p .count) 0 k (omega arith) l) ∙ eq-eqb _ _ (t .named)) in
+    let found : placeOf p id < p .count = omega (arith, t .place) in
+    id-one p (plan-in p (t .order)) (placeOf p id) k found (t .place) (found-id p id (placeOf p id) refl found ∙ sym (t .named))
 
 -- so 7 is not given
 pub there-has : (p : Plan) (id k : ℕ) → There p id k → hasGuest p id ≡ true
 unfolding hasGuest
 there-has p id k t = lt-ltb (placeOf p id) (p .count) (omega (arith, there-place p id k t, t .place))
+
+-- a guest that 7 is not given for is there
+pub has-there : (p : Plan) (id : ℕ) → planRefusal p .number ≡ 0 → hasGuest p id ≡ true → There p id (placeOf p id)
+unfolding hasGuest
+has-there p id ok h =
+    let place = ltb-true (placeOf p id) (p .count) h in
+    record { order = ok; place = place; named = found-id p id (placeOf p id) refl place }
 
 -- the verdict is that of the response
 pub guest-verdict-is : (p : Plan) (id k : ℕ) → There p id k → guestVerdict p id ≡ guestSays (guestResponse p k)
@@ -85,7 +90,7 @@ pub guest-verdict-only : (p : Plan) (id k : ℕ) → There p id k → (v : Guest
 guest-verdict-only p id k t v a = guest-means-one p k v (guestVerdict p id) a (guest-verdict-means p id k t)
 
 -- the test of a guest, as a solution
-pub fitted-fits : (p : Plan) (j : ℕ) → fitted p j ≡ true → (x : ℕ) × Fits p j x
+pub fitted-fits : (p : Plan) (j : ℕ) → fitted p j ≡ true → (x : ℕ) × GuestSolves p j x
 unfolding fitted guestResponse
 fitted-fits p j e =
     let x = at-of (guestResponse p j) e in
@@ -93,7 +98,7 @@ fitted-fits p j e =
     (x .0, record { low = s .low; high = s .high; solves = s .sol })
 
 -- a solution, as the test
-pub fits-fitted : (p : Plan) (j x : ℕ) → Fits p j x → fitted p j ≡ true
+pub fits-fitted : (p : Plan) (j x : ℕ) → GuestSolves p j x → fitted p j ≡ true
 unfolding fitted guestResponse
 fits-fitted p j x s = is-at (solve-by (guestRight p j) (guestAt (p .guests) j .period) x (s .low) (s .high) (s .solves) .1)
 
@@ -105,3 +110,11 @@ fitted-all p k e j l = fitted-fits p j (all-at (fitted p) (suc k) j (omega arith
 pub all-fitted : (p : Plan) (k : ℕ) → AllFit p k → fittedTo p k ≡ true
 unfolding fittedTo
 all-fitted p k a = all-by (fitted p) (suc k) (λ j l. (let x = a j (omega arith) in fits-fitted p j (x .0) (x .1)))
+
+-- fitted x is no refusal: the guest is there, and x its response
+pub fitted-means : (p : Plan) (id x : ℕ) → guestVerdict p id ≡ Fitted x → There p id (placeOf p id) × Responds p (placeOf p id) x
+unfolding guestVerdict
+fitted-means p id x e =
+    let r = by-records Refused {a = Fitted x} (λ n m q. (let z : _≡_ {A = ℕ} 0 1 = cc in omega arith)) p (hasGuest p id orRefuse 7 ∷ []) _ e in
+    let t = has-there p id (r .0) (passed (hasGuest p id) 7 [] (omega arith) (r .1 .0) .0) in
+    (t, rw e at (guest-verdict-means p id (placeOf p id) t))

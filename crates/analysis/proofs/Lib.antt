@@ -1,4 +1,5 @@
 -- The theorems' proofs, each file named after its statements.
+pub mod Ids
 pub mod Guests
 pub mod Tasks
 pub mod Capacities

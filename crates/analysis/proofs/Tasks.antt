@@ -1,5 +1,5 @@
 -- A task's verdict has its meaning and is the only one that has it, and so has the acceptance of a plan. Assumes nothing.
-use mathlib.Core.Path.{_≡_, refl, sym, _∙_, ap}
+use mathlib.Core.Path.{_≡_, refl, sym, _∙_, ap, subst}
 use mathlib.Core.Bool.{Bool, true, false, false≢true}
 use mathlib.Core.List.{[], _∷_}
 use Prim.Native.Nat.{ℕ, suc, _-_, _≤_, _<_}
@@ -24,12 +24,15 @@ use Rattle.verdict.specs.declared.Acceptance.the-variants.{Accepted, NotAccepte
 use Rattle.verdict.specs.declared.TaskVerdict.{TaskVerdict}
 use Rattle.verdict.specs.declared.TaskVerdict.the-variants.{Met, Unmet, Unjudged}
 use Rattle.analysis.specs.Guests.{There, AllFit}
-use Rattle.analysis.specs.Tasks.{Solves, InTime, TaskMet, TaskUnmet, TaskUnjudged, TaskMeans, AllInTime, AllGood, AcceptMeans}
+use Rattle.analysis.specs.Tasks.{TaskSolves, InTime, TaskMet, TaskUnmet, TaskUnjudged, TaskMeans, AllInTime, AllGood, AcceptMeans}
 use Rattle.lists.proofs.All.{all-at, all-by, all-false, and-left, and-right, and-true}
 use Rattle.lists.proofs.Search.{is-at}
 use Rattle.equation.proofs.Solve.{Answers, solve-answers, solve-by}
+use Rattle.lists.proofs.Refusals.{passed}
+use Rattle.plan.proofs.Ranges.{within-says}
 use Rattle.verdict.proofs.Verdict.{records-pass, test-passes, no-test, within-right}
-use Rattle.analysis.proofs.Guests.{there-place, there-has, fits-fitted, fitted-all}
+use Rattle.verdict.proofs.NoRefusal.{by-records}
+use Rattle.analysis.proofs.Guests.{there-place, there-has, has-there, fits-fitted, fitted-all}
 use Rattle.verdict.specs.declared.Acceptance.the-variants as plan
 use Rattle.verdict.specs.declared.TaskVerdict.the-variants as task
 
@@ -75,6 +78,27 @@ task-verdict-means p id k i t h = rw (task-verdict-is p id k i t h) (go (fittedT
     go false e = unjudged-means p k i (taskResponse p k i) e
     go true e = response-means p k i (fitted-all p k e) (solve (taskRight p k i) (limit (guestAt (p .guests) k) i - gap (guestAt (p .guests) k) i)) (solve-answers (taskRight p k i) (limit (guestAt (p .guests) k) i - gap (guestAt (p .guests) k) i))
 
+-- A guest with that id is there, and has a task of that number.
+pub record TaskThere (p : Plan) (id number : ℕ) : Type 0 where
+  pub there : There p id (placeOf p id)
+  pub from-1 : number ≡ suc (number - 1)
+  pub in-guest : number - 1 < guestAt (p .guests) (placeOf p id) .tasks
+
+-- a verdict that is no refusal is of such a task, and has its meaning
+pub judged-means : (p : Plan) (id number : ℕ) {v : TaskVerdict} → ((n m : ℕ) → task.Refused n m ≡ v → ⊥) → taskVerdict p id number ≡ v
+    → TaskThere p id number × TaskMeans p (placeOf p id) (number - 1) v
+unfolding taskVerdict hasTask
+judged-means p id number {v} none e =
+    let r = by-records task.Refused none p (hasGuest p id orRefuse 7 ∷ hasTask p id number orRefuse 8 ∷ []) _ e in
+    let seven = passed (hasGuest p id) 7 _ (omega arith) (r .1 .0) in
+    let eight = passed (hasTask p id number) 8 [] (omega arith) (seven .1) in
+    let n = within-says 1 (guestAt (p .guests) (placeOf p id) .tasks) number (eight .0) in
+    let t = has-there p id (r .0) (seven .0) in
+    let from-1 : number ≡ suc (number - 1) = omega (arith, n .0) in
+    let in-guest : number - 1 < guestAt (p .guests) (placeOf p id) .tasks = omega (arith, n .0, n .1) in
+    let is : taskVerdict p id (suc (number - 1)) ≡ v = subst (λ (m : ℕ). taskVerdict p id m ≡ v) from-1 e in
+    (record { there = t; from-1 = from-1; in-guest = in-guest }, rw is at (task-verdict-means p id (placeOf p id) (number - 1) t in-guest))
+
 -- two responses by least solutions are one
 met-one : (p : Plan) (k i r s : ℕ) → TaskMet p k i r → TaskMet p k i s → r ≡ s
 met-one p k i r s a b =
@@ -118,7 +142,7 @@ met-in-time p k e i h = go (solve (taskRight p k i) room) refl (solve-answers (t
     room : ℕ
     room = limit (guestAt (p .guests) k) i - gap (guestAt (p .guests) k) i
 
-    go : (f : Found) → solve (taskRight p k i) room ≡ f → Answers (taskRight p k i) room f → isAt (taskResponse p k i) ≡ true → (w : ℕ) × Solves p k i w × InTime p k i w
+    go : (f : Found) → solve (taskRight p k i) room ≡ f → Answers (taskRight p k i) room f → isAt (taskResponse p k i) ≡ true → (w : ℕ) × TaskSolves p k i w × InTime p k i w
     go Nothing q a m = unfold taskResponse in absurd (false≢true (sym (ap (λ (f : Found). isAt (later (gap (guestAt (p .guests) k) i) f)) q) ∙ m))
     go (At w) q a m = unfold limit in (w, record { low = a .low; solves = a .sol }, omega (arith, a .low, a .high))
 

@@ -15,23 +15,23 @@ pub record There (p : Plan) (id k : ℕ) : Type 0 where
   pub named : guestAt (p .guests) k .id ≡ id
 
 -- x solves the guest's equation, from 1 to its period
-pub record Fits (p : Plan) (k x : ℕ) : Type 0 where
+pub record GuestSolves (p : Plan) (k x : ℕ) : Type 0 where
   pub low : 1 ≤ x
   pub high : x ≤ guestAt (p .guests) k .period
   pub solves : x ≡ guestRight p k x
 
 -- and no smaller number does
 pub record Responds (p : Plan) (k x : ℕ) : Type 0 where
-  pub fits : Fits p k x
-  pub least : (z : ℕ) → z < x → ¬ Fits p k z
+  pub fits : GuestSolves p k x
+  pub least : (z : ℕ) → z < x → ¬ GuestSolves p k z
 
 -- no number does
 abbrev pub NoneFits : Plan → ℕ → Type 0
-NoneFits p k = (x : ℕ) → ¬ Fits p k x
+NoneFits p k = (x : ℕ) → ¬ GuestSolves p k x
 
 -- each of the guests down to place k has a solution
 abbrev pub AllFit : Plan → ℕ → Type 0
-AllFit p k = (j : ℕ) → j ≤ k → (x : ℕ) × Fits p j x
+AllFit p k = (j : ℕ) → j ≤ k → (x : ℕ) × GuestSolves p j x
 
 -- what a verdict means where records are in order and the guest is there
 abbrev pub GuestMeans : Plan → ℕ → GuestVerdict → Type 0

@@ -13,7 +13,7 @@ use Rattle.verdict.specs.declared.Acceptance.the-variants as plan
 use Rattle.verdict.specs.declared.TaskVerdict.the-variants as task
 
 -- w is a window of at least 1 that solves the task's equation
-pub record Solves (p : Plan) (k i w : ℕ) : Type 0 where
+pub record TaskSolves (p : Plan) (k i w : ℕ) : Type 0 where
   pub low : 1 ≤ w
   pub solves : w ≡ taskRight p k i w
 
@@ -25,15 +25,15 @@ InTime p k i w = w + gap (guestAt (p .guests) k) i ≤ deadlineOf (guestAt (p .g
 pub record TaskMet (p : Plan) (k i r : ℕ) : Type 0 where
   pub fitted : AllFit p k
   pub w : ℕ
-  pub solves : Solves p k i w
-  pub least : (z : ℕ) → z < w → ¬ Solves p k i z
+  pub solves : TaskSolves p k i w
+  pub least : (z : ℕ) → z < w → ¬ TaskSolves p k i z
   pub response : r ≡ w + gap (guestAt (p .guests) k) i
   pub in-time : r ≤ deadlineOf (guestAt (p .guests) k) i
 
 -- unmet: they are fitted, and no solution w has w + J at most the deadline
 pub record TaskUnmet (p : Plan) (k i : ℕ) : Type 0 where
   pub fitted : AllFit p k
-  pub none : (w : ℕ) → Solves p k i w → ¬ InTime p k i w
+  pub none : (w : ℕ) → TaskSolves p k i w → ¬ InTime p k i w
 
 -- unjudged: its own guest or one above is unfit
 pub record TaskUnjudged (p : Plan) (k : ℕ) : Type 0 where
@@ -50,7 +50,7 @@ TaskMeans p k i Unjudged = TaskUnjudged p k
 
 -- each task of the guest at place k has a solution in time
 abbrev pub AllInTime : Plan → ℕ → Type 0
-AllInTime p k = (i : ℕ) → i < guestAt (p .guests) k .tasks → (w : ℕ) × Solves p k i w × InTime p k i w
+AllInTime p k = (i : ℕ) → i < guestAt (p .guests) k .tasks → (w : ℕ) × TaskSolves p k i w × InTime p k i w
 
 -- all guests are fitted and all tasks met
 pub record AllGood (p : Plan) : Type 0 where

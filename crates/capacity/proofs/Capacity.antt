@@ -21,7 +21,7 @@ use Rattle.response.specs.Interference.{interference}
 use Rattle.response.specs.Guest.{guestResponse, fitted, fittedTo}
 use Rattle.response.specs.Task.{taskResponse}
 use Rattle.response.specs.Met.{allMet}
-use Rattle.response.specs.Columns.{taken, guestUnder, fittedAt, taskUnder, taskOf, acceptedUnder}
+use Rattle.response.specs.Columns.{guestsTake, guestUnder, fittedAt, taskUnder, taskOf, acceptedUnder}
 use Rattle.capacity.specs.Capacity.{atCapacity, withCapacity, works, smallest}
 use Rattle.capacity.specs.Trial.{fitsAt}
 use Rattle.lists.proofs.All.{and-assoc, all-ext}
@@ -87,7 +87,7 @@ module _ (p : Plan) (k : ℕ) (here : k < length (p .guests)) (c : ℕ) where
 
 -- the search off columns is the definition's
 pub smallest-is : (p : Plan) → PlanIn p → (c : Columns) → ColumnsOf (p .guests) c → (k : ℕ) → k < p .count
-    → least (λ x. allTo (fittedAt (c .capacities) (c .periods)) k && acceptedUnder (taken (c .capacities) (c .periods) k) (atCapacity (guestAt (p .guests) k) x)) (guestAt (p .guests) k .period) 1
+    → least (λ x. allTo (fittedAt (c .capacities) (c .periods)) k && acceptedUnder (guestsTake (c .capacities) (c .periods) k) (atCapacity (guestAt (p .guests) k) x)) (guestAt (p .guests) k .period) 1
     ≡ smallest p k
 unfolding smallest
 smallest-is p o c f k h =

@@ -28,7 +28,7 @@ use Rattle.equation.proofs.Turn.{right-past}
 use Rattle.equation.proofs.Compare.{no-later}
 use Rattle.equation.proofs.Halve.{Halving, halve-left, halve-right, halve-lower, halve-here}
 use Rattle.response.proofs.Guest.{response-says}
-use Rattle.response.proofs.Task.{load-grows, sound}
+use Rattle.response.proofs.Task.{load-grows, regular}
 use Rattle.response.proofs.Ready.{met-is}
 
 module _ (above : ℕ → ℕ) (g : Grows above) (period : ℕ) where
@@ -65,7 +65,7 @@ module _ (above : ℕ → ℕ) (g : Grows above) (period : ℕ) (run every : Lis
       let w = window-of (period - c) r (solve (right S) (d - (period - c))) e in
       let s : Solved (right S) (d - (period - c)) (w .0) = rw (w .1) at (solve-answers (right S) (d - (period - c))) in
       let within : c′ ≤ period = fits-within above g period c′ fit in
-      let sure = sound above g c′ period run every i record { some = omega arith; within = within; fits = fit; runs = runs } in
+      let sure = regular above g c′ period run every i record { some = omega arith; within = within; fits = fit; runs = runs } in
       let y = no-later S S′ (sure .0) (w .0)
       record { some = pos; within = omega arith; loaded = omega arith; sol = s .sol }
       (sure .1)
@@ -94,17 +94,17 @@ unfolding trialOf
 trial-is above period run every deadline tasks c e q = rw (e, q) refl
 
 -- what each trial says of its two tests
-record Told (fit met : Bool) : Type 0 where
+record Tells (fit met : Bool) : Type 0 where
   unfit : trialBy fit met ≡ Unfit → fit ≡ false
   unmet : trialBy fit met ≡ Unmet → (fit ≡ true) × ((fit && met) ≡ false)
   works : trialBy fit met ≡ Works → (fit && met) ≡ true
 
 -- by cases
-told : (fit met : Bool) → Told fit met
+tells : (fit met : Bool) → Tells fit met
 unfolding trialBy
-told false met = record { unfit = λ e. refl; unmet = λ e. absurd (let z : _≡_ {A = ℕ} 0 1 = cc in omega arith); works = λ e. absurd (let z : _≡_ {A = ℕ} 0 1 = cc in omega arith) }
-told true false = record { unfit = λ e. absurd (let z : _≡_ {A = ℕ} 0 1 = cc in omega arith); unmet = λ e. (refl, refl); works = λ e. absurd (let z : _≡_ {A = ℕ} 0 1 = cc in omega arith) }
-told true true = record { unfit = λ e. absurd (let z : _≡_ {A = ℕ} 0 1 = cc in omega arith); unmet = λ e. absurd (let z : _≡_ {A = ℕ} 0 1 = cc in omega arith); works = λ e. refl }
+tells false met = record { unfit = λ e. refl; unmet = λ e. absurd (let z : _≡_ {A = ℕ} 0 1 = cc in omega arith); works = λ e. absurd (let z : _≡_ {A = ℕ} 0 1 = cc in omega arith) }
+tells true false = record { unfit = λ e. absurd (let z : _≡_ {A = ℕ} 0 1 = cc in omega arith); unmet = λ e. (refl, refl); works = λ e. absurd (let z : _≡_ {A = ℕ} 0 1 = cc in omega arith) }
+tells true true = record { unfit = λ e. absurd (let z : _≡_ {A = ℕ} 0 1 = cc in omega arith); unmet = λ e. absurd (let z : _≡_ {A = ℕ} 0 1 = cc in omega arith); works = λ e. refl }
 
 -- a halving's three turns, by the trial of the middle
 module _ (above : ℕ → ℕ) (g : Grows above) (period : ℕ) (run every deadline : List ℕ) (tasks : ℕ) (runs : Run run tasks)
@@ -114,8 +114,8 @@ module _ (above : ℕ → ℕ) (g : Grows above) (period : ℕ) (run every deadl
   good = halving above g period run every deadline tasks runs
 
   -- the two tests of the middle
-  said : Told (fitsAt above period mid) (metUnder above mid period run every deadline tasks)
-  said = told (fitsAt above period mid) (metUnder above mid period run every deadline tasks)
+  said : Tells (fitsAt above period mid) (metUnder above mid period run every deadline tasks)
+  said = tells (fitsAt above period mid) (metUnder above mid period run every deadline tasks)
 
   -- unfit: to the left
   pub turn-left : t ≡ Unfit → {r : Found} → r ≡ least (worksAt above period run every deadline tasks) (mid - lo) lo → r ≡ least (worksAt above period run every deadline tasks) (hi - lo) lo

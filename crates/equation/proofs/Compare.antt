@@ -7,7 +7,7 @@ use native.Mathlib.Omega.{arith}
 use Rattle.rounding.specs.Up.{up}
 use Rattle.equation.specs.System.{System, right}
 use Rattle.rounding.proofs.Up.{up-least, up-holds}
-use Rattle.equation.proofs.System.{Sound, Parts, parts, whole}
+use Rattle.equation.proofs.System.{Regular, Parts, parts, whole}
 use Rattle.equation.proofs.Solve.{Under}
 use Rattle.equation.proofs.Turn.{Climbing, parts-of, right-ends, climb-start, climb-turn}
 
@@ -25,7 +25,7 @@ pub record Easier (S S′ : System) (w : ℕ) : Type 0 where
   pub interference : (v : ℕ) → S′ .interference v ≤ S .interference v
   pub load : (u : ℕ) → u ≤ w → S′ .load u ≤ S .load w
 
-module _ (S S′ : System) (x w : ℕ) (o : Solution S w) (s : Sound S′ x) (e : Easier S S′ w) where
+module _ (S S′ : System) (x w : ℕ) (o : Solution S w) (s : Regular S′ x) (e : Easier S S′ w) where
   -- the second has no more whole server periods
   fewer : (u : ℕ) → u ≤ w → whole S′ u ≤ whole S w
   fewer u h =
@@ -70,7 +70,7 @@ module _ (S S′ : System) (x w : ℕ) (o : Solution S w) (s : Sound S′ x) (e 
   no-later h = climb w 1 (omega arith) h (climb-start S′ x s)
 
 -- a system is no harder than itself: I3 is kept by a turn
-pub under-turn : (S : System) (x w : ℕ) → Sound S x → Climbing S x w → Under (right S) w → Under (right S) (right S w)
+pub under-turn : (S : System) (x w : ℕ) → Regular S x → Climbing S x w → Under (right S) w → Under (right S) (right S w)
 under-turn S x w s c u z h q =
     stays S S x z record { some = s .some; within = s .within; loaded = s .loaded z; sol = q } s
     record { period = refl; capacity = le-refl (S .capacity); interference = λ v. le-refl (S .interference v); load = λ a k. s .loads a z k }

@@ -43,9 +43,9 @@ Answers f t Nothing = (z : ℕ) → 1 ≤ z → z ≤ t → ¬ (z ≡ f z)
 Answers f t (At w) = Solved f t w
 
 -- what the search says of equality, said of the equation
-answers : (f : ℕ → ℕ) (t : ℕ) (r : Found) → Says (λ x. eqb x (f x)) t 1 r → Answers f t r
-answers f t Nothing o = λ z h k. eqb-false z (f z) (o .never z h (omega arith))
-answers f t (At w) o = record {
+says-answers : (f : ℕ → ℕ) (t : ℕ) (r : Found) → Says (λ x. eqb x (f x)) t 1 r → Answers f t r
+says-answers f t Nothing o = λ z h k. eqb-false z (f z) (o .never z h (omega arith))
+says-answers f t (At w) o = record {
   low = o .low;
   high = omega arith;
   sol = eqb-true w (f w) (o .holds);
@@ -55,7 +55,7 @@ answers f t (At w) o = record {
 -- the definition's answer has its meaning
 pub solve-answers : (f : ℕ → ℕ) (t : ℕ) → Answers f t (solve f t)
 unfolding solve
-solve-answers f t = answers f t (solve f t) (least-says (λ x. eqb x (f x)) t 1)
+solve-answers f t = says-answers f t (solve f t) (least-says (λ x. eqb x (f x)) t 1)
 
 -- an answer at or before a solution
 pub solve-by : (f : ℕ → ℕ) (t y : ℕ) → 1 ≤ y → y ≤ t → y ≡ f y → (w : ℕ) × (solve f t ≡ At w) × (w ≤ y)

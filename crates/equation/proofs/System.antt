@@ -8,7 +8,7 @@ use Rattle.equation.specs.System.{System, rightAt, right}
 use Rattle.rounding.proofs.Up.{Blocks, blocks}
 
 -- what the laws ask of a system: x is the guest's own response
-pub record Sound (S : System) (x : ℕ) : Type 0 where
+pub record Regular (S : System) (x : ℕ) : Type 0 where
   pub some : 0 < S .capacity
   pub within : S .capacity ≤ S .period
   pub grows : (a b : ℕ) → a ≤ b → S .interference a ≤ S .interference b

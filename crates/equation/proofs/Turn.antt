@@ -6,14 +6,14 @@ use native.Mathlib.Nat.{mul-le-mul-right, eq-or-lt-of-le}
 use native.Mathlib.Omega.{arith}
 use Rattle.equation.specs.System.{System, right}
 use Rattle.rounding.proofs.Up.{up-mono}
-use Rattle.equation.proofs.System.{Sound, Parts, parts, whole}
+use Rattle.equation.proofs.System.{Regular, Parts, parts, whole}
 
 -- I1 and I2: w is no more than its right side, and ends within the guest's response in its last server period
 pub record Climbing (S : System) (x w : ℕ) : Type 0 where
   pub rises : w ≤ right S w
   pub room : w ≤ whole S w * S .period + x
 
-module _ (S : System) (x : ℕ) (s : Sound S x) where
+module _ (S : System) (x : ℕ) (s : Regular S x) where
   pub parts-of : (w : ℕ) → Parts S w (whole S w)
   parts-of w = parts S w (s .some) (s .within) (s .loaded w)
 

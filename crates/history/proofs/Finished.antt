@@ -21,14 +21,14 @@ use Rattle.windows.specs.Equation.{response}
 use Rattle.history.specs.Share.{answerAt}
 use Rattle.plan.proofs.Order.{PlanIn}
 use Rattle.windows.proofs.Kept.{age-below}
-use Rattle.history.proofs.Seen.{capOf, perOf, everyIn, tasksAt, Shaped}
+use Rattle.history.proofs.Seen.{capOf, perOf, tasksAt, Shaped}
 use Rattle.history.proofs.TickSeen.{rest-else, task-served, task-tick}
 use Rattle.history.proofs.Took.{Free, taken-else}
 use Rattle.history.proofs.Play.{Sound}
-use Rattle.history.proofs.Ids.{idOf}
+use Rattle.analysis.proofs.Ids.{idOf}
 use Rattle.history.proofs.Answered.{finishedBy, answer-finished}
 use Rattle.history.proofs.Share.{answer-old, answer-new}
-use Rattle.history.proofs.Quote.{TaskFits, KeptIn, quoted-of, kept-next, kept-release, in-plan, in-guest}
+use Rattle.history.proofs.Quote.{TaskFits, KeptIn, bounded-of, kept-next, kept-release, in-plan, in-guest}
 
 -- the answer of the tick that finishes task i of guest g at an age
 abbrev pub finishedAt : Plan → (g i age : ℕ) → Answer
@@ -71,7 +71,7 @@ pub data Job (p : Plan) (g i R : ℕ) (L : List Answer) (d : Dispatcher) : Type 
   pending : 0 < restAt d g i → ageAt d g i ≡ length L → Job p g i R L d
   ended : (m : ℕ) → m < length L → m < R → answerAt L m ≡ finishedAt p g i (suc m) → Job p g i R L d
 
-module _ (p : Plan) (P : PlanIn p) {g x i w : ℕ} (T : TaskFits p g x i w) (le : response (capOf p) (perOf p) g w ≤ everyIn p g i) where
+module _ (p : Plan) (P : PlanIn p) {g x i w : ℕ} (T : TaskFits p g x i w) where
   -- what stands: the invariant, and the job
   pub record JobIn (L : List Answer) (d : Dispatcher) : Type 0 where
     pub kept : KeptIn p g x i w d
@@ -89,11 +89,11 @@ module _ (p : Plan) (P : PlanIn p) {g x i w : ℕ} (T : TaskFits p g x i w) (le 
       by (task-tick d (D .shaped) g i (in-plan p P T d D) (in-guest p P T d D))
     where
       young : ageAt d g i < response (capOf p) (perOf p) g w
-      young = age-below (quoted-of p P T) K some
+      young = age-below (bounded-of p P T) K some
 
       by : (a : ℕ) × TaskTick i a (tasksAt d g) (tasksAt (next d) g) → Job p g i (response (capOf p) (perOf p) g w) (L ++ (answer d ∷ [])) (next d)
       by (a, t) =
-          let one : ageAt (next d) g i ≡ suc (length L) = omega (arith, young, t .older some, quoted-of p P T .short) in
+          let one : ageAt (next d) g i ≡ suc (length L) = omega (arith, young, t .older some, T .in-period, bounded-of p P T .short) in
           let long : length (L ++ (answer d ∷ [])) ≡ suc (length L) = simp length-append (omega arith) in
           elim (decLt 0 (restAt (next d) g i)) [
             | yes h ↦ pending h (omega arith)

@@ -17,21 +17,20 @@ use Rattle.verdict.specs.declared.TaskVerdict.the-variants.{Met}
 use Rattle.verdict.specs.Verdict.{taskVerdict}
 use Rattle.windows.specs.Equation.{response}
 use Rattle.history.specs.Calls.{Call, releasing, start, released, play, ticksIn, answers}
-use Rattle.history.specs.Named.{everyBy, deadlineBy, restBy, ageBy}
+use Rattle.history.specs.Named.{deadlineBy, restBy, ageBy}
 use Rattle.history.specs.Share.{answerAt}
 use Rattle.history.specs.Finished.{Told, FinishedBy}
-use Rattle.plan.proofs.Order.{PlanIn, plan-in}
+use Rattle.plan.proofs.Order.{PlanIn}
 use Rattle.windows.proofs.Kept.{age-below}
 use Rattle.history.proofs.Seen.{capOf, perOf}
 use Rattle.history.proofs.Took.{taken-here}
 use Rattle.history.proofs.Play.{Sound, Any, any, play-keeps, sound-after, answers-length}
 use Rattle.history.proofs.Fresh.{fresh-idle}
-use Rattle.history.proofs.Ids.{found-id}
-use Rattle.history.proofs.Quote.{KeptIn, quoted-of, kept-idle, kept-next, kept-release, in-plan, in-guest}
+use Rattle.history.proofs.Quote.{KeptIn, bounded-of, kept-idle, kept-next, kept-release, in-plan, in-guest}
 use Rattle.history.proofs.Finished.{finishedAt, Job, JobIn, job-next, job-release}
 use Rattle.history.proofs.Finished.Job.{pending, ended}
 use Rattle.history.proofs.Told.{finish-told}
-use Rattle.history.proofs.Verdict.{Judged, task-judged}
+use Rattle.history.proofs.Verdict.{Judged, met-judged}
 use Rattle.history.proofs.Clocks.{sound-start, sound-reached, free-task, new-job}
 
 -- the margin of a job that is not late
@@ -43,43 +42,35 @@ margin-left deadline (suc age) h = ap (λ (b : Bool). cond b (negsuc (suc age - 
 module _ (p : Plan) (id number R : ℕ) (met : taskVerdict p id number ≡ Met R) where
   -- what the verdict says
   abbrev pub J : Judged p id number R
-  J = task-judged p id number R met
+  J = met-judged p id number R met
 
   -- the records are in order
   abbrev pub P : PlanIn p
-  P = plan-in p (J .order)
-
-  -- the response is within the period
-  pub R-le : R ≤ everyBy p id number
-  R-le = omega (arith, J .in-time, P .guests (placeOf p id) (J .fits .guest .in-plan) .tasks (number - 1) (J .fits .in-guest) .in-time)
+  P = J .order
 
   -- what stands in every state that is reached
   pub kept-reached : (cs : List Call) → KeptIn p (placeOf p id) (J .x) (number - 1) (J .w) (play cs (start p))
   kept-reached cs =
       play-keeps p (λ L d. KeptIn p (placeOf p id) (J .x) (number - 1) (J .w) d) Any (λ L d D K. kept-next p P (J .fits) d D K)
       (λ L d id task k t D a F K. kept-release p P (J .fits) d D id task k t F K) cs [] (start p) (any cs (start p))
-      record { sound = sound-start p (J .order); holds = rw (fresh-idle p (J .order)) (kept-idle p P (J .fits)) }
+      record { sound = sound-start p (J .task .there .order); holds = rw (fresh-idle p (J .task .there .order)) (kept-idle p P (J .fits)) }
       .holds
 
   -- In every state an unfinished job of the task is younger than R.
   pub younger : (cs : List Call) → 0 < restBy p id number (play cs (start p)) → ageBy p id number (play cs (start p)) < R
-  younger cs h = rw (J .quotes) (age-below (quoted-of p P (J .fits)) (kept-reached cs) h)
-
-  -- the same response, in the windows' words
-  pub le : response (capOf p) (perOf p) (placeOf p id) (J .w) ≤ everyBy p id number
-  le = omega (arith, J .quotes, R-le)
+  younger cs h = rw (J .quotes) (age-below (bounded-of p P (J .fits)) (kept-reached cs) h)
 
   -- at a taken release the job is new
   job-new :
       (cs : List Call)
       → release (play cs (start p)) id number .refusal .number ≡ 0
-      → JobIn p P (J .fits) le [] (released p id number cs)
+      → JobIn p P (J .fits) [] (released p id number cs)
   job-new cs t =
       let d = play cs (start p) in
-      let D = sound-reached p (J .order) cs in
+      let D = sound-reached p (J .task .there .order) cs in
       let F = free-task p d D id number t in
       let N = taken-here d (D .shaped) (placeOf p id) (number - 1) (F .in-plan) (F .in-guest) (F .due) (F .free) in
-      let w = quoted-of p P (J .fits) .solves .works in
+      let w = bounded-of p P (J .fits) .solves .works in
       rw (new-job p d D id number t)
       (record {
         kept = kept-release p P (J .fits) d D id number (placeOf p id) (number - 1) F (kept-reached cs);
@@ -91,11 +82,11 @@ module _ (p : Plan) (id number R : ℕ) (met : taskVerdict p id number ≡ Met R
       (cs : List Call)
       → release (play cs (start p)) id number .refusal .number ≡ 0
       → (ds : List Call)
-      → JobIn p P (J .fits) le (answers ds (released p id number cs)) (play ds (released p id number cs))
+      → JobIn p P (J .fits) (answers ds (released p id number cs)) (play ds (released p id number cs))
   job-then cs t ds =
-      let D = sound-reached p (J .order) cs in
-      play-keeps p (JobIn p P (J .fits) le) Any (job-next p P (J .fits) le)
-      (λ L d id task k t D a F I. job-release p P (J .fits) le L d id task k t D F I) ds [] (released p id number cs)
+      let D = sound-reached p (J .task .there .order) cs in
+      play-keeps p (JobIn p P (J .fits)) Any (job-next p P (J .fits))
+      (λ L d id task k t D a F I. job-release p P (J .fits) L d id task k t D F I) ds [] (released p id number cs)
       (any ds (released p id number cs))
       record { sound = sound-after (releasing id number) (play cs (start p)) D; holds = job-new cs t }
       .holds
@@ -131,9 +122,9 @@ module _ (p : Plan) (id number R : ℕ) (met : taskVerdict p id number ≡ Met R
           finishedAt p (placeOf p id) (number - 1) (suc m)
           ≡ Finished id number (suc m) (pos (deadlineBy p id number - suc m))
       said =
-          let named = found-id p id (placeOf p id) refl (J .fits .guest .in-plan) in
+          let named = J .task .there .named in
           let spare = margin-left (deadlineBy p id number) (suc m) (omega (arith, J .quotes, J .in-time)) in
-          rw (named, ← J .task, spare) refl
+          rw (named, ← J .task .from-1, spare) refl
 
   -- Finished by R: of a release that is taken and any calls after it that do at least R ticks, one hands back that the task is finished, at an
   -- age of at most R; the age counts the ticks since the release, and the margin is what the deadline leaves.
@@ -146,7 +137,7 @@ module _ (p : Plan) (id number R : ℕ) (met : taskVerdict p id number ≡ Met R
   finished-by-R cs t ds h = by (job-then cs t ds .job)
     where
       D : Sound p (released p id number cs)
-      D = sound-after (releasing id number) (play cs (start p)) (sound-reached p (J .order) cs)
+      D = sound-after (releasing id number) (play cs (start p)) (sound-reached p (J .task .there .order) cs)
 
       by :
           Job p (placeOf p id) (number - 1) (response (capOf p) (perOf p) (placeOf p id) (J .w)) (answers ds (released p id number cs))
@@ -155,7 +146,7 @@ module _ (p : Plan) (id number R : ℕ) (met : taskVerdict p id number ≡ Met R
       by (pending r a) =
           absurd (omega (
             arith,
-            age-below (quoted-of p P (J .fits)) (job-then cs t ds .kept) r,
+            age-below (bounded-of p P (J .fits)) (job-then cs t ds .kept) r,
             answers-length ds (released p id number cs) D,
             J .quotes,
           ))

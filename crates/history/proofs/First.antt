@@ -10,7 +10,7 @@ use lib.Seq.{getD-set-same, getD-set-other}
 use borrow.Author.Tests.{ltb-true, ltb-false}
 use Rattle.lists.specs.Places.{nth}
 use Rattle.lists.specs.Search.{firstFrom}
-use Rattle.windows.specs.Served.{Served}
+use Rattle.windows.specs.Served.{ServedFirst}
 use Rattle.lists.proofs.Search.{first-found, first-before}
 
 -- Of the n places `at 0`, `at 1`, … of a list, the first that holds something loses one, or there is none and the list stands.
@@ -22,7 +22,7 @@ pub first-served :
     → (n ≤ t → l' ≡ l)
     → ((j : ℕ) → j < n → at j < length l)
     → ((j k : ℕ) → at j ≡ at k → j ≡ k)
-    → Served i t (λ j. nth l (at j)) (λ j. nth l' (at j))
+    → ServedFirst i t (λ j. nth l (at j)) (λ j. nth l' (at j))
 first-served l l' at n t i lt e hit miss long inj = record {
   before = λ j a b.
       omega (arith, ltb-false 0 (nth l (at j)) (first-before (λ m. ltb 0 (nth l (at m))) n 0 j (omega arith) (rw (← e) a)));

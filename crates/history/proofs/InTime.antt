@@ -23,10 +23,10 @@ use Rattle.history.proofs.Seen.{capOf, perOf}
 use Rattle.history.proofs.TickSeen.{task-served, task-tick}
 use Rattle.history.proofs.Took.{Free}
 use Rattle.history.proofs.Play.{Sound}
-use Rattle.history.proofs.Ids.{idOf, id-one}
+use Rattle.analysis.proofs.Ids.{idOf, id-one}
 use Rattle.history.proofs.Answered.{finishedBy, answer-nobody, answer-idled, answer-worked, answer-finished}
 use Rattle.history.proofs.Share.{answer-old, answer-new}
-use Rattle.history.proofs.Quote.{TaskFits, KeptIn, quoted-of, kept-next, kept-release, in-plan, in-guest}
+use Rattle.history.proofs.Quote.{TaskFits, KeptIn, bounded-of, kept-next, kept-release, in-plan, in-guest}
 
 -- An answer that names task i of guest g finished says of its age and margin: the age is at most R, the margin the deadline less the age.
 abbrev pub Timely : Plan → (g i R : ℕ) → Answer → Type 0
@@ -105,7 +105,7 @@ module _ (p : Plan) (P : PlanIn p) {g x i w : ℕ} (T : TaskFits p g x i w) wher
           aged : ageAt (next d) g i ≤ response (capOf p) (perOf p) g w
           aged =
               let (a, t) = task-tick d (D .shaped) g i (in-plan p P T d D) (in-guest p P T d D) in
-              omega (arith, t .older some, age-below (quoted-of p P T) K some)
+              omega (arith, t .older some, age-below (bounded-of p P T) K some)
 
           old : ageAt (next d) (holder d) (worker d) ≡ ageAt (next d) g i
           old = rw (mine, its) refl

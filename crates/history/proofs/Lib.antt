@@ -6,7 +6,6 @@ pub mod Seen
 pub mod Next
 pub mod TickSeen
 pub mod Took
-pub mod Ids
 pub mod Answered
 -- States that are not refused, and have their shape.
 pub mod Ranges

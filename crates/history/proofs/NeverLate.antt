@@ -13,24 +13,24 @@ use Rattle.verdict.specs.declared.TaskVerdict.the-variants.{Met}
 use Rattle.verdict.specs.Verdict.{taskVerdict}
 use Rattle.history.specs.Calls.{Call, start, after, play, singles, ticksOf, answerOf}
 use Rattle.history.specs.Named.{deadlineBy}
-use Rattle.plan.proofs.Order.{PlanIn, plan-in}
+use Rattle.plan.proofs.Order.{PlanIn}
 use Rattle.history.proofs.Seen.{capOf, perOf}
 use Rattle.history.proofs.Play.{Any, after-keeps}
-use Rattle.history.proofs.Ids.{idOf, found-id}
+use Rattle.analysis.proofs.Ids.{idOf}
 use Rattle.history.proofs.InTime.{TimelyIn, timely-next, timely-release}
 use Rattle.history.proofs.Told.{told-last}
 use Rattle.history.proofs.Clocks.{sound-reached}
-use Rattle.history.proofs.Verdict.{Judged, task-judged}
+use Rattle.history.proofs.Verdict.{Judged, met-judged}
 use Rattle.history.proofs.FinishedBy.{margin-left, kept-reached}
 
 module _ (p : Plan) (id number R : ℕ) (met : taskVerdict p id number ≡ Met R) (cs : List Call) (c : Call) where
   -- what the verdict says
   abbrev J : Judged p id number R
-  J = task-judged p id number R met
+  J = met-judged p id number R met
 
   -- the records are in order
   abbrev P : PlanIn p
-  P = plan-in p (J .order)
+  P = J .order
 
   -- every answer of the call's ticks is timely
   timely :
@@ -40,7 +40,7 @@ module _ (p : Plan) (id number R : ℕ) (met : taskVerdict p id number ≡ Met R
       after-keeps p (TimelyIn p P (J .fits)) Any (timely-next p P (J .fits))
       (λ L e id' task k t D a F I. timely-release p P (J .fits) L e id' task k t D F I) c [] (play cs (start p)) tt
       record {
-        sound = sound-reached p (J .order) cs;
+        sound = sound-reached p (J .task .there .order) cs;
         holds = record { kept = kept-reached p id number R met cs; timely = λ m age margin q. none age margin q };
       }
       .holds
@@ -57,11 +57,11 @@ module _ (p : Plan) (id number R : ℕ) (met : taskVerdict p id number ≡ Met R
       → (age ≤ R) × (margin ≡ pos (deadlineBy p id number - age))
   unfolding finishes
   never-late age margin e =
-      let (m, h, q) = told-last c (play cs (start p)) (sound-reached p (J .order) cs .ok) (ap finishes e) in
+      let (m, h, q) = told-last c (play cs (start p)) (sound-reached p (J .task .there .order) cs .ok) (ap finishes e) in
       let r = timely .timely m age margin (q ∙ e ∙ named) in (
         omega (arith, r .0, J .quotes),
         r .1 ∙ margin-left (deadlineBy p id number) age (omega (arith, r .0, J .quotes, J .in-time)),
       )
     where
       named : Finished id number age margin ≡ Finished (idOf p (placeOf p id)) (suc (number - 1)) age margin
-      named = rw (found-id p id (placeOf p id) refl (J .fits .guest .in-plan), ← J .task) refl
+      named = rw (J .task .there .named, ← J .task .from-1) refl

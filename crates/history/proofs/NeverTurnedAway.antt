@@ -13,29 +13,29 @@ use Rattle.verdict.specs.declared.TaskVerdict.the-variants.{Met}
 use Rattle.verdict.specs.Verdict.{taskVerdict}
 use Rattle.history.specs.Calls.{Call, releasing, start, released, play, ticksIn, NoneTaken}
 use Rattle.history.specs.Named.{everyBy, waitBy}
-use Rattle.plan.proofs.Order.{PlanIn, plan-in}
+use Rattle.plan.proofs.Order.{PlanIn}
 use Rattle.windows.proofs.Kept.{free-when-due}
 use Rattle.history.proofs.Took.{release-number, free-number, waits-number}
 use Rattle.history.proofs.Play.{Sound, sound-after, sound-play}
-use Rattle.history.proofs.Quote.{KeptIn, quoted-of, in-plan, in-guest}
+use Rattle.history.proofs.Quote.{KeptIn, bounded-of, in-plan, in-guest}
 use Rattle.history.proofs.Clocks.{sound-reached, since-then, before-any}
-use Rattle.history.proofs.Verdict.{Judged, task-judged}
-use Rattle.history.proofs.FinishedBy.{le, kept-reached, kept-released}
+use Rattle.history.proofs.Verdict.{Judged, met-judged}
+use Rattle.history.proofs.FinishedBy.{kept-reached, kept-released}
 
 module _ (p : Plan) (id number R : ℕ) (met : taskVerdict p id number ≡ Met R) where
   -- what the verdict says
   abbrev J : Judged p id number R
-  J = task-judged p id number R met
+  J = met-judged p id number R met
 
   -- the records are in order
   abbrev P : PlanIn p
-  P = plan-in p (J .order)
+  P = J .order
 
   module _ (d : Dispatcher) (D : Sound p d) (K : KeptIn p (placeOf p id) (J .x) (number - 1) (J .w) d) where
     -- in a state of the plan the release has no number, or 9 while the task waits
     due-number : waitBy p id number d ≡ 0 → releaseNumber d id number ≡ 0
     due-number due =
-        subst (λ (n : ℕ). releaseNumber d id n ≡ 0) (sym (J .task))
+        subst (λ (n : ℕ). releaseNumber d id n ≡ 0) (sym (J .task .from-1))
         (free-number d id (placeOf p id) (number - 1)
         (record {
           ok = D .ok;
@@ -44,13 +44,13 @@ module _ (p : Plan) (id number R : ℕ) (met : taskVerdict p id number ≡ Met R
           number = refl;
           in-guest = in-guest p P (J .fits) d D;
           due = due;
-          free = free-when-due (quoted-of p P (J .fits)) K (le p id number R met) due;
+          free = free-when-due (bounded-of p P (J .fits)) K due;
         }))
 
     -- it waits
     early-number : 0 < waitBy p id number d → releaseNumber d id number ≡ 9
     early-number h =
-        subst (λ (n : ℕ). releaseNumber d id n ≡ 9) (sym (J .task))
+        subst (λ (n : ℕ). releaseNumber d id n ≡ 9) (sym (J .task .from-1))
         (waits-number d id (placeOf p id) (number - 1) (D .ok) (ap (λ (z : Plan). placeOf z id) (D .plan))
         (in-plan p P (J .fits) d D) (in-guest p P (J .fits) d D) h)
 
@@ -68,14 +68,14 @@ module _ (p : Plan) (id number R : ℕ) (met : taskVerdict p id number ≡ Met R
 
   -- Refusal 10 is never given for a quoted task.
   pub never-10 : (cs : List Call) → release (play cs (start p)) id number .refusal .number ≡ 10 → ⊥
-  never-10 cs = not-10 (play cs (start p)) (sound-reached p (J .order) cs) (kept-reached p id number R met cs)
+  never-10 cs = not-10 (play cs (start p)) (sound-reached p (J .task .there .order) cs) (kept-reached p id number R met cs)
 
   -- Its release is taken if none was taken before.
   pub first-taken : (cs : List Call) → NoneTaken id number cs (start p) → release (play cs (start p)) id number .refusal .number ≡ 0
   first-taken cs none =
-      due-taken (play cs (start p)) (sound-reached p (J .order) cs) (kept-reached p id number R met cs)
-      (before-any p (J .order) id number (J .fits .guest .in-plan) (J .fits .in-guest)
-      (J .task) cs none .due)
+      due-taken (play cs (start p)) (sound-reached p (J .task .there .order) cs) (kept-reached p id number R met cs)
+      (before-any p (J .task .there .order) id number (J .fits .in-plan) (J .fits .in-guest)
+      (J .task .from-1) cs none .due)
 
   -- Its release is taken if at least its period of ticks was done since the last one taken.
   pub next-taken :
@@ -86,7 +86,7 @@ module _ (p : Plan) (id number R : ℕ) (met : taskVerdict p id number ≡ Met R
       → everyBy p id number ≤ ticksIn ds (released p id number cs)
       → release (play ds (released p id number cs)) id number .refusal .number ≡ 0
   next-taken cs t ds none long =
-      let D = sound-reached p (J .order) cs in
+      let D = sound-reached p (J .task .there .order) cs in
       let I = since-then p (play cs (start p)) D id number t ds none in
       due-taken (play ds (released p id number cs)) (sound-play ds (released p id number cs) (sound-after (releasing id number) (play cs (start p)) D))
       (kept-released p id number R met cs t ds) (omega (arith, I .waits))

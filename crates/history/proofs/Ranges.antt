@@ -12,12 +12,7 @@ use Rattle.dispatcher.specs.declared.Dispatcher.{Dispatcher}
 use Rattle.dispatcher.specs.Valid.{serverOk, noServer, jobOk, noJob, guestInRange, taskInRange, rowOk, stateOk}
 use Rattle.lists.proofs.All.{and-left, and-right, and-true, all-at, all-by}
 
--- the records are in order
-pub ok-plan : (d : Dispatcher) → stateOk d ≡ true → planRefusal (d .plan) .number ≡ 0
-unfolding stateOk
-ok-plan d e = eqb-true _ 0 (and-left (eqb (planRefusal (d .plan) .number) 0) _ e)
-
--- so is each guest
+-- each guest
 pub ok-guest : (d : Dispatcher) → stateOk d ≡ true → (k : ℕ) → k < 8 → guestInRange d k ≡ true
 unfolding stateOk rowOk
 ok-guest d e k h =

@@ -36,17 +36,17 @@ refused-14 ticking d e = ap (λ (n : ℕ). tickedBy n d .refusal .number) (stop 
 refused-14 (running n) d e = ap (λ (x : ℕ). ranBy x d n .refusal .number) (stop 14 _ e)
 
 -- and changes nothing.
-pub refused-same : (c : Call) (d : Dispatcher) → stateOk d ≡ false → after c d ≡ d
+pub after-14 : (c : Call) (d : Dispatcher) → stateOk d ≡ false → after c d ≡ d
 unfolding after release releasedBy tick tickedBy run ranBy
-refused-same (releasing id task) d e = ap (λ (n : ℕ). releasedBy n d (placeOf (d .plan) id) (task - 1) .state) (release-14 d id task e)
-refused-same ticking d e = ap (λ (n : ℕ). tickedBy n d .state) (stop 14 [] e)
-refused-same (running n) d e = ap (λ (x : ℕ). ranBy x d n .state) (stop 14 _ e)
+after-14 (releasing id task) d e = ap (λ (n : ℕ). releasedBy n d (placeOf (d .plan) id) (task - 1) .state) (release-14 d id task e)
+after-14 ticking d e = ap (λ (n : ℕ). tickedBy n d .state) (stop 14 [] e)
+after-14 (running n) d e = ap (λ (x : ℕ). ranBy x d n .state) (stop 14 _ e)
 
 -- so does any history
 refused-played : (cs : List Call) (d : Dispatcher) → stateOk d ≡ false → play cs d ≡ d
 unfolding play
 refused-played [] d e = refl
-refused-played (c ∷ cs) d e = ap (play cs) (refused-same c d e) ∙ refused-played cs d e
+refused-played (c ∷ cs) d e = ap (play cs) (after-14 c d e) ∙ refused-played cs d e
 
 -- no guest is no plan
 blank-refused : stateOk (idle blankPlan) ≡ false

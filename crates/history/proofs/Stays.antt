@@ -20,7 +20,7 @@ use Rattle.history.specs.Calls.{Call, releasing, ticking, running, start
 use Rattle.history.specs.Runs.{RunIs}
 use Rattle.lists.proofs.Refusals.{none-left, go-on}
 use Rattle.plan.proofs.Order.{plan-in}
-use Rattle.history.proofs.Ranges.{ok-plan}
+use Rattle.dispatcher.proofs.Valid.{ok-plan}
 use Rattle.history.proofs.Valid.{ok-next, ok-taken}
 use Rattle.history.proofs.Took.{Took, kept, took, release-number, release-took}
 use Rattle.history.proofs.Ticks.{tick-state, tick-fine, singles-length, run-by, run-13}
@@ -98,8 +98,8 @@ times-ticks zero d ok = refl
 times-ticks (suc n) d ok = ap (play (times n)) (tick-state d ok) ∙ times-ticks n (next d) (ok-next d ok)
 
 -- A run of at most 1,000,000 ticks, in a state that is not refused, is that many single ticks.
-pub run-is : (n : ℕ) (d : Dispatcher) → stateOk d ≡ true → n ≤ 1000000 → RunIs n d
-run-is n d ok h =
+pub run-is-ticks : (n : ℕ) (d : Dispatcher) → stateOk d ≡ true → n ≤ 1000000 → RunIs n d
+run-is-ticks n d ok h =
     let R = run-by n d ok h in
     record {
       fine = R .fine;

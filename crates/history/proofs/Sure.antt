@@ -1,5 +1,5 @@
 -- Demand 3 for guests: in each of its periods that has ended, a fitted guest has had exactly its capacity of ticks. Assumes nothing.
-use mathlib.Core.Path.{_≡_, refl, sym, ap, subst, _∙_}
+use mathlib.Core.Path.{_≡_, sym, ap, subst, _∙_}
 use mathlib.Core.List.{List, [], _∷_, _++_}
 use Prim.Native.Nat.{ℕ, suc, _+_, _*_, _≤_, _<_}
 use native.Mathlib.Nat.{mul-le-mul-right}
@@ -16,6 +16,7 @@ use Rattle.dispatcher.specs.Answer.{answer}
 use Rattle.dispatcher.specs.Release.{taken}
 use Rattle.verdict.specs.declared.GuestVerdict.the-variants.{Fitted}
 use Rattle.verdict.specs.Verdict.{guestVerdict}
+use Rattle.analysis.specs.Guests.{GuestSolves}
 use Rattle.windows.specs.GuestTick.{Moved}
 use Rattle.windows.specs.GuestTick.Moved.{on, over}
 use Rattle.history.specs.Calls.{Call, start, play, ticksIn, answers}
@@ -26,10 +27,10 @@ use Rattle.history.proofs.Seen.{capOf, perOf, posAt, leftAt, heldAt}
 use Rattle.history.proofs.TickSeen.{guest-moved}
 use Rattle.history.proofs.Play.{Sound, Any, any, play-keeps, answers-length}
 use Rattle.history.proofs.Fresh.{fresh-idle, idle-position}
-use Rattle.history.proofs.Ids.{idOf, found-id}
+use Rattle.analysis.proofs.Ids.{idOf}
 use Rattle.history.proofs.Capacity.{Shares, shares-next, shares-taken, shares-idle}
-use Rattle.history.proofs.Quote.{GuestFits, fitted-of}
-use Rattle.history.proofs.Verdict.{guest-judged}
+use Rattle.history.proofs.Quote.{fitted-of}
+use Rattle.analysis.proofs.Guests.{fitted-means}
 use Rattle.history.proofs.Clocks.{sound-start, sound-reached}
 
 -- whole periods and a rest come to a number in one way
@@ -44,15 +45,15 @@ parts-one T q k u r hu hr e =
           ]
     ]
 
-module _ (p : Plan) (order : planRefusal p .number ≡ 0) (g x : ℕ) (G : GuestFits p g x) (cs : List Call) where
+module _ (p : Plan) (order : planRefusal p .number ≡ 0) (g x : ℕ) (in-plan : g < p .count) (G : GuestSolves p g x) (cs : List Call) where
   -- what stands at the end of a history
   shares : Shares p g x (answers cs (start p)) (play cs (start p))
   shares =
       let P = plan-in p order in
-      let F = fitted-of p P G in
-      play-keeps p (Shares p g x) Any (shares-next p P g x (G .in-plan) F)
-      (λ L d id task k t D a f S. shares-taken p P g x (G .in-plan) F L d k t S) cs [] (start p) (any cs (start p))
-      record { sound = sound-start p order; holds = rw (fresh-idle p order) (shares-idle p P g x (G .in-plan) F) }
+      let F = fitted-of p P in-plan G in
+      play-keeps p (Shares p g x) Any (shares-next p P g x in-plan F)
+      (λ L d id task k t D a f S. shares-taken p P g x in-plan F L d k t S) cs [] (start p) (any cs (start p))
+      record { sound = sound-start p order; holds = rw (fresh-idle p order) (shares-idle p P g x in-plan F) }
       .holds
 
   -- so the k-th of its periods, once it has ended, has had the whole capacity
@@ -63,7 +64,7 @@ module _ (p : Plan) (order : planRefusal p .number ≡ 0) (g x : ℕ) (G : Guest
         | no l ↦
             (let D = sound-reached p order cs in
             let inside : posAt (play cs (start p)) g < perOf p g =
-            subst (λ (z : Plan). posAt (play cs (start p)) g < perOf z g) (D .plan) (D .shaped .places g (rw (D .plan) (G .in-plan))) in
+            subst (λ (z : Plan). posAt (play cs (start p)) g < perOf z g) (D .plan) (D .shaped .places g (rw (D .plan) in-plan)) in
             absurd (omega (
               arith,
               shares .time,
@@ -80,9 +81,9 @@ pub sure-of-capacity :
     → suc k * guestBy p id .period ≤ ticksIn cs (start p)
     → share id (answers cs (start p)) (k * guestBy p id .period) (guestBy p id .period) ≡ guestBy p id .capacity
 sure-of-capacity p id x e cs k h =
-    let J = guest-judged p id x e in
+    let (t, r) = fitted-means p id x e in
     subst (λ (z : ℕ). share z (answers cs (start p)) (k * guestBy p id .period) (guestBy p id .period) ≡ guestBy p id .capacity)
-    (found-id p id (placeOf p id) refl (J .1 .in-plan)) (shared p (J .0) (placeOf p id) x (J .1) cs k h)
+    (t .named) (shared p (t .order) (placeOf p id) x (t .place) (r .fits) cs k h)
 
 -- After the answers L: q periods of guest g have ended, and its position counts the ticks of the one under way.
 record Timed (p : Plan) (g : ℕ) (L : List Answer) (d : Dispatcher) : Type 0 where

@@ -12,7 +12,7 @@ use Rattle.lists.specs.Search.{firstFrom}
 use Rattle.dispatcher.specs.declared.Dispatcher.{Dispatcher}
 use Rattle.dispatcher.specs.State.{placeAt, guestIn, restAt, waitAt, ageAt}
 use Rattle.dispatcher.specs.Tick.{refilled, holder, worker, next}
-use Rattle.windows.specs.Served.{Served}
+use Rattle.windows.specs.Served.{ServedFirst}
 use Rattle.windows.specs.GuestTick.{Moved, GuestTick}
 use Rattle.windows.specs.TaskTick.{TaskTick}
 use Rattle.lists.proofs.Places.{upTo-length}
@@ -35,7 +35,7 @@ worker-of d g e = ap (λ (z : ℕ). firstFrom (λ t. ltb 0 (restAt d z t)) (gues
 -- The tick of the guests up to g.
 module _ (d : Dispatcher) (H : Shaped d) (g : ℕ) (in-plan : g < d .plan .count) where
   -- the first guest that holds something has it
-  guest-served : Served g (holder d) (heldAt d) (leftAt (next d))
+  guest-served : ServedFirst g (holder d) (heldAt d) (leftAt (next d))
   unfolding holder
   guest-served =
       served-as (λ j l. sym (refilled-at d H j (omega arith)))
@@ -89,7 +89,7 @@ module _ (d : Dispatcher) (H : Shaped d) (g i : ℕ) (in-plan : g < d .plan .cou
   }
 
   -- this guest has it: its first task with run left loses one
-  pub task-served : holder d ≡ g → Served i (worker d) (restAt d g) (restAt (next d) g)
+  pub task-served : holder d ≡ g → ServedFirst i (worker d) (restAt d g) (restAt (next d) g)
   task-served e =
       first-served (d .rest) (next d .rest) (λ j. placeAt g j) (guestIn d g .tasks) (worker d) i in-guest
       (worker-of d g e)

@@ -21,7 +21,7 @@ use Rattle.dispatcher.specs.Tick.{holder, isHeld, worker, isWorked, next}
 use Rattle.dispatcher.specs.Answer.{answerBy, answer, finishes}
 use Rattle.dispatcher.specs.Run.{ticks, ranTo, runFrom, runOf}
 use Rattle.dispatcher.specs.Entries.{longestRun, tickedBy, tick, ranBy, run}
-use Rattle.history.specs.Calls.{told, singles}
+use Rattle.history.specs.Calls.{listed, singles}
 use Rattle.lists.proofs.Refusals.{none-left, go-on, stop}
 use Rattle.history.proofs.Valid.{ok-next}
 
@@ -47,22 +47,22 @@ module _ (d : Dispatcher) (ok : stateOk d ≡ true) where
   tick-fine = ap (λ (n : ℕ). tickedBy n d .refusal .number) (tick-number d ok)
 
 -- a tick always answers
-told-by : (a b c : Bool) (d : Dispatcher) → told (answerBy a b c d) ≡ answerBy a b c d ∷ []
-unfolding told answerBy
-told-by false b c d = refl
-told-by true false c d = refl
-told-by true true true d = refl
-told-by true true false d = refl
+listed-by : (a b c : Bool) (d : Dispatcher) → listed (answerBy a b c d) ≡ answerBy a b c d ∷ []
+unfolding listed answerBy
+listed-by false b c d = refl
+listed-by true false c d = refl
+listed-by true true true d = refl
+listed-by true true false d = refl
 
--- so what is told of it is its answer
-pub told-answer : (d : Dispatcher) → told (answer d) ≡ answer d ∷ []
+-- so it is listed
+pub listed-answer : (d : Dispatcher) → listed (answer d) ≡ answer d ∷ []
 unfolding answer
-told-answer d = told-by (isHeld d) (isWorked d) (ltb 1 (restAt d (holder d) (worker d))) d
+listed-answer d = listed-by (isHeld d) (isWorked d) (ltb 1 (restAt d (holder d) (worker d))) d
 
 -- the answers of one tick more
 pub singles-next : (n : ℕ) (d : Dispatcher) → stateOk d ≡ true → singles (suc n) d ≡ answer d ∷ singles n (next d)
 unfolding singles
-singles-next n d ok = rw (tick-answer d ok, tick-state d ok, told-answer d) refl
+singles-next n d ok = rw (tick-answer d ok, tick-state d ok, listed-answer d) refl
 
 -- no tick, no answer
 pub singles-none : (d : Dispatcher) → singles 0 d ≡ []
@@ -200,8 +200,8 @@ run-number : (n : ℕ) (d : Dispatcher) → stateOk d ≡ true → n ≤ 1000000
 run-number n d ok h = go-on 14 _ ok ∙ go-on 13 [] (le-leb n longestRun h) ∙ none-left
 
 -- it is
-run-refused : (n : ℕ) (d : Dispatcher) → stateOk d ≡ true → 1000000 < n → refusal (stateOk d orRefuse 14 ∷ leb n longestRun orRefuse 13 ∷ []) ≡ 13
-run-refused n d ok h = go-on 14 _ ok ∙ stop 13 [] (lt-leb n longestRun h)
+run-too-long : (n : ℕ) (d : Dispatcher) → stateOk d ≡ true → 1000000 < n → refusal (stateOk d orRefuse 14 ∷ leb n longestRun orRefuse 13 ∷ []) ≡ 13
+run-too-long n d ok h = go-on 14 _ ok ∙ stop 13 [] (lt-leb n longestRun h)
 
 -- the call
 pub run-fine : (n : ℕ) (d : Dispatcher) → stateOk d ≡ true → n ≤ 1000000 → run d n ≡ runOf n d
@@ -219,7 +219,7 @@ pub run-13 :
     → 1000000 < n
     → run d n ≡ record { refusal = refused 13 0; done = 0; answer = Silent; state = d }
 unfolding run ranBy
-run-13 n d ok h = ap (λ (x : ℕ). ranBy x d n) (run-refused n d ok h)
+run-13 n d ok h = ap (λ (x : ℕ). ranBy x d n) (run-too-long n d ok h)
 
 -- In either case the state is that of the ticks that it reports.
 pub run-state : (n : ℕ) (d : Dispatcher) → stateOk d ≡ true → run d n .state ≡ ticks (run d n .done) d
@@ -231,5 +231,5 @@ run-state n d ok =
     ]
 
 -- and so is that of a tick
-pub tick-one : (d : Dispatcher) → stateOk d ≡ true → length (told (tick d .answer)) ≡ 1
-tick-one d ok = ap (λ (a : Answer). length (told a)) (tick-answer d ok) ∙ ap length (told-answer d)
+pub tick-one : (d : Dispatcher) → stateOk d ≡ true → length (listed (tick d .answer)) ≡ 1
+tick-one d ok = ap (λ (a : Answer). length (listed a)) (tick-answer d ok) ∙ ap length (listed-answer d)

@@ -24,7 +24,8 @@ use Rattle.dispatcher.specs.Release.{taken}
 use Rattle.lists.proofs.Places.{upTo-rest, upTo-get, set-get}
 use Rattle.history.proofs.Seen.{posAt, leftAt}
 use Rattle.history.proofs.Next.{next-plan}
-use Rattle.history.proofs.Ranges.{ok-plan, ok-guest, ok-task, ok-by, server-by, job-by}
+use Rattle.dispatcher.proofs.Valid.{ok-plan}
+use Rattle.history.proofs.Ranges.{ok-guest, ok-task, ok-by, server-by, job-by}
 
 -- ---- a tick
 -- one less at a place leaves no place more

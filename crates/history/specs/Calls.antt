@@ -42,22 +42,22 @@ times zero = []
 times (suc n) = ticking ∷ times n
 
 -- the answer of a tick, if there was one
-unfoldable pub told : Answer → List Answer
-told Silent = []
-told Nobody = Nobody ∷ []
-told (Idled guest) = Idled guest ∷ []
-told (Worked guest task) = Worked guest task ∷ []
-told (Finished guest task age margin) = Finished guest task age margin ∷ []
+unfoldable pub listed : Answer → List Answer
+listed Silent = []
+listed Nobody = Nobody ∷ []
+listed (Idled guest) = Idled guest ∷ []
+listed (Worked guest task) = Worked guest task ∷ []
+listed (Finished guest task age margin) = Finished guest task age margin ∷ []
 
 -- the answers of n single ticks, in order
 unfoldable pub singles : ℕ → Dispatcher → List Answer
 singles zero d = []
-singles (suc n) d = told (tick d .answer) ++ singles n (tick d .state)
+singles (suc n) d = listed (tick d .answer) ++ singles n (tick d .state)
 
 -- how many ticks a call does: a refused tick none, and a run says it itself
 unfoldable pub ticksOf : Call → Dispatcher → ℕ
 ticksOf (releasing guest task) d = 0
-ticksOf ticking d = length (told (tick d .answer))
+ticksOf ticking d = length (listed (tick d .answer))
 ticksOf (running n) d = run d n .done
 
 -- how many ticks a history does

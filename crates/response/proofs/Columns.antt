@@ -25,7 +25,7 @@ use Rattle.response.specs.Interference.{jitter, interference}
 use Rattle.response.specs.Guest.{guestRight, guestResponse, fitted, fittedTo}
 use Rattle.response.specs.Task.{gap, load, periods, taskRight, limit, later, taskResponse}
 use Rattle.response.specs.Met.{allMet, accepted}
-use Rattle.response.specs.Columns.{taken, guestUnder, fittedAt, loadIn, taskUnder, taskOf, acceptedUnder}
+use Rattle.response.specs.Columns.{guestsTake, guestUnder, fittedAt, loadIn, taskUnder, taskOf, acceptedUnder}
 use Rattle.rounding.proofs.Up.{up-mono}
 use Rattle.equation.proofs.Rise.{Grows}
 use Rattle.lists.proofs.All.{all-ext, all-and}
@@ -37,8 +37,8 @@ pub record Above (p : Plan) (k : ℕ) (capacities periods : List ℕ) : Type 0 w
   pub period : (j : ℕ) → j < k → nth periods j ≡ guestAt (p .guests) j .period
 
 -- they take what the plan's guests above take
-pub above-is : (p : Plan) (k : ℕ) (capacities periods : List ℕ) → Above p k capacities periods → taken capacities periods k ≡ interference p k
-unfolding taken asked interference jitter
+pub above-is : (p : Plan) (k : ℕ) (capacities periods : List ℕ) → Above p k capacities periods → guestsTake capacities periods k ≡ interference p k
+unfolding guestsTake asked interference jitter
 above-is p k capacities periods a =
     fun-ext (λ v. sum-same (λ j. up v (nth periods j) * nth capacities j)
     (λ j. up (v + 0) (guestAt (p .guests) j .period) * guestAt (p .guests) j .capacity) k (λ j l. rw (a .capacity j l, a .period j l, add-zero v) refl))
@@ -88,12 +88,12 @@ accepted-is p k =
 -- the columns of a plan
 module _ (p : Plan) (c : Columns) (f : ColumnsOf (p .guests) c) where
   -- they take what its guests take
-  pub columns-take : (k : ℕ) → k ≤ 8 → taken (c .capacities) (c .periods) k ≡ interference p k
+  pub columns-take : (k : ℕ) → k ≤ 8 → guestsTake (c .capacities) (c .periods) k ≡ interference p k
   columns-take k h = above-is p k (c .capacities) (c .periods)
       record { capacity = λ j l. f .capacities .holds j (omega arith); period = λ j l. f .periods .holds j (omega arith) }
 
   -- the response at place k is its guest's
-  pub columns-respond : (k : ℕ) → k < 8 → guestUnder (taken (c .capacities) (c .periods) k) (nth (c .capacities) k) (nth (c .periods) k) ≡ guestResponse p k
+  pub columns-respond : (k : ℕ) → k < 8 → guestUnder (guestsTake (c .capacities) (c .periods) k) (nth (c .capacities) k) (nth (c .periods) k) ≡ guestResponse p k
   columns-respond k h = rw (columns-take k (omega arith), f .capacities .holds k h, f .periods .holds k h) (guest-response-is p k)
 
   -- the first n are fitted where its guests are
@@ -107,7 +107,7 @@ module _ (p : Plan) (c : Columns) (f : ColumnsOf (p .guests) c) where
   columns-fit-to k h = rw add-one (columns-fit (suc k) (omega arith))
 
   -- they are accepted where its guests and tasks are
-  pub columns-accept : p .count ≤ 8 → allTo (λ k. acceptedUnder (taken (c .capacities) (c .periods) k) (guestAt (p .guests) k)) (p .count) ≡ accepted p
+  pub columns-accept : p .count ≤ 8 → allTo (λ k. acceptedUnder (guestsTake (c .capacities) (c .periods) k) (guestAt (p .guests) k)) (p .count) ≡ accepted p
   unfolding accepted
   columns-accept h =
       all-ext _ (λ k. fitted p k && allMet p k) (p .count) (λ k l. rw (columns-take k (omega arith)) (accepted-is p k))

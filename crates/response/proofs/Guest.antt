@@ -6,20 +6,20 @@ use native.Mathlib.Omega.{arith}
 use Rattle.lists.specs.declared.Found.the-variants.{At, Nothing}
 use Rattle.lists.specs.Places.{nth}
 use Rattle.rounding.specs.Asked.{asked, cut}
-use Rattle.response.specs.Columns.{taken, guestUnder}
+use Rattle.response.specs.Columns.{guestsTake, guestUnder}
 use Rattle.rounding.proofs.Asked.{asked-mono}
 use Rattle.equation.proofs.Solve.{solve-at, solve-none, Solved, solve-answers}
 use Rattle.equation.proofs.Rise.{Grows, Rising, rise-turn, rise-under}
 
 -- what the guests above take grows with the window
-pub taken-grows : (capacities periods : List ℕ) (n : ℕ) → Grows (taken capacities periods n)
-unfolding taken
-taken-grows capacities periods n a b h = asked-mono (nth capacities) (nth periods) n h
+pub take-grows : (capacities periods : List ℕ) (n : ℕ) → Grows (guestsTake capacities periods n)
+unfolding guestsTake
+take-grows capacities periods n a b h = asked-mono (nth capacities) (nth periods) n h
 
 -- the code's sum is what they take, cut off
-pub taken-by : (capacities periods : List ℕ) (n v : ℕ) {r : ℕ} → r ≡ cut (asked (nth capacities) (nth periods) n v) → r ≡ cut (taken capacities periods n v)
-unfolding taken
-taken-by capacities periods n v e = e
+pub take-cut : (capacities periods : List ℕ) (n v : ℕ) {r : ℕ} → r ≡ cut (asked (nth capacities) (nth periods) n v) → r ≡ cut (guestsTake capacities periods n v)
+unfolding guestsTake
+take-cut capacities periods n v e = e
 
 -- the loop's invariant, with the facts that every turn uses
 pub record GuestInv (above : ℕ → ℕ) (capacity period x : ℕ) : Type 0 where

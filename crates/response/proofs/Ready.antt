@@ -13,7 +13,7 @@ use Rattle.plan.specs.Records.{guestAt}
 use Rattle.plan.specs.declared.Columns.{Columns}
 use Rattle.plan.specs.declared.Guest.{Guest}
 use Rattle.plan.specs.declared.Plan.{Plan}
-use Rattle.response.specs.Columns.{taken, guestUnder, fittedAt, metUnder, taskOf, acceptedUnder}
+use Rattle.response.specs.Columns.{guestsTake, guestUnder, fittedAt, metUnder, taskOf, acceptedUnder}
 use Rattle.response.specs.Ready.{Ready, Sure}
 use Rattle.lists.proofs.All.{all-at, all-ext, and-false-left}
 use Rattle.plan.proofs.Order.{PlanIn}
@@ -25,16 +25,16 @@ module _ (g : Guest) (capacities periods : List ℕ) (k : ℕ) (s : Sure g capac
   sure-ranged = let r = s .ranged k (omega arith) in (omega (arith, r .0, s .capacity), omega (arith, r .1, s .capacity, s .period))
 
   -- it is fitted where it and all above are
-  pub sure-fits : allTo (fittedAt capacities periods) (k + 1) ≡ true → isAt (guestUnder (taken capacities periods k) (g .capacity) (g .period)) ≡ true
+  pub sure-fits : allTo (fittedAt capacities periods) (k + 1) ≡ true → isAt (guestUnder (guestsTake capacities periods k) (g .capacity) (g .period)) ≡ true
   unfolding fittedAt
   sure-fits a =
-      ap (λ (c : ℕ). isAt (guestUnder (taken capacities periods k) c (g .period))) (sym (s .capacity))
-      ∙ ap (λ (t : ℕ). isAt (guestUnder (taken capacities periods k) (nth capacities k) t)) (sym (s .period))
+      ap (λ (c : ℕ). isAt (guestUnder (guestsTake capacities periods k) c (g .period))) (sym (s .capacity))
+      ∙ ap (λ (t : ℕ). isAt (guestUnder (guestsTake capacities periods k) (nth capacities k) t)) (sym (s .period))
       ∙ all-at (fittedAt capacities periods) (k + 1) k (omega arith) a
 
   -- a fitted one is ready for its tasks' recurrences
-  pub sure-ready : isAt (guestUnder (taken capacities periods k) (g .capacity) (g .period)) ≡ true
-      → (run : List ℕ) → Filled run (charged g) (g .tasks) → (i : ℕ) → i < g .tasks → Ready (taken capacities periods k) (g .capacity) (g .period) run i
+  pub sure-ready : isAt (guestUnder (guestsTake capacities periods k) (g .capacity) (g .period)) ≡ true
+      → (run : List ℕ) → Filled run (charged g) (g .tasks) → (i : ℕ) → i < g .tasks → Ready (guestsTake capacities periods k) (g .capacity) (g .period) run i
   unfolding chargedRun
   sure-ready fits run f i h = record {
     some = sure-ranged .0;

@@ -16,7 +16,7 @@ use Rattle.response.specs.Ready.{Ready}
 use Rattle.lists.proofs.Search.{at-of}
 use Rattle.rounding.proofs.Asked.{asked-mono}
 use Rattle.equation.proofs.Solve.{solve-at, solve-none, Under}
-use Rattle.equation.proofs.System.{Sound}
+use Rattle.equation.proofs.System.{Regular}
 use Rattle.equation.proofs.Rise.{Grows}
 use Rattle.equation.proofs.Turn.{Climbing, climb-start, climb-turn, right-past}
 use Rattle.equation.proofs.Compare.{under-turn}
@@ -32,11 +32,11 @@ pub load-pos : (run every : List ℕ) (i v l : ℕ) → 1 ≤ nth run i → l �
 unfolding loadIn
 load-pos run every i v l h e = omega arith
 
--- the task's equation is sound under a fitted guest
-pub sound : (above : ℕ → ℕ) → Grows above → (capacity period : ℕ) (run every : List ℕ) (i : ℕ)
-    → Ready above capacity period run i → (x : ℕ) × Sound (equationOf above capacity period run every i) x
+-- the task's equation is regular under a fitted guest
+pub regular : (above : ℕ → ℕ) → Grows above → (capacity period : ℕ) (run every : List ℕ) (i : ℕ)
+    → Ready above capacity period run i → (x : ℕ) × Regular (equationOf above capacity period run every i) x
 unfolding loadIn
-sound above g capacity period run every i r =
+regular above g capacity period run every i r =
     let x = at-of (guestUnder above capacity period) (r .fits) in
     let s = response-says above capacity period (x .0) (x .1) in (
       x .0,
@@ -87,7 +87,7 @@ task-late above capacity period run every i deadline h =
 -- the loop's invariant, with the facts that every turn uses; x is the guest's response
 pub record TaskInv (S : System) (limit w : ℕ) : Type 0 where
   pub x : ℕ
-  pub sure : Sound S x
+  pub sure : Regular S x
   pub small : limit < 4294967296
   pub low : 1 ≤ w
   pub high : w ≤ limit
@@ -95,7 +95,7 @@ pub record TaskInv (S : System) (limit w : ℕ) : Type 0 where
   pub under : Under (right S) w
 
 -- it starts at 1
-pub task-start : {S : System} {x limit : ℕ} → Sound S x → 1 ≤ limit → limit < 4294967296 → TaskInv S limit 1
+pub task-start : {S : System} {x limit : ℕ} → Regular S x → 1 ≤ limit → limit < 4294967296 → TaskInv S limit 1
 task-start {S} {x} s h small =
     record { x = x; sure = s; small = small; low = omega arith; high = h; climbs = climb-start S x s; under = λ z k e. k }
 

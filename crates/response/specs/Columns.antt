@@ -13,8 +13,8 @@ use Rattle.plan.specs.declared.Guest.{Guest}
 use Rattle.response.specs.Task.{gap, load, limit, later}
 
 -- what the first n guests take from v ticks
-unfoldable pub taken : (capacities periods : List ℕ) → ℕ → ℕ → ℕ
-taken capacities periods n v = asked (nth capacities) (nth periods) n v
+unfoldable pub guestsTake : (capacities periods : List ℕ) → ℕ → ℕ → ℕ
+guestsTake capacities periods n v = asked (nth capacities) (nth periods) n v
 
 -- the response of a guest
 unfoldable pub guestUnder : (above : ℕ → ℕ) → (capacity period : ℕ) → Found
@@ -22,7 +22,7 @@ guestUnder above capacity period = solve (λ x. capacity + above x) period
 
 -- whether the guest at place k of the columns is fitted
 unfoldable pub fittedAt : (capacities periods : List ℕ) → ℕ → Bool
-fittedAt capacities periods k = isAt (guestUnder (taken capacities periods k) (nth capacities k) (nth periods k))
+fittedAt capacities periods k = isAt (guestUnder (guestsTake capacities periods k) (nth capacities k) (nth periods k))
 
 -- the load of task i within v ticks, run being the charged runs
 unfoldable pub loadIn : (run every : List ℕ) → ℕ → ℕ → ℕ

@@ -3,7 +3,7 @@ ghost use mathlib.Core.Path.{_≡_};
 ghost use Prim.Native.Nat.{ℕ, _+_, _≤_, _<_};
 ghost use Rattle.lists.specs.Places.{nth};
 ghost use Rattle.rounding.specs.Asked.{cut};
-ghost use Rattle.response.specs.Columns.{taken, guestUnder};
+ghost use Rattle.response.specs.Columns.{guestsTake, guestUnder};
 use lists::Found;
 use rounding::asked_of;
 use rounding::wide;
@@ -11,7 +11,7 @@ use rounding::wide;
 // The right side of the guest's equation at x, the interference cut off.
 fn guest_right(capacities: &[u32; 16], periods: &[u32; 16], n: usize, capacity: u32, x: u32) -> u64
     requires { ⌜ n ≤ 16 ⌝ }
-    ensures { λ r. ⌜ r ≡ capacity + cut (taken (now (capacities .entry)) (now (periods .entry)) n x) ⌝ }
+    ensures { λ r. ⌜ r ≡ capacity + cut (guestsTake (now (capacities .entry)) (now (periods .entry)) n x) ⌝ }
 {
     wide(capacity) + asked_of(capacities, periods, n, x)
 }
@@ -25,7 +25,7 @@ pub fn guest_response(
     period: u32,
 ) -> Found
     requires { ⌜ (n ≤ 16) × ((1 ≤ capacity) × (capacity ≤ period)) ⌝ }
-    ensures { λ r. ⌜ r ≡ guestUnder (taken (now (capacities .entry)) (now (periods .entry)) n) capacity period ⌝ }
+    ensures { λ r. ⌜ r ≡ guestUnder (guestsTake (now (capacities .entry)) (now (periods .entry)) n) capacity period ⌝ }
 {
     let mut x = capacity;
     loop {
@@ -43,7 +43,7 @@ pub fn guest_response(
 // The response of the guest at place k of the columns.
 pub fn response_at(capacities: &[u32; 16], periods: &[u32; 16], k: usize) -> Found
     requires { ⌜ (k < 16) × ((1 ≤ nth (now capacities) k) × (nth (now capacities) k ≤ nth (now periods) k)) ⌝ }
-    ensures { λ r. ⌜ r ≡ guestUnder (taken (now (capacities .entry)) (now (periods .entry)) k) (nth (now (capacities .entry)) k) (nth (now (periods .entry)) k) ⌝ }
+    ensures { λ r. ⌜ r ≡ guestUnder (guestsTake (now (capacities .entry)) (now (periods .entry)) k) (nth (now (capacities .entry)) k) (nth (now (periods .entry)) k) ⌝ }
 {
     guest_response(capacities, periods, k, capacities[k], periods[k])
 }

@@ -4,7 +4,7 @@ ghost use Prim.Native.Nat.{ℕ, _≤_, _<_};
 ghost use Rattle.lists.specs.All.{allTo};
 ghost use Rattle.plan.specs.Charge.{charged};
 ghost use Rattle.plan.specs.Filled.{Filled};
-ghost use Rattle.response.specs.Columns.{taken, fittedAt, metUnder};
+ghost use Rattle.response.specs.Columns.{guestsTake, fittedAt, metUnder};
 ghost use Rattle.response.specs.Ready.{Ready, Ranged, RunsIn};
 use crate::fit::response_at;
 use crate::window::task_response;
@@ -57,8 +57,8 @@ pub fn all_met(
     tasks: usize,
 ) -> bool
     requires { ⌜ (k ≤ 16) × (tasks ≤ 16) ⌝ }
-    requires { ⌜ ((i : ℕ) → i < tasks → Ready (taken (now capacities) (now periods) k) capacity period (now run) i) ⌝ }
-    ensures { λ r. ⌜ r ≡ metUnder (taken (now (capacities .entry)) (now (periods .entry)) k) capacity period (now (run .entry)) (now (every .entry)) (now (deadline .entry)) tasks ⌝ }
+    requires { ⌜ ((i : ℕ) → i < tasks → Ready (guestsTake (now capacities) (now periods) k) capacity period (now run) i) ⌝ }
+    ensures { λ r. ⌜ r ≡ metUnder (guestsTake (now (capacities .entry)) (now (periods .entry)) k) capacity period (now (run .entry)) (now (every .entry)) (now (deadline .entry)) tasks ⌝ }
 {
     let mut i: usize = 0;
     while i < tasks {

@@ -5,7 +5,7 @@ ghost use Rattle.lists.specs.Places.{nth};
 ghost use Rattle.rounding.specs.Up.{up};
 ghost use Rattle.rounding.specs.Asked.{cut};
 ghost use Rattle.equation.specs.System.{rightAt, right};
-ghost use Rattle.response.specs.Columns.{taken, guestUnder, loadIn, equationOf, taskUnder};
+ghost use Rattle.response.specs.Columns.{guestsTake, guestUnder, loadIn, equationOf, taskUnder};
 ghost use Rattle.response.specs.Ready.{Ready};
 use lists::Found;
 use rounding::asked_of;
@@ -55,7 +55,7 @@ fn right_at(
     w: u32,
 ) -> u64
     requires { ⌜ (n ≤ 16) × ((1 ≤ capacity) × ((capacity ≤ period) × (1 ≤ load))) ⌝ }
-    ensures { λ r. ⌜ r ≡ cut (rightAt (taken (now (capacities .entry)) (now (periods .entry)) n) capacity period load w) ⌝ }
+    ensures { λ r. ⌜ r ≡ cut (rightAt (guestsTake (now (capacities .entry)) (now (periods .entry)) n) capacity period load w) ⌝ }
 {
     let m = whole_of(load, capacity);
     let v = rest_of(w, times(m, period));
@@ -76,7 +76,7 @@ fn right_of(
 ) -> u64
     requires { ⌜ ((n ≤ 16) × (i < 16)) × ((1 ≤ capacity) × ((capacity ≤ period) × (1 ≤ nth (now run) i))) ⌝ }
     requires { ⌜ w + (period - capacity) < 4294967296 ⌝ }
-    ensures { λ r. ⌜ r ≡ cut (right (equationOf (taken (now (capacities .entry)) (now (periods .entry)) n) capacity period (now (run .entry)) (now (every .entry)) i) w) ⌝ }
+    ensures { λ r. ⌜ r ≡ cut (right (equationOf (guestsTake (now (capacities .entry)) (now (periods .entry)) n) capacity period (now (run .entry)) (now (every .entry)) i) w) ⌝ }
 {
     let load = load_in(run, every, i, w + (period - capacity));
     if 4294967295 < load {
@@ -98,8 +98,8 @@ pub fn task_response(
     deadline: u32,
 ) -> Found
     requires { ⌜ (n ≤ 16) × (i < 16) ⌝ }
-    requires { ⌜ Ready (taken (now capacities) (now periods) n) capacity period (now run) i ⌝ }
-    ensures { λ r. ⌜ r ≡ taskUnder (taken (now (capacities .entry)) (now (periods .entry)) n) capacity period (now (run .entry)) (now (every .entry)) i deadline ⌝ }
+    requires { ⌜ Ready (guestsTake (now capacities) (now periods) n) capacity period (now run) i ⌝ }
+    ensures { λ r. ⌜ r ≡ taskUnder (guestsTake (now (capacities .entry)) (now (periods .entry)) n) capacity period (now (run .entry)) (now (every .entry)) i deadline ⌝ }
 {
     let gap = period - capacity;
     if deadline <= gap {

@@ -24,7 +24,7 @@ never-14 = stays.never-14
 
 -- A run's count, state and answer are those of that many single ticks; it stops after the first finish, never before, or when the number is used up.
 pub run-is-ticks : (n : ℕ) (d : Dispatcher) → stateOk d ≡ true → n ≤ 1000000 → RunIs n d
-run-is-ticks = stays.run-is
+run-is-ticks = stays.run-is-ticks
 
 module _ (p : Plan) (order : planRefusal p .number ≡ 0) (id number : ℕ) (cs : List Call)
     (taken : release (play cs (start p)) id number .refusal .number ≡ 0) (ds : List Call)

@@ -26,7 +26,7 @@ use Rattle.verdict.specs.declared.TaskVerdict.the-variants.{Unjudged}
 use Rattle.response.specs.Guest.{guestResponse, fittedTo}
 use Rattle.response.specs.Task.{taskResponse}
 use Rattle.verdict.specs.Verdict.{hasGuest, hasTask, recordsThen, refusedBy, refuseOr, guestSays, guestVerdict, taskSays, taskVerdict, acceptSays, acceptance}
-use Rattle.response.specs.Columns.{taken, guestUnder, fittedAt, taskOf, acceptedUnder}
+use Rattle.response.specs.Columns.{guestsTake, guestUnder, fittedAt, taskOf, acceptedUnder}
 use Rattle.lists.proofs.Refusals.{none-left, go-on, stop}
 use Rattle.plan.proofs.Order.{PlanIn, plan-in}
 use Rattle.plan.proofs.Place.{place-is}
@@ -126,7 +126,7 @@ module _ (p : Plan) {r : Refusal} (e : r ≡ planRefusal p) (h : r .number ≤ 0
 
     -- the guest's verdict
     pub guest-judged : {x : Found} {v : GuestVerdict} → k < p .count
-        → x ≡ guestUnder (taken (c .capacities) (c .periods) k) (nth (c .capacities) k) (nth (c .periods) k) → v ≡ guestSays x → v ≡ guestVerdict p id
+        → x ≡ guestUnder (guestsTake (c .capacities) (c .periods) k) (nth (c .capacities) k) (nth (c .periods) k) → v ≡ guestSays x → v ≡ guestVerdict p id
     unfolding guestVerdict
     guest-judged l e q =
         q
@@ -137,13 +137,13 @@ module _ (p : Plan) {r : Refusal} (e : r ≡ planRefusal p) (h : r .number ≤ 0
     -- the task's
     pub task-judged : {v : TaskVerdict} (number : ℕ) → k < p .count
         → v ≡ refusedBy task.Refused (refusal (within 1 (guestAt (p .guests) k .tasks) number orRefuse 8 ∷ [])) 0
-        (taskSays (allTo (fittedAt (c .capacities) (c .periods)) (k + 1)) (taskOf (taken (c .capacities) (c .periods) k) (guestAt (p .guests) k) (number - 1)))
+        (taskSays (allTo (fittedAt (c .capacities) (c .periods)) (k + 1)) (taskOf (guestsTake (c .capacities) (c .periods) k) (guestAt (p .guests) k) (number - 1)))
         → v ≡ taskVerdict p id number
     unfolding taskVerdict hasTask
     task-judged number l q =
         let few : k < 8 = omega (arith, in-order .few) in
         q
-        ∙ ap (λ (b : Bool). refusedBy task.Refused (refusal (within 1 (guestAt (p .guests) k .tasks) number orRefuse 8 ∷ [])) 0 (taskSays b (taskOf (taken (c .capacities) (c .periods) k) (guestAt (p .guests) k) (number - 1)))) (columns-fit-to p c f k few)
+        ∙ ap (λ (b : Bool). refusedBy task.Refused (refusal (within 1 (guestAt (p .guests) k .tasks) number orRefuse 8 ∷ [])) 0 (taskSays b (taskOf (guestsTake (c .capacities) (c .periods) k) (guestAt (p .guests) k) (number - 1)))) (columns-fit-to p c f k few)
         ∙ ap (λ (above : ℕ → ℕ). refusedBy task.Refused (refusal (within 1 (guestAt (p .guests) k .tasks) number orRefuse 8 ∷ [])) 0 (taskSays (fittedTo p k) (taskOf above (guestAt (p .guests) k) (number - 1)))) (columns-take p c f k (omega arith))
         ∙ ap (λ (x : Found). refusedBy task.Refused (refusal (within 1 (guestAt (p .guests) k .tasks) number orRefuse 8 ∷ [])) 0 (taskSays (fittedTo p k) x)) (task-response-is p k (number - 1))
         ∙ ap (λ (j : ℕ). refusedBy task.Refused (refusal (within 1 (guestAt (p .guests) j .tasks) number orRefuse 8 ∷ [])) 0 (taskSays (fittedTo p j) (taskResponse p j (number - 1)))) place-found
@@ -151,7 +151,7 @@ module _ (p : Plan) {r : Refusal} (e : r ≡ planRefusal p) (h : r .number ≤ 0
 
   -- the plan's acceptance, by the test of all guests
   pub plan-accepted : (c : Columns) → ColumnsOf (p .guests) c → {b b′ : Bool}
-      → b ≡ allTo (λ k. acceptedUnder (taken (c .capacities) (c .periods) k) (guestAt (p .guests) k)) (p .count) → b ≡ b′ → acceptSays b′ ≡ acceptance p
+      → b ≡ allTo (λ k. acceptedUnder (guestsTake (c .capacities) (c .periods) k) (guestAt (p .guests) k)) (p .count) → b ≡ b′ → acceptSays b′ ≡ acceptance p
   unfolding acceptance refusedBy
   plan-accepted c f e q = rw (not-refused, ← columns-accept p c f (in-order .few), ← e, ← q) refl
 

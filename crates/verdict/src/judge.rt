@@ -8,7 +8,7 @@ ghost use Rattle.lists.specs.Refusals.{refusal, _orRefuse_};
 ghost use Rattle.plan.specs.Records.{guestAt};
 ghost use Rattle.plan.specs.Ranges.{within};
 ghost use Rattle.verdict.specs.Verdict.{refusedBy, guestSays, taskSays};
-ghost use Rattle.response.specs.Columns.{taken, fittedAt, taskOf, acceptedUnder};
+ghost use Rattle.response.specs.Columns.{guestsTake, fittedAt, taskOf, acceptedUnder};
 ghost use Rattle.response.specs.Ready.{Sure};
 use crate::GuestVerdict;
 use crate::TaskVerdict;
@@ -51,7 +51,7 @@ fn judge_task(
     i: usize,
 ) -> TaskVerdict
     requires { ⌜ Sure g (now capacities) (now periods) k × (i < g .tasks) ⌝ }
-    ensures { λ r. ⌜ r ≡ taskSays (allTo (fittedAt (now (capacities .entry)) (now (periods .entry))) (k + 1)) (taskOf (taken (now (capacities .entry)) (now (periods .entry)) k) g i) ⌝ }
+    ensures { λ r. ⌜ r ≡ taskSays (allTo (fittedAt (now (capacities .entry)) (now (periods .entry))) (k + 1)) (taskOf (guestsTake (now (capacities .entry)) (now (periods .entry)) k) g i) ⌝ }
 {
     let every = g.every;
     let deadline = g.deadline;
@@ -81,7 +81,7 @@ pub fn number_task(
     task: u32,
 ) -> TaskVerdict
     requires { ⌜ Sure g (now capacities) (now periods) k ⌝ }
-    ensures { λ r. ⌜ r ≡ refusedBy TaskVerdict.Refused (refusal (within 1 (g .tasks) task orRefuse 8 ∷ [])) 0 (taskSays (allTo (fittedAt (now (capacities .entry)) (now (periods .entry))) (k + 1)) (taskOf (taken (now (capacities .entry)) (now (periods .entry)) k) g (task - 1))) ⌝ }
+    ensures { λ r. ⌜ r ≡ refusedBy TaskVerdict.Refused (refusal (within 1 (g .tasks) task orRefuse 8 ∷ [])) 0 (taskSays (allTo (fittedAt (now (capacities .entry)) (now (periods .entry))) (k + 1)) (taskOf (guestsTake (now (capacities .entry)) (now (periods .entry)) k) g (task - 1))) ⌝ }
 {
     if task < 1 {
         return TaskVerdict::Refused(8, 0);
@@ -96,7 +96,7 @@ pub fn number_task(
 // Whether the guest at place k is fitted and all its tasks are met.
 fn guest_accepted(g: Guest, capacities: &[u32; 16], periods: &[u32; 16], k: usize) -> bool
     requires { ⌜ Sure g (now capacities) (now periods) k ⌝ }
-    ensures { λ r. ⌜ r ≡ acceptedUnder (taken (now (capacities .entry)) (now (periods .entry)) k) g ⌝ }
+    ensures { λ r. ⌜ r ≡ acceptedUnder (guestsTake (now (capacities .entry)) (now (periods .entry)) k) g ⌝ }
 {
     let every = g.every;
     let deadline = g.deadline;
@@ -122,7 +122,7 @@ fn guest_accepted(g: Guest, capacities: &[u32; 16], periods: &[u32; 16], k: usiz
 // Whether all guests are fitted and all tasks met, one guest after the other.
 pub fn all_accepted(plan: Plan, capacities: &[u32; 16], periods: &[u32; 16]) -> bool
     requires { ⌜ ((k : ℕ) → k < plan .count → Sure (guestAt (plan .guests) k) (now capacities) (now periods) k) × (plan .count ≤ 8) ⌝ }
-    ensures { λ r. ⌜ r ≡ allTo (λ k. acceptedUnder (taken (now (capacities .entry)) (now (periods .entry)) k) (guestAt (plan .guests) k)) (plan .count) ⌝ }
+    ensures { λ r. ⌜ r ≡ allTo (λ k. acceptedUnder (guestsTake (now (capacities .entry)) (now (periods .entry)) k) (guestAt (plan .guests) k)) (plan .count) ⌝ }
 {
     let guests = plan.guests;
     let n = plan.count as usize;

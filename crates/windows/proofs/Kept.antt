@@ -8,7 +8,7 @@ use Rattle.windows.specs.GuestTick.{Moved, GuestTick}
 use Rattle.windows.specs.Supply.{Supply}
 use Rattle.windows.specs.Equation.{loadAfter, systemAt, response}
 use Rattle.windows.specs.TaskTick.{Tasks, TaskTick, Taken, Same}
-use Rattle.windows.specs.Kept.{Quoted, Kept}
+use Rattle.windows.specs.Kept.{Bounded, Kept}
 use Rattle.lists.proofs.Sum.{sum-zero}
 use Rattle.windows.proofs.GuestTick.{moved-inside}
 use Rattle.windows.proofs.Supply.{supply-tick, used-up, supply-fresh, supplied}
@@ -22,7 +22,7 @@ load-some : (run every : ℕ → ℕ) (i j w : ℕ) → 0 < run i → 0 < loadAf
 unfolding loadAfter
 load-some run every i j w h = omega arith
 
-module _ {cap per : ℕ → ℕ} {g x : ℕ} {run every : ℕ → ℕ} {i w : ℕ} (Q : Quoted cap per g x run every i w) where
+module _ {cap per : ℕ → ℕ} {g x : ℕ} {run every : ℕ → ℕ} {i w : ℕ} (Q : Bounded cap per g x run every i w) where
   -- how the solution lies in periods of the guest
   lies-of : Lies (asked cap per g) (cap g) (per g) (loadAfter run every i (per g - cap g) w) w
   lies-of =
@@ -139,17 +139,16 @@ module _ {cap per : ℕ → ℕ} {g x : ℕ} {run every : ℕ → ℕ} {i w : �
       let W = K .window in
       omega (arith, W .aged r, W .inside, W .gap)
 
-  -- A task whose response is within its period has nothing left when its wait is over.
+  -- The response being within the period, the task has nothing left when its wait is over.
   pub free-when-due :
       {held pos : ℕ → ℕ} {v : Tasks}
       → Kept cap per g x run every i w held pos v
-      → response cap per g w ≤ every i
       → v .wait i ≡ 0
       → v .rest i ≡ 0
-  free-when-due {v = v} K le due =
+  free-when-due {v = v} K due =
       elim (ℕ-discrete (v .rest i) 0) [
         | yes e ↦ e
         | no n ↦
             (let r : 0 < v .rest i = omega arith in
-            absurd (omega (arith, age-below K r, K .clock .since r)))
+            absurd (omega (arith, age-below K r, Q .in-period, K .clock .since r)))
       ]

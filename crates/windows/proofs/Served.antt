@@ -4,10 +4,10 @@ use Prim.Native.Nat.{ℕ, suc, _+_, _≤_, _<_}
 use native.Mathlib.Decide.{decLe, ℕ-discrete}
 use native.Mathlib.Omega.{arith}
 use Rattle.lists.specs.Sum.{sumTo}
-use Rattle.windows.specs.Served.{Served}
+use Rattle.windows.specs.Served.{ServedFirst}
 use Rattle.lists.proofs.Sum.{sum-last, sum-bump, sum-zero}
 
-module _ {i t : ℕ} {had left : ℕ → ℕ} (S : Served i t had left) where
+module _ {i t : ℕ} {had left : ℕ → ℕ} (S : ServedFirst i t had left) where
   -- where the places up to i had something, they lose one together
   pub served-one : 0 < sumTo had (suc i) → sumTo left (suc i) + 1 ≡ sumTo had (suc i)
   served-one some =
@@ -38,7 +38,7 @@ module _ {i t : ℕ} {had left : ℕ → ℕ} (S : Served i t had left) where
       ]
 
 -- the same, said of equal numbers
-pub served-as : {i t : ℕ} {had left had' : ℕ → ℕ} → ((j : ℕ) → j ≤ i → had' j ≡ had j) → Served i t had left → Served i t had' left
+pub served-as : {i t : ℕ} {had left had' : ℕ → ℕ} → ((j : ℕ) → j ≤ i → had' j ≡ had j) → ServedFirst i t had left → ServedFirst i t had' left
 served-as {t = t} same S = record {
   before = λ j a b. omega (arith, same j b, S .before j a b);
   took = λ a. omega (arith, same t a, S .took a);

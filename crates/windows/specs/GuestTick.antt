@@ -2,7 +2,7 @@
 use mathlib.Core.Path.{_≡_}
 use Prim.Native.Nat.{ℕ, _+_, _≤_, _<_}
 use Rattle.rounding.specs.Asked.{asked}
-use Rattle.windows.specs.Served.{Served}
+use Rattle.windows.specs.Served.{ServedFirst}
 
 -- A guest moves on in its period, or begins the next one and is filled: from position p with l left, to position q with h to hold.
 pub data Moved (cap per p l q h : ℕ) : Type 0 where
@@ -12,7 +12,7 @@ pub data Moved (cap per p l q h : ℕ) : Type 0 where
 -- The tick of the guests up to g: guest k has it (k above g: none of these). `held` is what a guest holds once those at position 0
 -- are filled, `left` what it has left after the tick.
 pub record GuestTick (cap per : ℕ → ℕ) (g k : ℕ) (held pos left held' pos' : ℕ → ℕ) : Type 0 where
-  pub served : Served g k held left
+  pub served : ServedFirst g k held left
   pub moved : (j : ℕ) → j ≤ g → Moved (cap j) (per j) (pos j) (left j) (pos' j) (held' j)
 
 -- Guest g is fitted: x solves its equation, and lies inside its period.

@@ -3,7 +3,7 @@ use mathlib.Core.Path.{_≡_}
 use Prim.Native.Nat.{ℕ, _+_, _≤_, _<_}
 
 -- Of the places up to i, place t is served (t above i: none of them): those before it had nothing, it loses one, all others stand.
-pub record Served (i t : ℕ) (had left : ℕ → ℕ) : Type 0 where
+pub record ServedFirst (i t : ℕ) (had left : ℕ → ℕ) : Type 0 where
   pub before : (j : ℕ) → j < t → j ≤ i → had j ≡ 0
   pub took : t ≤ i → left t + 1 ≡ had t
   pub same : (j : ℕ) → j ≤ i → (j ≡ t → ⊥) → left j ≡ had j

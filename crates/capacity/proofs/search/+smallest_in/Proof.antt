@@ -4,10 +4,10 @@ use native.Mathlib.Omega.{arith}
 use borrow.Author.Needs.{needs}
 use borrow.Fn.Kinds.{In}
 use borrow.Fn.PlainCycle.{Measures, is, falls, and}
-use Rattle.response.specs.Columns.{taken}
+use Rattle.response.specs.Columns.{guestsTake}
 use Rattle.capacity.proofs.Trial.{turn-left, turn-right, turn-here}
 use Rattle.equation.proofs.Halve.{halve-none}
-use Rattle.response.proofs.Guest.{taken-grows}
+use Rattle.response.proofs.Guest.{take-grows}
 use Rattle.capacity.proofs.search.+smallest_in.{statement}
 use Rattle.capacity.proofs.search.+smallest_in.Tie.{close}
 use Rattle.capacity.proofs.search.smallest_in.Reads as smallest-in
@@ -157,7 +157,7 @@ smallest-in-returns-2 : (t : ℕ) → smallest-in-lts.Need-returns-2 (
 ) (smallest-in-at t) smallest-in.Post
 smallest-in-returns-2 t c =
     let s = c .before .before .before .before .before in
-    turn-left (taken (s .args .caps .now) (s .args .periods .now) (s .args .k)) (taken-grows _ _ _) _ _ _ _ _ (s .pre .1 .1) (s .args .lo) (s .args .lo + (s .args .hi - s .args .lo) / 2) (s .args .hi) (s .pre .1 .0 .1 .0) (omega arith) (omega arith)
+    turn-left (guestsTake (s .args .caps .now) (s .args .periods .now) (s .args .k)) (take-grows _ _ _) _ _ _ _ _ (s .pre .1 .1) (s .args .lo) (s .args .lo + (s .args .hi - s .args .lo) / 2) (s .args .hi) (s .pre .1 .0 .1 .0) (omega arith) (omega arith)
     (c .before .before .before .try-at .ensures) (c .before .enum-told .given .1) (c .smallest-in .ensures)
 
 smallest-in-returns-3 : (t : ℕ) → smallest-in-lts.Need-returns-3 (
@@ -170,7 +170,7 @@ smallest-in-returns-3 : (t : ℕ) → smallest-in-lts.Need-returns-3 (
 ) (smallest-in-at t) smallest-in.Post
 smallest-in-returns-3 t c =
     let s = c .before .before .before .before .before in
-    turn-right (taken (s .args .caps .now) (s .args .periods .now) (s .args .k)) (taken-grows _ _ _) _ _ _ _ _ (s .pre .1 .1) (s .args .lo) (s .args .lo + (s .args .hi - s .args .lo) / 2) (s .args .hi) (s .pre .1 .0 .1 .0) (omega arith) (omega arith)
+    turn-right (guestsTake (s .args .caps .now) (s .args .periods .now) (s .args .k)) (take-grows _ _ _) _ _ _ _ _ (s .pre .1 .1) (s .args .lo) (s .args .lo + (s .args .hi - s .args .lo) / 2) (s .args .hi) (s .pre .1 .0 .1 .0) (omega arith) (omega arith)
     (c .before .before .before .try-at .ensures) (c .before .enum-told2 .given .1) (c .smallest-in2 .ensures)
 
 smallest-in-returns-4 : (t : ℕ) → smallest-in-lts.Need-returns-4 (
@@ -183,7 +183,7 @@ smallest-in-returns-4 : (t : ℕ) → smallest-in-lts.Need-returns-4 (
 ) (smallest-in-at t) smallest-in.Post
 smallest-in-returns-4 t c =
     let s = c .before .before .before .before .before .before in
-    turn-here (taken (s .args .caps .now) (s .args .periods .now) (s .args .k)) (taken-grows _ _ _) _ _ _ _ _ (s .pre .1 .1) (s .args .lo) (s .args .lo + (s .args .hi - s .args .lo) / 2) (s .args .hi) (s .pre .1 .0 .1 .0) (omega arith) (omega arith)
+    turn-here (guestsTake (s .args .caps .now) (s .args .periods .now) (s .args .k)) (take-grows _ _ _) _ _ _ _ _ (s .pre .1 .1) (s .args .lo) (s .args .lo + (s .args .hi - s .args .lo) / 2) (s .args .hi) (s .pre .1 .0 .1 .0) (omega arith) (omega arith)
     (c .before .before .before .before .try-at .ensures) (c .before .before .enum-told3 .given .1) (c .before .smallest-in3 .ensures) (c .or-at .ensures)
 
 pub +smallest-in-spec : {M : Type 1} → statement M

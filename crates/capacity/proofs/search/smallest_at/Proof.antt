@@ -4,7 +4,7 @@ use native.Mathlib.Omega.{arith}
 use borrow.Author.Needs.{needs}
 use borrow.Author.Tests.{not-true, not-false}
 use Rattle.plan.specs.Charge.{chargedRun}
-use Rattle.response.specs.Columns.{taken}
+use Rattle.response.specs.Columns.{guestsTake}
 use Rattle.capacity.proofs.Trial.{works-is, above-unfit, above-fitted}
 use Rattle.capacity.proofs.search.smallest_at.Statement.{statement}
 use Rattle.capacity.proofs.search.smallest_at.Tie as tie
@@ -36,7 +36,7 @@ returns-2 c =
     let filled = c .before .before .before .before in
     let test = filled .before in
     let g = test .before .before .before .before .before .args .g in
-    above-fitted _ (sym (test .before .all-fitted .ensures) ∙ not-false _ (test .if1 .left)) (works-is (taken _ _ _) g _ (filled .charged-of .ensures)) (c .smallest-in .ensures)
+    above-fitted _ (sym (test .before .all-fitted .ensures) ∙ not-false _ (test .if1 .left)) (works-is (guestsTake _ _ _) g _ (filled .charged-of .ensures)) (c .smallest-in .ensures)
 
 pub smallest-at-spec : {M : Type 1} → statement M
 smallest-at-spec =

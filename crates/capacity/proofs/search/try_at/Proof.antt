@@ -2,7 +2,7 @@
 use mathlib.Core.Path.{refl, sym, _∙_}
 use borrow.Author.Needs.{needs}
 use borrow.Author.Tests.{not-true, not-false}
-use Rattle.response.specs.Columns.{taken}
+use Rattle.response.specs.Columns.{guestsTake}
 use Rattle.capacity.specs.Trial.{fitsAt, trialBy}
 use Rattle.response.proofs.Columns.{test-is}
 use Rattle.capacity.proofs.Trial.{trial-is}
@@ -18,7 +18,7 @@ is-at-requires c κs = search needs
 returns : tie.Need-returns
 unfolding trialBy fitsAt
 returns c =
-    trial-is (taken _ _ _) _ _ _ _ _ _ (test-is (c .before .before .guest-response .ensures) (c .before .is-at .ensures) (not-true _ (c .if1 .taken))) refl
+    trial-is (guestsTake _ _ _) _ _ _ _ _ _ (test-is (c .before .before .guest-response .ensures) (c .before .is-at .ensures) (not-true _ (c .if1 .taken))) refl
 
 all-met-requires : tie.Need-all-met-requires
 all-met-requires c κs =
@@ -30,14 +30,14 @@ returns-2 : tie.Need-returns-2
 unfolding trialBy fitsAt
 returns-2 c =
     let test = c .before .before in
-    trial-is (taken _ _ _) _ _ _ _ _ _ (test-is (test .before .before .guest-response .ensures) (test .before .is-at .ensures) (not-false _ (test .if1 .left)))
+    trial-is (guestsTake _ _ _) _ _ _ _ _ _ (test-is (test .before .before .guest-response .ensures) (test .before .is-at .ensures) (not-false _ (test .if1 .left)))
     (sym (c .before .all-met .ensures) ∙ c .if2 .taken)
 
 returns-3 : tie.Need-returns-3
 unfolding trialBy fitsAt
 returns-3 c =
     let test = c .before .before in
-    trial-is (taken _ _ _) _ _ _ _ _ _ (test-is (test .before .before .guest-response .ensures) (test .before .is-at .ensures) (not-false _ (test .if1 .left)))
+    trial-is (guestsTake _ _ _) _ _ _ _ _ _ (test-is (test .before .before .guest-response .ensures) (test .before .is-at .ensures) (not-false _ (test .if1 .left)))
     (sym (c .before .all-met .ensures) ∙ c .if2 .left)
 
 pub try-at-spec : {M : Type 1} → statement M

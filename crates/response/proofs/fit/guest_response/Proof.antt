@@ -2,19 +2,19 @@
 use Prim.Native.Nat.{_-_}
 use native.Mathlib.Omega.{arith}
 use borrow.Author.Needs.{needs}
-use Rattle.response.specs.Columns.{taken}
-use Rattle.response.proofs.Guest.{taken-grows, GuestInv, guest-start, guest-turn, guest-found, guest-none}
+use Rattle.response.specs.Columns.{guestsTake}
+use Rattle.response.proofs.Guest.{take-grows, GuestInv, guest-start, guest-turn, guest-found, guest-none}
 use Rattle.response.proofs.fit.guest_response.Statement.{statement}
 use Rattle.response.proofs.fit.guest_response.Tie as tie
 
 abbrev Inv-loop : tie.InvT-loop
-Inv-loop capacities periods n capacity period x₀ x = GuestInv (taken capacities periods n) capacity period x
+Inv-loop capacities periods n capacity period x₀ x = GuestInv (guestsTake capacities periods n) capacity period x
 
 abbrev μ-loop : tie.MeasureT-loop
 μ-loop capacities periods n capacity period x₀ x = period - x
 
 loop-holds : tie.Need-loop-holds Inv-loop μ-loop
-loop-holds c = guest-start (taken-grows _ _ _) (c .pre .1 .0) (c .pre .1 .1) (omega arith)
+loop-holds c = guest-start (take-grows _ _ _) (c .pre .1 .0) (c .pre .1 .1) (omega arith)
 
 guest-right-requires : tie.Need-guest-right-requires Inv-loop μ-loop
 guest-right-requires c κs = search needs

@@ -1,7 +1,7 @@
 -- `verdict::fit::guest_right` meets its contract: the sum of what its two leaves ensure. Assumes nothing.
 use native.Mathlib.Omega.{arith}
 use borrow.Author.Needs.{needs}
-use Rattle.response.specs.Columns.{taken}
+use Rattle.response.specs.Columns.{guestsTake}
 use Rattle.response.proofs.fit.guest_right.Statement.{statement}
 use Rattle.response.proofs.fit.guest_right.Tie as tie
 
@@ -15,7 +15,7 @@ add-result : tie.Need-add-result
 add-result c = search needs
 
 returns : tie.Need-returns
-unfolding taken
+unfolding guestsTake
 returns c = omega arith
 
 pub guest-right-spec : {M : Type 1} → statement M

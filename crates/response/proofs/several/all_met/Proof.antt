@@ -5,7 +5,7 @@ use Prim.Native.Nat.{_≤_, _-_}
 use native.Mathlib.Omega.{arith}
 use borrow.Author.Needs.{needs}
 use borrow.Author.Tests.{not-true, not-false}
-use Rattle.response.specs.Columns.{taken, metUnder}
+use Rattle.response.specs.Columns.{guestsTake, metUnder}
 use Rattle.lists.proofs.All.{all-none, all-next, all-fails, all-done}
 use Rattle.response.proofs.Columns.{test-is}
 use Rattle.response.proofs.several.all_met.Statement.{statement}
@@ -13,7 +13,7 @@ use Rattle.response.proofs.several.all_met.Tie as tie
 
 abbrev Inv-loop : tie.InvT-loop
 Inv-loop capacities periods k capacity period run every deadline tasks i₀ i =
-    (i ≤ tasks) × (metUnder (taken capacities periods k) capacity period run every deadline i ≡ true)
+    (i ≤ tasks) × (metUnder (guestsTake capacities periods k) capacity period run every deadline i ≡ true)
 
 abbrev μ-loop : tie.MeasureT-loop
 μ-loop capacities periods k capacity period run every deadline tasks i₀ i = tasks - i

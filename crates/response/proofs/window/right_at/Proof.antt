@@ -1,7 +1,7 @@
 -- `verdict::window::right_at` meets its contract: the parts of the equation, each as its leaf ensures it. Assumes nothing.
 use borrow.Author.Needs.{needs}
-use Rattle.response.specs.Columns.{taken}
-use Rattle.response.proofs.Guest.{taken-by}
+use Rattle.response.specs.Columns.{guestsTake}
+use Rattle.response.proofs.Guest.{take-cut}
 use Rattle.response.proofs.Task.{right-by}
 use Rattle.response.proofs.window.right_at.Statement.{statement}
 use Rattle.response.proofs.window.right_at.Tie as tie
@@ -37,7 +37,7 @@ capped-requires : tie.Need-capped-requires
 capped-requires c κs = search needs
 
 returns : tie.Need-returns
-returns c = let s = c .before .before .before .before in right-by (taken _ _ _) _ _ _ _ (s .before .before .whole-of .ensures .0) (s .before .times .ensures .0) (s .rest-of .ensures) (c .before .before .before .wide .ensures .0) (c .before .before .times2 .ensures .0) (taken-by _ _ _ _ (c .before .asked-of .ensures)) (c .capped .ensures)
+returns c = let s = c .before .before .before .before in right-by (guestsTake _ _ _) _ _ _ _ (s .before .before .whole-of .ensures .0) (s .before .times .ensures .0) (s .rest-of .ensures) (c .before .before .before .wide .ensures .0) (c .before .before .times2 .ensures .0) (take-cut _ _ _ _ (c .before .asked-of .ensures)) (c .capped .ensures)
 
 pub right-at-spec : {M : Type 1} → statement M
 right-at-spec =

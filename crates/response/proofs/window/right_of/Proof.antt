@@ -1,6 +1,6 @@
 -- `verdict::window::right_of` meets its contract: a load past the cut is past it with all that is added to it. Assumes nothing.
 use borrow.Author.Needs.{needs}
-use Rattle.response.specs.Columns.{taken}
+use Rattle.response.specs.Columns.{guestsTake}
 use Rattle.response.proofs.Task.{right-large, right-small, load-pos}
 use Rattle.response.proofs.window.right_of.Statement.{statement}
 use Rattle.response.proofs.window.right_of.Tie as tie
@@ -15,7 +15,7 @@ load-in-requires : tie.Need-load-in-requires
 load-in-requires c κs = search needs
 
 returns : tie.Need-returns
-returns c = right-large (taken _ _ _) _ _ _ _ _ _ _ (c .before .load-in .ensures) (c .if1 .taken)
+returns c = right-large (guestsTake _ _ _) _ _ _ _ _ _ _ (c .before .load-in .ensures) (c .if1 .taken)
 
 cast-right-at : tie.Need-cast-right-at
 cast-right-at c = search needs
@@ -24,7 +24,7 @@ right-at-requires : tie.Need-right-at-requires
 right-at-requires c κs = let a = c .before .before in (a .pre .0 .0 .0, (a .pre .0 .1 .0, (a .pre .0 .1 .1 .0, load-pos _ _ _ _ _ (a .pre .0 .1 .1 .1) (c .before .load-in .ensures))))
 
 returns-2 : tie.Need-returns-2
-returns-2 c = right-small (taken _ _ _) _ _ _ _ _ _ _ _ (c .before .before .load-in .ensures) (c .before .if1 .left) (c .right-at .ensures)
+returns-2 c = right-small (guestsTake _ _ _) _ _ _ _ _ _ _ _ (c .before .before .load-in .ensures) (c .before .if1 .left) (c .right-at .ensures)
 
 pub right-of-spec : {M : Type 1} → statement M
 right-of-spec =

@@ -4,15 +4,15 @@ use Prim.Native.Nat.{_-_}
 use native.Mathlib.Omega.{arith}
 use borrow.Author.Needs.{needs}
 use Rattle.response.specs.Task.{later}
-use Rattle.response.specs.Columns.{taken, equationOf, taskUnder}
-use Rattle.response.proofs.Guest.{taken-grows}
-use Rattle.response.proofs.Task.{sound, TaskInv, task-start, task-turn, task-at, task-none, task-late}
+use Rattle.response.specs.Columns.{guestsTake, equationOf, taskUnder}
+use Rattle.response.proofs.Guest.{take-grows}
+use Rattle.response.proofs.Task.{regular, TaskInv, task-start, task-turn, task-at, task-none, task-late}
 use Rattle.response.proofs.window.task_response.Statement.{statement}
 use Rattle.response.proofs.window.task_response.Tie as tie
 
 abbrev Inv-loop : tie.InvT-loop
 Inv-loop capacities periods n capacity period run every i deadline gap limit w₀ w =
-    TaskInv (equationOf (taken capacities periods n) capacity period run every i) limit w
+    TaskInv (equationOf (guestsTake capacities periods n) capacity period run every i) limit w
 
 abbrev μ-loop : tie.MeasureT-loop
 μ-loop capacities periods n capacity period run every i deadline gap limit w₀ w = limit - w
@@ -21,13 +21,13 @@ sub-gap : tie.Need-sub-gap Inv-loop μ-loop
 sub-gap c = search needs
 
 returns : tie.Need-returns Inv-loop μ-loop
-returns c = task-late (taken _ _ _) _ _ _ _ _ _ (c .if1 .taken)
+returns c = task-late (guestsTake _ _ _) _ _ _ _ _ _ (c .if1 .taken)
 
 sub-limit : tie.Need-sub-limit Inv-loop μ-loop
 sub-limit c = search needs
 
 loop-holds : tie.Need-loop-holds Inv-loop μ-loop
-loop-holds c = task-start (sound (taken _ _ _) (taken-grows _ _ _) _ _ _ _ _ (c .before .pre .1) .1) (omega arith) (omega arith)
+loop-holds c = task-start (regular (guestsTake _ _ _) (take-grows _ _ _) _ _ _ _ _ (c .before .pre .1) .1) (omega arith) (omega arith)
 
 right-of-requires : tie.Need-right-of-requires Inv-loop μ-loop
 right-of-requires c κs = let s = c .before .before in ((s .pre .0, (s .pre .1 .some, (s .pre .1 .within, s .pre .1 .runs))), omega (arith, c .loop .inv .high))

@@ -7,13 +7,13 @@ use borrow.Author.Needs.{needs}
 use borrow.Author.Tests.{not-true, not-false}
 use Rattle.lists.specs.All.{allTo}
 use Rattle.plan.specs.Records.{guestAt}
-use Rattle.response.specs.Columns.{taken, acceptedUnder}
+use Rattle.response.specs.Columns.{guestsTake, acceptedUnder}
 use Rattle.lists.proofs.All.{all-none, all-next, all-fails, all-done}
 use Rattle.verdict.proofs.judge.all_accepted.Statement.{statement}
 use Rattle.verdict.proofs.judge.all_accepted.Tie as tie
 
 abbrev Inv-loop : tie.InvT-loop
-Inv-loop capacities periods guests n k₀ k = (k ≤ n) × (allTo (λ j. acceptedUnder (taken capacities periods j) (guestAt guests j)) k ≡ true)
+Inv-loop capacities periods guests n k₀ k = (k ≤ n) × (allTo (λ j. acceptedUnder (guestsTake capacities periods j) (guestAt guests j)) k ≡ true)
 
 abbrev μ-loop : tie.MeasureT-loop
 μ-loop capacities periods guests n k₀ k = n - k

@@ -3,7 +3,7 @@ use mathlib.Core.Path.{_∙_}
 use native.Mathlib.Omega.{arith}
 use borrow.Author.Needs.{needs}
 use borrow.Author.Tests.{not-true, not-false}
-use Rattle.response.specs.Columns.{taken}
+use Rattle.response.specs.Columns.{guestsTake}
 use Rattle.response.proofs.Columns.{test-is}
 use Rattle.response.proofs.Ready.{sure-ranged, sure-ready, met-is, accepted-unfit, accepted-fit}
 use Rattle.verdict.proofs.judge.guest_accepted.Statement.{statement}
@@ -21,7 +21,7 @@ is-at-requires : tie.Need-is-at-requires
 is-at-requires c κs = search needs
 
 returns : tie.Need-returns
-returns c = accepted-unfit (taken _ _ _) _ (test-is (c .before .before .guest-response .ensures) (c .before .is-at .ensures) (not-true _ (c .if1 .taken)))
+returns c = accepted-unfit (guestsTake _ _ _) _ (test-is (c .before .before .guest-response .ensures) (c .before .is-at .ensures) (not-true _ (c .if1 .taken)))
 
 charged-of-requires : tie.Need-charged-of-requires
 charged-of-requires c κs = c .before .before .before .before .before .before .pre .runs
@@ -39,8 +39,8 @@ returns-2 : tie.Need-returns-2
 returns-2 c =
     let filled = c .before .before .before .before in
     let test = filled .before in
-    accepted-fit (taken _ _ _) _ (test-is (test .before .before .guest-response .ensures) (test .before .is-at .ensures) (not-false _ (test .if1 .left)))
-    (c .all-met .ensures ∙ met-is (taken _ _ _) _ _ (filled .charged-of .ensures))
+    accepted-fit (guestsTake _ _ _) _ (test-is (test .before .before .guest-response .ensures) (test .before .is-at .ensures) (not-false _ (test .if1 .left)))
+    (c .all-met .ensures ∙ met-is (guestsTake _ _ _) _ _ (filled .charged-of .ensures))
 
 pub guest-accepted-spec : {M : Type 1} → statement M
 guest-accepted-spec =

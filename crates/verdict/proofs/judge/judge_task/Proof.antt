@@ -3,7 +3,7 @@ use mathlib.Core.Path.{sym, _∙_}
 use native.Mathlib.Omega.{arith}
 use borrow.Author.Needs.{needs}
 use borrow.Author.Tests.{not-true, not-false}
-use Rattle.response.specs.Columns.{taken}
+use Rattle.response.specs.Columns.{guestsTake}
 use Rattle.response.proofs.Columns.{task-is}
 use Rattle.response.proofs.Ready.{sure-fits, sure-ready}
 use Rattle.verdict.proofs.Verdict.{says-unjudged, says-judged}
@@ -48,7 +48,7 @@ returns-2 c =
     let test = filled .before in
     let s = test .before .before .before .before .pre in
     says-judged (sym (test .before .all-fitted .ensures) ∙ not-false _ (test .if1 .left)) (c .met-or-not .ensures)
-    (c .before .task-response .ensures ∙ task-is (taken _ _ _) _ _ _ _ (s .1) (filled .charged-of .ensures))
+    (c .before .task-response .ensures ∙ task-is (guestsTake _ _ _) _ _ _ _ (s .1) (filled .charged-of .ensures))
 
 pub judge-task-spec : {M : Type 1} → statement M
 judge-task-spec =
