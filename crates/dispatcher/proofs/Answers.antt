@@ -16,15 +16,16 @@ use Rattle.plan.specs.Records.{guestAt, deadlineOf}
 use Rattle.dispatcher.specs.declared.Dispatcher.{Dispatcher}
 use Rattle.dispatcher.specs.declared.Turn.{Turn}
 use Rattle.dispatcher.specs.declared.Answer.the-variants.{Nobody, Idled, Worked, Finished}
-use Rattle.dispatcher.specs.State.{placeAt, guestIn, restAt}
+use Rattle.arrays.specs.Place.{placeAt}
+use Rattle.dispatcher.specs.State.{guestIn, restAt}
 use Rattle.dispatcher.specs.Tick.{holder, isHeld, worker, isWorked, ageAfter}
 use Rattle.dispatcher.specs.Answer.{marginOf, answerBy, answer, finishes}
 use Rattle.dispatcher.specs.Lent.{turnBy, turn, Telling, Ending}
+use Rattle.arrays.specs.Parts.{grown, hasRun}
 use Rattle.lists.proofs.All.{and-right}
 use Rattle.lists.proofs.Places.{upTo-at, upTo-length}
 use Rattle.lists.proofs.Search.{first-found}
 use Rattle.plan.proofs.Order.{plan-in}
-use Rattle.dispatcher.proofs.Tick.{grown, hasRun}
 
 -- the guest's place is noted in any case
 turn-guest : (b : Bool) (d : Dispatcher) → turnBy b d .guest ≡ holder d

@@ -3,12 +3,11 @@ use mathlib.Core.Path.{_≡_, refl, ap, sym, subst, _∙_}
 use mathlib.Core.Logic.{⊎-elim}
 use mathlib.Core.Bool.{Bool, true, false, _&&_}
 use mathlib.Core.List.{List}
-use Prim.Native.Nat.{ℕ, zero, suc, _-_, _*_, _/_, _%_, _≤_, _<_}
-use native.Mathlib.Decide.{decLe}
+use Prim.Native.Nat.{ℕ, _-_, _*_, _/_, _%_, _≤_, _<_}
 use native.Mathlib.Omega.{arith}
 use lib.Dec.{ltb, eqb}
 use lib.ListN.{set}
-use lib.Seq.{getD-set-other, set-getD}
+use lib.Seq.{getD-set-other}
 use borrow.Author.Tests.{lt-ltb, le-ltb, ltb-true, eqb-true}
 use Rattle.lists.specs.Places.{nth, upTo}
 use Rattle.lists.specs.Search.{firstFrom}
@@ -18,15 +17,17 @@ use Rattle.plan.specs.Order.{planRefusal}
 use Rattle.dispatcher.specs.declared.Dispatcher.{Dispatcher}
 use Rattle.dispatcher.specs.declared.Checked.{Checked}
 use Rattle.dispatcher.specs.declared.Turn.{Turn}
-use Rattle.dispatcher.specs.State.{placeAt}
+use Rattle.arrays.specs.Place.{placeAt}
 use Rattle.dispatcher.specs.Tick.{lessAt, refilled, holder, isHeld, leftAfter, worker, isWorked, restAfter, ageAfter, waitAfter, positionAfter, next}
-use Rattle.dispatcher.specs.Valid.{noJob, guestInRange, taskInRange, rowOk, stateOk}
-use Rattle.dispatcher.specs.Lent.{stateOf, blankAt, ColumnsIn, Small, Columned, Quiet, Telling, Ending, Refilled, Served, Stepped, turnBy, turn}
+use Rattle.arrays.specs.Ranges.{noJob}
+use Rattle.dispatcher.specs.Valid.{guestInRange, taskInRange, rowOk, stateOk}
+use Rattle.arrays.specs.Rows.{blankAt}
+use Rattle.dispatcher.specs.Lent.{stateOf, ColumnsIn, Small, Columned, Quiet, Telling, Ending, Refilled, Served, Stepped, turnBy, turn}
+use Rattle.arrays.specs.Parts.{full, onward, grown, fallen, hasLeft, hasRun}
 use Rattle.lists.proofs.All.{and-left, and-right, and-true, and-false-right, all-at}
-use Rattle.lists.proofs.Places.{upTo-rest, upTo-get}
+use Rattle.lists.proofs.Places.{upTo-get, upTo-ext, upTo-short}
 use Rattle.lists.proofs.Search.{first-found}
 use Rattle.plan.proofs.Order.{plan-in}
-use Rattle.dispatcher.proofs.Tick.{full, onward, grown, fallen, hasLeft, hasRun}
 use Rattle.dispatcher.proofs.Pass.{past-task-is}
 
 -- the guest that was found has capacity left
@@ -108,24 +109,6 @@ module _ {d : Dispatcher} {n : ℕ} {tasks left rest : List ℕ} (l : Refilled d
         runs = rw (busy, l .runs, ← holder-is, ← worker-is) refl;
         had = rw (held, busy, l .runs, ← holder-is, ← worker-is) refl;
       }
-
--- changes that agree on the first n places
-upTo-ext : (f g : ℕ → ℕ → ℕ) (n : ℕ) (l : List ℕ) → ((k x : ℕ) → k < n → f k x ≡ g k x) → upTo f n l ≡ upTo g n l
-unfolding upTo
-upTo-ext f g zero l h = refl
-upTo-ext f g (suc n) l h = rw (upTo-ext f g n l (λ k x b. h k x (omega arith)), h n (nth l n) (omega arith)) refl
-
--- places from m on that a change leaves as they are need not be passed
-upTo-short : (f : ℕ → ℕ → ℕ) (m n : ℕ) (l : List ℕ) → m ≤ n → ((k : ℕ) → m ≤ k → k < n → f k (nth l k) ≡ nth l k) → upTo f n l ≡ upTo f m l
-unfolding upTo
-upTo-short f m zero l p h = let e : m ≡ 0 = omega arith in rw e refl
-upTo-short f m (suc n) l p h =
-    elim (decLe m n) [
-      | yes q ↦
-          rw (h n q (omega arith), ← upTo-rest f n l n (omega arith)) (set-getD (upTo f n l) n 0)
-          ∙ upTo-short f m n l q (λ k a b. h k a (omega arith))
-      | no q ↦ let e : m ≡ suc n = omega arith in rw e refl
-    ]
 
 module _ {n : ℕ} {rest wait : List ℕ} (few : n ≤ 8) (z : Quiet n rest wait) where
   -- no wait falls past the guests

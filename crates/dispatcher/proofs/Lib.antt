@@ -1,6 +1,5 @@
 -- Laws, each file named after the definition that it is about.
 pub mod Valid
-pub mod Tick
 pub mod Pass
 pub mod Lent
 pub mod Fresh

@@ -20,8 +20,10 @@ use Rattle.plan.specs.Filled.{Filled}
 use Rattle.dispatcher.specs.declared.Dispatcher.{Dispatcher}
 use Rattle.dispatcher.specs.declared.Checked.{Checked}
 use Rattle.dispatcher.specs.State.{guestIn}
-use Rattle.dispatcher.specs.Valid.{serverOk, noServer, tasksIn, guestInRange, taskInRange, rowOk, stateOk}
-use Rattle.dispatcher.specs.Lent.{Examines, placeOk, blankAt, guestIsOk, rowIsBlank, guestGoes, ColumnsIn}
+use Rattle.arrays.specs.Ranges.{serverOk, noServer}
+use Rattle.dispatcher.specs.Valid.{tasksIn, guestInRange, taskInRange, rowOk, stateOk}
+use Rattle.arrays.specs.Rows.{jobIn, blankAt, guestIsOk, rowIsBlank}
+use Rattle.dispatcher.specs.Lent.{Examines, guestGoes, ColumnsIn}
 use Rattle.lists.proofs.All.{and-left, and-right, and-true, all-turn, all-by, all-at, all-ext}
 use Rattle.lists.proofs.Refusals.{passed}
 use Rattle.plan.proofs.First.{first-none}
@@ -91,7 +93,7 @@ module _ (n : ℕ) (left position rest wait age : List ℕ) where
 
 module _ (d : Dispatcher) (k : ℕ) where
   -- a task's test, or that of a place past the tasks of a guest
-  task-is : k < d .plan .count → (t : ℕ) → placeOk (d .rest) (d .wait) (d .age) (guestIn d k .run) (guestIn d k .every) (guestIn d k .charge) k (guestIn d k .tasks) t ≡ taskInRange d k t
+  task-is : k < d .plan .count → (t : ℕ) → jobIn (d .rest) (d .wait) (d .age) (guestIn d k .run) (guestIn d k .every) (guestIn d k .charge) k (guestIn d k .tasks) t ≡ taskInRange d k t
   unfolding taskInRange tasksIn
   task-is h t = rw (lt-ltb k (d .plan .count) h) refl
 

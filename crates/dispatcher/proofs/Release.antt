@@ -22,7 +22,8 @@ use Rattle.dispatcher.specs.declared.Dispatcher.{Dispatcher}
 use Rattle.dispatcher.specs.declared.Released.{Released}
 use Rattle.dispatcher.specs.declared.Checked.{Checked}
 use Rattle.dispatcher.specs.declared.Aim.{Aim}
-use Rattle.dispatcher.specs.State.{placeAt, guestIn}
+use Rattle.arrays.specs.Place.{placeAt}
+use Rattle.dispatcher.specs.State.{guestIn}
 use Rattle.dispatcher.specs.Valid.{stateOk}
 use Rattle.dispatcher.specs.Release.{taken, releaseNumber, releasedBy, release}
 use Rattle.dispatcher.specs.Lent.{ColumnsIn, Taking, takeNumber, AimsAt, Aims}
@@ -31,7 +32,7 @@ use Rattle.lists.proofs.Refusals.{none-left, go-on, stop, passed}
 use Rattle.lists.proofs.Search.{first-ext}
 use Rattle.plan.proofs.First.{first-none}
 use Rattle.plan.proofs.Order.{counted, plan-in}
-use Rattle.dispatcher.proofs.Valid.{runs-small}
+use Rattle.arrays.proofs.Rows.{runs-small}
 use Rattle.plan.proofs.Ranges.{head-says}
 
 -- a guest in its ranges has at most 16 tasks

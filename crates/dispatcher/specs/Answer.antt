@@ -8,7 +8,8 @@ use Rattle.plan.specs.Records.{deadlineOf}
 use Rattle.dispatcher.specs.declared.Dispatcher.{Dispatcher}
 use Rattle.dispatcher.specs.declared.Answer.{Answer}
 use Rattle.dispatcher.specs.declared.Answer.the-variants.{Silent, Nobody, Idled, Worked, Finished}
-use Rattle.dispatcher.specs.State.{placeAt, guestIn, restAt}
+use Rattle.arrays.specs.Place.{placeAt}
+use Rattle.dispatcher.specs.State.{guestIn, restAt}
 use Rattle.dispatcher.specs.Tick.{holder, isHeld, worker, isWorked, ageAfter}
 
 -- the deadline less the age, negative when late

@@ -3,16 +3,15 @@ use mathlib.Core.Path.{_≡_}
 use mathlib.Core.Bool.{Bool, true, false, _&&_}
 use mathlib.Core.List.{List, [], _∷_}
 use Prim.Native.Nat.{ℕ, zero, suc, _-_, _*_, _≤_, _<_}
-use lib.Dec.{ltb, eqb}
+use lib.Dec.{eqb}
 use Rattle.lists.specs.Choice.{pick}
 use Rattle.lists.specs.Places.{nth}
-use Rattle.lists.specs.All.{allTo}
 use Rattle.lists.specs.Refusals.{refusal, _orRefuse_}
 use Rattle.plan.specs.declared.Guest.{Guest}
 use Rattle.plan.specs.declared.Plan.{Plan}
 use Rattle.plan.specs.Records.{guestAt, everyOf}
-use Rattle.plan.specs.Ranges.{mostTasks, within, guestOk, tasksOk}
-use Rattle.plan.specs.Charge.{chargedRun, charged}
+use Rattle.plan.specs.Ranges.{within}
+use Rattle.plan.specs.Charge.{charged}
 use Rattle.plan.specs.Order.{newId, planRefusal}
 use Rattle.plan.specs.Place.{placeOf}
 use Rattle.plan.specs.Filled.{Filled}
@@ -22,8 +21,10 @@ use Rattle.dispatcher.specs.declared.Answer.{Answer}
 use Rattle.dispatcher.specs.declared.Answer.the-variants.{Silent}
 use Rattle.dispatcher.specs.declared.Checked.{Checked}
 use Rattle.dispatcher.specs.declared.Turn.{Turn}
-use Rattle.dispatcher.specs.State.{placeAt, guestIn, restAt}
-use Rattle.dispatcher.specs.Valid.{serverOk, noServer, jobOk, noJob, stateOk}
+use Rattle.arrays.specs.Place.{placeAt}
+use Rattle.arrays.specs.Rows.{guestIsOk}
+use Rattle.dispatcher.specs.State.{guestIn, restAt}
+use Rattle.dispatcher.specs.Valid.{stateOk}
 use Rattle.dispatcher.specs.Release.{releaseNumber}
 use Rattle.dispatcher.specs.Tick.{refilled, holder, isHeld, leftAfter, worker, isWorked, restAfter, ageAfter, next}
 use Rattle.dispatcher.specs.Answer.{answer}
@@ -32,27 +33,6 @@ use Rattle.dispatcher.specs.Run.{ranTo, runOf}
 -- the state of a plan with these arrays
 abbrev pub stateOf : Plan → (left position rest wait age : List ℕ) → Dispatcher
 stateOf p left position rest wait age = record { plan = p; left = left; position = position; rest = rest; wait = wait; age = age }
-
--- the three numbers of place t of guest k, of which `many` are tasks
-abbrev pub placeOk : (rest wait age run every : List ℕ) (charge k many t : ℕ) → Bool
-placeOk rest wait age run every charge k many t =
-    pick (ltb t many)
-    (jobOk (chargedRun (nth run t) charge) (nth every t) (nth rest (placeAt k t)) (nth wait (placeAt k t)) (nth age (placeAt k t)))
-    (noJob (nth rest (placeAt k t)) (nth wait (placeAt k t)) (nth age (placeAt k t)))
-
--- the three numbers of place t of row k, past the guests
-abbrev pub blankAt : (rest wait age : List ℕ) (k t : ℕ) → Bool
-blankAt rest wait age k t = noJob (nth rest (placeAt k t)) (nth wait (placeAt k t)) (nth age (placeAt k t))
-
--- guest g at place k: its record, its two numbers and those of its 16 places
-unfoldable pub guestIsOk : Guest → (k left position : ℕ) (rest wait age : List ℕ) → Bool
-guestIsOk g k left position rest wait age =
-    (guestOk g && tasksOk g)
-    && (serverOk (g .capacity) (g .period) left position && allTo (placeOk rest wait age (g .run) (g .every) (g .charge) k (g .tasks)) mostTasks)
-
--- row k, past the guests
-unfoldable pub rowIsBlank : (k left position : ℕ) (rest wait age : List ℕ) → Bool
-rowIsBlank k left position rest wait age = noServer left position && allTo (blankAt rest wait age k) mostTasks
 
 -- guest k of a state: its id is new, and it is in its ranges
 abbrev pub guestGoes : Dispatcher → ℕ → Bool

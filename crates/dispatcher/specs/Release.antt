@@ -11,7 +11,8 @@ use Rattle.plan.specs.First.{refused, fine}
 use Rattle.plan.specs.Place.{placeOf}
 use Rattle.dispatcher.specs.declared.Dispatcher.{Dispatcher}
 use Rattle.dispatcher.specs.declared.Released.{Released}
-use Rattle.dispatcher.specs.State.{placeAt, guestIn, restAt, waitAt}
+use Rattle.arrays.specs.Place.{placeAt}
+use Rattle.dispatcher.specs.State.{guestIn, restAt, waitAt}
 use Rattle.dispatcher.specs.Valid.{stateOk}
 
 -- a taken release of task t of guest k: run left is the charged run, wait the task's period, age 0

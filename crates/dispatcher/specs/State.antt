@@ -1,13 +1,10 @@
 -- The state seen guest by guest and task by task.
-use Prim.Native.Nat.{ℕ, _+_, _*_}
+use Prim.Native.Nat.{ℕ}
 use Rattle.lists.specs.Places.{nth}
 use Rattle.plan.specs.declared.Guest.{Guest}
 use Rattle.plan.specs.Records.{guestAt}
+use Rattle.arrays.specs.Place.{placeAt}
 use Rattle.dispatcher.specs.declared.Dispatcher.{Dispatcher}
-
--- where task t of guest k stands in the flat arrays
-abbrev pub placeAt : ℕ → ℕ → ℕ
-placeAt k t = k * 16 + t
 
 -- guest k
 abbrev pub guestIn : Dispatcher → ℕ → Guest

@@ -9,7 +9,8 @@ use Rattle.lists.specs.Places.{nth, upTo}
 use Rattle.lists.specs.Search.{firstFrom}
 use Rattle.plan.specs.Ranges.{longest}
 use Rattle.dispatcher.specs.declared.Dispatcher.{Dispatcher}
-use Rattle.dispatcher.specs.State.{placeAt, guestIn, restAt}
+use Rattle.arrays.specs.Place.{placeAt}
+use Rattle.dispatcher.specs.State.{guestIn, restAt}
 
 -- one less at place k, where the test holds
 unfoldable pub lessAt : Bool → List ℕ → ℕ → List ℕ

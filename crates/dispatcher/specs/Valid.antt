@@ -1,32 +1,17 @@
 -- Refusal 14: a state whose plan fails the records' order, or with a number outside its range, or with anything but 0 past its guests and tasks.
 use mathlib.Core.Bool.{Bool, _&&_}
 use Prim.Native.Nat.{ℕ}
-use lib.Dec.{leb, ltb, eqb}
+use lib.Dec.{ltb, eqb}
 use Rattle.lists.specs.Choice.{pick}
 use Rattle.lists.specs.Places.{nth}
 use Rattle.lists.specs.All.{allTo}
 use Rattle.plan.specs.Records.{everyOf}
-use Rattle.plan.specs.Ranges.{mostGuests, mostTasks, longest}
+use Rattle.plan.specs.Ranges.{mostGuests, mostTasks}
 use Rattle.plan.specs.Charge.{charged}
 use Rattle.plan.specs.Order.{planRefusal}
+use Rattle.arrays.specs.Ranges.{serverOk, noServer, jobOk, noJob}
 use Rattle.dispatcher.specs.declared.Dispatcher.{Dispatcher}
 use Rattle.dispatcher.specs.State.{guestIn, restAt, waitAt, ageAt}
-
--- capacity left 0 to C, position 0 to T - 1
-abbrev pub serverOk : (capacity period left position : ℕ) → Bool
-serverOk capacity period left position = leb left capacity && ltb position period
-
--- both 0
-abbrev pub noServer : (left position : ℕ) → Bool
-noServer left position = eqb left 0 && eqb position 0
-
--- run left at most the charged run, wait at most the period, age at most 1,000,000
-abbrev pub jobOk : (full every rest wait age : ℕ) → Bool
-jobOk full every rest wait age = leb rest full && leb wait every && leb age longest
-
--- all three 0
-abbrev pub noJob : (rest wait age : ℕ) → Bool
-noJob rest wait age = eqb rest 0 && eqb wait 0 && eqb age 0
 
 -- how many tasks guest k has; none past the guests
 unfoldable pub tasksIn : Dispatcher → ℕ → ℕ

@@ -7,10 +7,11 @@ ghost use Rattle.lists.specs.Choice.{pick};
 ghost use Rattle.lists.specs.Places.{nth};
 ghost use Rattle.lists.specs.All.{allTo};
 ghost use Rattle.plan.specs.Ranges.{mostGuests};
-ghost use Rattle.dispatcher.specs.Lent.{stateOf, rowIsBlank, guestGoes, ColumnsIn, Examines};
+ghost use Rattle.arrays.specs.Rows.{rowIsBlank};
+ghost use Rattle.dispatcher.specs.Lent.{stateOf, guestGoes, ColumnsIn, Examines};
 use crate::Checked;
-use crate::ranges::blank_ok;
-use crate::ranges::guest_ok;
+use arrays::blank_ok;
+use arrays::guest_ok;
 use plan::Plan;
 
 // The plan's guests, place by place, and their columns.

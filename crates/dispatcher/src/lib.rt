@@ -1,9 +1,6 @@
 // The dispatcher: its state by value, and the calls that take it and give it back.
 mod examine;
-mod jobs;
-mod ranges;
 mod running;
-mod server;
 mod start;
 mod step;
 mod taking;

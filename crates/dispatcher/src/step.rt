@@ -6,12 +6,12 @@ ghost use Rattle.dispatcher.specs.declared.Dispatcher.{Dispatcher};
 ghost use Rattle.dispatcher.specs.Tick.{next};
 ghost use Rattle.dispatcher.specs.Lent.{stateOf, Small, Columned, Quiet, Refilled, Served, Stepped};
 use crate::Turn;
-use crate::jobs::fall;
-use crate::jobs::grow;
-use crate::jobs::worker;
-use crate::server::advance;
-use crate::server::holder;
-use crate::server::refill;
+use arrays::advance;
+use arrays::fall;
+use arrays::grow;
+use arrays::holder;
+use arrays::refill;
+use arrays::worker;
 
 // The first guest with capacity left has the tick, inside it the first task with run left: each loses one.
 fn serve(left: &mut [u32; 8], rest: &mut [u32; 128], tasks: &[u32; 16], n: usize) -> Turn

@@ -12,8 +12,10 @@ use Rattle.plan.specs.Records.{guestAt, everyOf}
 use Rattle.plan.specs.Charge.{charged}
 use Rattle.plan.specs.Ranges.{longest}
 use Rattle.plan.specs.Order.{planRefusal}
-use Rattle.dispatcher.specs.State.{placeAt, guestIn, restAt, waitAt, ageAt}
-use Rattle.dispatcher.specs.Valid.{serverOk, noServer, jobOk, noJob, tasksIn, guestInRange, taskInRange}
+use Rattle.arrays.specs.Place.{placeAt}
+use Rattle.dispatcher.specs.State.{guestIn, restAt, waitAt, ageAt}
+use Rattle.arrays.specs.Ranges.{serverOk, noServer, jobOk, noJob}
+use Rattle.dispatcher.specs.Valid.{tasksIn, guestInRange, taskInRange}
 use Rattle.dispatcher.specs.Fresh.{idle, startedBy, fresh}
 use Rattle.lists.proofs.All.{and-true}
 use Rattle.plan.proofs.Order.{PlanIn, plan-in}

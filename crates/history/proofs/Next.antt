@@ -11,7 +11,8 @@ use Rattle.lists.specs.Choice.{pick}
 use Rattle.lists.specs.Places.{nth}
 use Rattle.plan.specs.Ranges.{longest}
 use Rattle.dispatcher.specs.declared.Dispatcher.{Dispatcher}
-use Rattle.dispatcher.specs.State.{placeAt, guestIn, restAt, waitAt, ageAt}
+use Rattle.arrays.specs.Place.{placeAt}
+use Rattle.dispatcher.specs.State.{guestIn, restAt, waitAt, ageAt}
 use Rattle.dispatcher.specs.Tick.{lessAt, refilled, holder, isHeld, leftAfter, worker, isWorked, restAfter, ageAfter, waitAfter, positionAfter, next}
 use Rattle.windows.specs.GuestTick.{Moved}
 use Rattle.windows.specs.GuestTick.Moved.{on, over}

@@ -9,7 +9,8 @@ use Rattle.lists.specs.Choice.{pick}
 use Rattle.plan.specs.Ranges.{longest}
 use Rattle.plan.specs.Order.{planRefusal}
 use Rattle.dispatcher.specs.declared.Dispatcher.{Dispatcher}
-use Rattle.dispatcher.specs.Valid.{serverOk, noServer, jobOk, noJob, guestInRange, taskInRange, rowOk, stateOk}
+use Rattle.arrays.specs.Ranges.{serverOk, noServer, jobOk, noJob}
+use Rattle.dispatcher.specs.Valid.{guestInRange, taskInRange, rowOk, stateOk}
 use Rattle.lists.proofs.All.{and-left, and-right, and-true, all-at, all-by}
 
 -- each guest

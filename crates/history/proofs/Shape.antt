@@ -5,7 +5,8 @@ use native.Mathlib.Decide.{decLt}
 use native.Mathlib.Omega.{arith}
 use lib.ListN.{length, length-set}
 use Rattle.dispatcher.specs.declared.Dispatcher.{Dispatcher}
-use Rattle.dispatcher.specs.State.{placeAt, guestIn}
+use Rattle.arrays.specs.Place.{placeAt}
+use Rattle.dispatcher.specs.State.{guestIn}
 use Rattle.dispatcher.specs.Tick.{refilled, holder, worker, ageAfter, waitAfter, positionAfter, next}
 use Rattle.dispatcher.specs.Release.{taken}
 use Rattle.lists.proofs.Places.{upTo-length}

@@ -9,7 +9,8 @@ use Rattle.plan.specs.declared.Plan.{Plan}
 use Rattle.plan.specs.Records.{guestAt}
 use Rattle.dispatcher.specs.declared.Dispatcher.{Dispatcher}
 use Rattle.dispatcher.specs.declared.Answer.{Answer}
-use Rattle.dispatcher.specs.State.{placeAt, guestIn, restAt, waitAt, ageAt}
+use Rattle.arrays.specs.Place.{placeAt}
+use Rattle.dispatcher.specs.State.{guestIn, restAt, waitAt, ageAt}
 use Rattle.dispatcher.specs.Tick.{next}
 use Rattle.dispatcher.specs.Answer.{answer}
 use Rattle.dispatcher.specs.Release.{taken}

@@ -10,7 +10,8 @@ use lib.Seq.{getD-set-other}
 use Rattle.lists.specs.Places.{nth}
 use Rattle.lists.specs.Search.{firstFrom}
 use Rattle.dispatcher.specs.declared.Dispatcher.{Dispatcher}
-use Rattle.dispatcher.specs.State.{placeAt, guestIn, restAt, waitAt, ageAt}
+use Rattle.arrays.specs.Place.{placeAt}
+use Rattle.dispatcher.specs.State.{guestIn, restAt, waitAt, ageAt}
 use Rattle.dispatcher.specs.Tick.{refilled, holder, worker, next}
 use Rattle.windows.specs.Served.{ServedFirst}
 use Rattle.windows.specs.GuestTick.{Moved, GuestTick}

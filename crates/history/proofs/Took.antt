@@ -11,7 +11,8 @@ use Rattle.plan.specs.Ranges.{within}
 use Rattle.plan.specs.Place.{placeOf}
 use Rattle.dispatcher.specs.declared.Dispatcher.{Dispatcher}
 use Rattle.dispatcher.specs.declared.Released.{Released}
-use Rattle.dispatcher.specs.State.{placeAt, guestIn, restAt, waitAt}
+use Rattle.arrays.specs.Place.{placeAt}
+use Rattle.dispatcher.specs.State.{guestIn, restAt, waitAt}
 use Rattle.dispatcher.specs.Valid.{stateOk}
 use Rattle.dispatcher.specs.Release.{taken, releaseNumber, releasedBy, release}
 use Rattle.windows.specs.TaskTick.{Taken, Same}

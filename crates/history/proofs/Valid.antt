@@ -17,7 +17,8 @@ use Rattle.plan.specs.Ranges.{longest}
 use Rattle.plan.specs.Charge.{charged}
 use Rattle.plan.specs.Order.{planRefusal}
 use Rattle.dispatcher.specs.declared.Dispatcher.{Dispatcher}
-use Rattle.dispatcher.specs.State.{placeAt, guestIn, restAt, waitAt, ageAt}
+use Rattle.arrays.specs.Place.{placeAt}
+use Rattle.dispatcher.specs.State.{guestIn, restAt, waitAt, ageAt}
 use Rattle.dispatcher.specs.Valid.{tasksIn, guestInRange, taskInRange, stateOk}
 use Rattle.dispatcher.specs.Tick.{lessAt, refilled, holder, isHeld, leftAfter, worker, isWorked, restAfter, ageAfter, waitAfter, positionAfter, next}
 use Rattle.dispatcher.specs.Release.{taken}

@@ -2,7 +2,7 @@
 use mathlib.Core.Path.{_≡_, refl, sym, _∙_}
 use mathlib.Core.Logic.{⊎-elim}
 use mathlib.Core.Bool.{Bool, true, false, false≢true, _&&_}
-use Prim.Native.Nat.{ℕ, zero, suc, _+_, _<_}
+use Prim.Native.Nat.{ℕ, zero, suc, _+_, _≤_, _<_}
 use native.Mathlib.Nat.{eq-or-lt-of-le}
 use native.Mathlib.Numerals.{add-one}
 use native.Mathlib.Omega.{arith}
@@ -105,3 +105,7 @@ all-false f (suc n) e = go (allTo f n) refl (f n) refl (all-false f n)
     go a p false q h = (n, omega arith, q)
     go false p true q h = (let x = h p in (x .0, omega (arith, x .1), x .2))
     go true p true q h = absurd (false≢true (sym e ∙ and-true p q))
+
+-- a loop's end: n places were tested and no more
+pub all-end : (f : ℕ → Bool) (i n : ℕ) {ok : Bool} → ok ≡ allTo f i → i ≤ n → n ≤ i → ok ≡ allTo f n
+all-end f i n e p q = let h : i ≡ n = omega arith in rw (← h) e

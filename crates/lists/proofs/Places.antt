@@ -3,12 +3,12 @@ use mathlib.Core.Path.{_≡_, refl, ap, _∙_}
 use mathlib.Core.Logic.{_⊎_, inl, inr, ⊎-elim}
 use mathlib.Core.List.{List}
 use Prim.Native.Nat.{ℕ, zero, suc, _+_, _≤_, _<_}
-use native.Mathlib.Decide.{decLt, ℕ-discrete}
+use native.Mathlib.Decide.{decLe, decLt, ℕ-discrete}
 use native.Mathlib.Nat.{eq-or-lt-of-le}
 use native.Mathlib.Numerals.{add-one}
 use native.Mathlib.Omega.{arith}
 use lib.ListN.{length, getD, set, length-set}
-use lib.Seq.{getD-set-same, getD-set-other, set-out}
+use lib.Seq.{getD-set-same, getD-set-other, set-out, set-getD}
 use Rattle.lists.specs.Places.{upTo}
 
 -- the list keeps its length
@@ -77,4 +77,22 @@ upTo-get f (suc n) l k =
       | no e ↦
           ⊎-elim (λ q. inl (getD-set-other (upTo f n l) n k (f n (getD l n 0)) 0 e ∙ q))
           (λ q. inr (getD-set-other (upTo f n l) n k (f n (getD l n 0)) 0 e ∙ q)) (upTo-get f n l k)
+    ]
+
+-- changes that agree on the first n places
+pub upTo-ext : (f g : ℕ → ℕ → ℕ) (n : ℕ) (l : List ℕ) → ((k x : ℕ) → k < n → f k x ≡ g k x) → upTo f n l ≡ upTo g n l
+unfolding upTo
+upTo-ext f g zero l h = refl
+upTo-ext f g (suc n) l h = rw (upTo-ext f g n l (λ k x b. h k x (omega arith)), h n (getD l n 0) (omega arith)) refl
+
+-- places from m on that a change leaves as they are need not be passed
+pub upTo-short : (f : ℕ → ℕ → ℕ) (m n : ℕ) (l : List ℕ) → m ≤ n → ((k : ℕ) → m ≤ k → k < n → f k (getD l k 0) ≡ getD l k 0) → upTo f n l ≡ upTo f m l
+unfolding upTo
+upTo-short f m zero l p h = let e : m ≡ 0 = omega arith in rw e refl
+upTo-short f m (suc n) l p h =
+    elim (decLe m n) [
+      | yes q ↦
+          rw (h n q (omega arith), ← upTo-rest f n l n (omega arith)) (set-getD (upTo f n l) n 0)
+          ∙ upTo-short f m n l q (λ k a b. h k a (omega arith))
+      | no q ↦ let e : m ≡ suc n = omega arith in rw e refl
     ]

@@ -3,7 +3,7 @@ use mathlib.Core.Path.{_≡_}
 use Prim.Native.Nat.{_≤_, _-_}
 use borrow.Author.Needs.{needs}
 use Rattle.lists.specs.All.{allTo}
-use Rattle.dispatcher.proofs.Valid.{all-end}
+use Rattle.lists.proofs.All.{all-end}
 use Rattle.dispatcher.proofs.Pass.{pastOk, past-none, past-turn}
 use Rattle.dispatcher.proofs.examine.blanks_ok.Statement.{statement}
 use Rattle.dispatcher.proofs.examine.blanks_ok.Tie as tie

@@ -5,8 +5,7 @@ use native.Mathlib.Omega.{arith}
 use borrow.Author.Needs.{needs}
 use Rattle.lists.specs.All.{allTo}
 use Rattle.dispatcher.specs.Lent.{stateOf, guestGoes}
-use Rattle.lists.proofs.All.{all-none}
-use Rattle.dispatcher.proofs.Valid.{all-end}
+use Rattle.lists.proofs.All.{all-none, all-end}
 use Rattle.dispatcher.proofs.Pass.{Columns, columns-none, columns-next, columns-done, goes-turn}
 use Rattle.dispatcher.proofs.examine.guests_ok.Statement.{statement}
 use Rattle.dispatcher.proofs.examine.guests_ok.Tie as tie

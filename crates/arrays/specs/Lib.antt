@@ -1,0 +1,4 @@
+pub mod Place
+pub mod Ranges
+pub mod Rows
+pub mod Parts

@@ -1,0 +1,13 @@
+// The dispatcher's numbers in lent arrays: the parts of a tick, and the ranges of refusal 14.
+mod jobs;
+mod ranges;
+mod server;
+
+pub use jobs::fall;
+pub use jobs::grow;
+pub use jobs::worker;
+pub use ranges::blank_ok;
+pub use ranges::guest_ok;
+pub use server::advance;
+pub use server::holder;
+pub use server::refill;
