@@ -9,7 +9,7 @@ use borrow.Author.Tests.{eqb-true}
 use Rattle.lists.specs.Places.{nth}
 use Rattle.words.specs.Word.{word}
 use Rattle.plan.specs.Ranges.{guestOk, taskOk, tasksOk}
-use Rattle.block.specs.Reading.{tasksIn, column, guestOf, sumsToZero, kindOk, placeOk, zeroBetween, zerosOk, blockNumber}
+use Rattle.block.specs.Reading.{taskCount, column, guestOf, sumsToZero, kindOk, ownPlace, zeroBetween, zerosOk, blockNumber}
 use Rattle.lists.specs.All.{allTo}
 use Rattle.block.specs.Layout.{runWord, everyWord, deadlineWord}
 use Rattle.plan.proofs.Ranges.{head-says}
@@ -26,11 +26,11 @@ module _ (b : List ℕ) (p : ℕ) (new : Bool) where
 
   module _ (s : sumsToZero b ≡ true) where
     -- the kind or the place is another
-    pub three : (kindOk b && placeOk b p) ≡ false → 3 ≡ blockNumber b p new
+    pub three : (kindOk b && ownPlace b p) ≡ false → 3 ≡ blockNumber b p new
     unfolding blockNumber
     three e = sym (go-on 2 _ s ∙ stop 3 _ e)
 
-    module _ (k : (kindOk b && placeOk b p) ≡ true) where
+    module _ (k : (kindOk b && ownPlace b p) ≡ true) where
       -- the head is out of range, or the id is not new
       pub four : (guestOk (guestOf b) && new) ≡ false → 4 ≡ blockNumber b p new
       unfolding blockNumber
@@ -54,11 +54,11 @@ module _ (b : List ℕ) (p : ℕ) (new : Bool) where
           none e = sym (go-on 2 _ s ∙ go-on 3 _ k ∙ go-on 4 _ h ∙ go-on 5 _ z ∙ go-on 6 _ e ∙ none-left)
 
 -- so there are at most 16 tasks where the head passes
-pub few-tasks : (b : List ℕ) (new : Bool) → (guestOk (guestOf b) && new) ≡ true → tasksIn b ≤ 16
-few-tasks b new e = head-says _ _ _ _ (and-left (guestOk (guestOf b)) new e) .few
+pub few-in-block : (b : List ℕ) (new : Bool) → (guestOk (guestOf b) && new) ≡ true → taskCount b ≤ 16
+few-in-block b new e = head-says _ _ _ _ (and-left (guestOk (guestOf b)) new e) .few
 
 -- the tasks' test on columns that are the block's
-pub tasks-are : (b r e d : List ℕ) (n : ℕ) → r ≡ column b runWord → e ≡ column b everyWord → d ≡ column b deadlineWord → n ≡ tasksIn b
+pub tasks-are : (b r e d : List ℕ) (n : ℕ) → r ≡ column b runWord → e ≡ column b everyWord → d ≡ column b deadlineWord → n ≡ taskCount b
     → allTo (λ i. taskOk (nth r i) (nth e i) (nth d i)) n ≡ tasksOk (guestOf b)
 unfolding tasksOk
 tasks-are b r e d n p q s t = rw (p, q, s, t) refl
@@ -66,7 +66,7 @@ tasks-are b r e d n p q s t = rw (p, q, s, t) refl
 -- a block that no number refuses passes every test
 pub record BlockIn (b : List ℕ) (p : ℕ) (new : Bool) : Type 0 where
   pub sums : sumsToZero b ≡ true
-  pub opens : (kindOk b && placeOk b p) ≡ true
+  pub opens : (kindOk b && ownPlace b p) ≡ true
   pub heads : (guestOk (guestOf b) && new) ≡ true
   pub zeros : zerosOk b ≡ true
   pub tasks : tasksOk (guestOf b) ≡ true
@@ -75,7 +75,7 @@ pub block-in : (b : List ℕ) (p : ℕ) (new : Bool) → blockNumber b p new ≡
 unfolding blockNumber
 block-in b p new e =
     let a2 = passed (sumsToZero b) 2 _ (omega arith) e in
-    let a3 = passed (kindOk b && placeOk b p) 3 _ (omega arith) (a2 .1) in
+    let a3 = passed (kindOk b && ownPlace b p) 3 _ (omega arith) (a2 .1) in
     let a4 = passed (guestOk (guestOf b) && new) 4 _ (omega arith) (a3 .1) in
     let a5 = passed (zerosOk b) 5 _ (omega arith) (a4 .1) in
     let a6 = passed (tasksOk (guestOf b)) 6 [] (omega arith) (a5 .1) in

@@ -168,7 +168,7 @@ entries-laid R E D i x b t h l e =
 pub words-count : (g : Guest) (p : ℕ) → length (withHead g p (replicate 128 0)) ≡ 128
 words-count g p = head-length g p (replicate 128 0) ∙ length-replicate {A = ℕ} 128 0
 
-words-length : (g : Guest) (p : ℕ) → length (wordsOf g p) ≡ 128
+pub words-length : (g : Guest) (p : ℕ) → length (wordsOf g p) ≡ 128
 unfolding wordsOf
 words-length g p = entries-length (g .run) (g .every) (g .deadline) (g .tasks) (withHead g p (replicate 128 0)) ∙ words-count g p
 
@@ -191,5 +191,5 @@ unfolding writtenBy
 same-by zero block before h = absurd (omega arith)
 same-by (suc n) block before h = refl
 
-pub refused-same : (g : Guest) (place : ℕ) (before : List ℕ) → 0 < writeRefusal g place (length before) .number → written g place before ≡ before
-refused-same g place before h = same-by (writeNumber g place (length before)) (blockOf g place) before h
+pub refused-write-same : (g : Guest) (place : ℕ) (before : List ℕ) → 0 < writeRefusal g place (length before) .number → written g place before ≡ before
+refused-write-same g place before h = same-by (writeNumber g place (length before)) (blockOf g place) before h

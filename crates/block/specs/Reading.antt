@@ -25,8 +25,8 @@ abbrev pub idIn : List ℕ → ℕ
 idIn b = word b idWord
 
 -- the number of tasks
-abbrev pub tasksIn : List ℕ → ℕ
-tasksIn b = lowHalf (word b tasksChargeWord)
+abbrev pub taskCount : List ℕ → ℕ
+taskCount b = lowHalf (word b tasksChargeWord)
 
 -- one number of each of the 16 entries
 unfoldable pub column : List ℕ → (ℕ → ℕ) → List ℕ
@@ -38,7 +38,7 @@ guestOf b = record {
   id = idIn b;
   capacity = word b capacityWord;
   period = word b periodWord;
-  tasks = tasksIn b;
+  tasks = taskCount b;
   charge = highHalf (word b tasksChargeWord);
   run = column b runWord;
   every = column b everyWord;
@@ -54,8 +54,8 @@ abbrev pub kindOk : List ℕ → Bool
 kindOk b = eqb (kindIn b) guestKind
 
 -- and the place is the block's own
-abbrev pub placeOk : List ℕ → ℕ → Bool
-placeOk b place = eqb (placeIn b) place
+abbrev pub ownPlace : List ℕ → ℕ → Bool
+ownPlace b place = eqb (placeIn b) place
 
 -- the words from one on, up to another, are zero
 unfoldable pub zeroBetween : List ℕ → (from to : ℕ) → Bool
@@ -63,14 +63,14 @@ zeroBetween b from to = allTo (λ k. eqb (word b (from + k)) 0) (to - from)
 
 -- refusal 5: the bytes that must be zero are
 abbrev pub zerosOk : List ℕ → Bool
-zerosOk b = zeroBetween b spareFrom spareTo && zeroBetween b (unusedFrom (tasksIn b)) checkWord
+zerosOk b = zeroBetween b spareFrom spareTo && zeroBetween b (unusedFrom (taskCount b)) checkWord
 
 -- the number that a block at its place is refused by, 0 for none; newId says that its id is no earlier block's
 unfoldable pub blockNumber : List ℕ → (place : ℕ) (newId : Bool) → ℕ
 blockNumber b place newId =
     refusal (
     sumsToZero b orRefuse 2
-    ∷ (kindOk b && placeOk b place) orRefuse 3
+    ∷ (kindOk b && ownPlace b place) orRefuse 3
     ∷ (guestOk (guestOf b) && newId) orRefuse 4
     ∷ zerosOk b orRefuse 5
     ∷ tasksOk (guestOf b) orRefuse 6

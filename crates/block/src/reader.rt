@@ -6,14 +6,14 @@ ghost use lib.ListN.{length};
 ghost use Rattle.words.specs.Word.{word};
 ghost use Rattle.plan.specs.Ranges.{mostTasks, guestOk, tasksOk};
 ghost use Rattle.block.specs.Layout.{blockSize, blockWords};
-ghost use Rattle.block.specs.Reading.{idIn, tasksIn, column, guestOf, kindOk, placeOk, zeroBetween, zerosOk, blockNumber};
+ghost use Rattle.block.specs.Reading.{idIn, taskCount, column, guestOf, kindOk, ownPlace, zeroBetween, zerosOk, blockNumber};
 use crate::layout;
 use plan::Guest;
 
 // The kind and the place.
 fn opening_ok(b: &[u8], place: u32) -> bool
     requires { ⌜ length (now b) ≡ blockSize ⌝ }
-    ensures { λ r. ⌜ r ≡ (kindOk (now (b .entry)) && placeOk (now (b .entry)) place) ⌝ }
+    ensures { λ r. ⌜ r ≡ (kindOk (now (b .entry)) && ownPlace (now (b .entry)) place) ⌝ }
 {
     let w = words::word_at(b, layout::KIND_PLACE);
     (w % 65536 == layout::GUEST_KIND) & (w / 65536 == place)
@@ -37,14 +37,14 @@ fn zero_between(b: &[u8], from: usize, to: usize) -> bool
 // The number of tasks.
 fn tasks_of(b: &[u8]) -> u32
     requires { ⌜ length (now b) ≡ blockSize ⌝ }
-    ensures { λ r. ⌜ r ≡ tasksIn (now (b .entry)) ⌝ }
+    ensures { λ r. ⌜ r ≡ taskCount (now (b .entry)) ⌝ }
 {
     words::word_at(b, layout::TASKS_CHARGE) % 65536
 }
 
 // Whether the bytes that must be zero are.
 fn zeros_ok(b: &[u8]) -> bool
-    requires { ⌜ (length (now b) ≡ blockSize) × (tasksIn (now b) ≤ mostTasks) ⌝ }
+    requires { ⌜ (length (now b) ≡ blockSize) × (taskCount (now b) ≤ mostTasks) ⌝ }
     ensures { λ r. ⌜ r ≡ zerosOk (now (b .entry)) ⌝ }
 {
     let n = tasks_of(b) as usize;
@@ -112,7 +112,7 @@ fn head_in(b: &[u8]) -> bool
 
 // Whether the tasks are in their ranges.
 fn tasks_in(b: &[u8]) -> bool
-    requires { ⌜ (length (now b) ≡ blockSize) × (tasksIn (now b) ≤ mostTasks) ⌝ }
+    requires { ⌜ (length (now b) ≡ blockSize) × (taskCount (now b) ≤ mostTasks) ⌝ }
     ensures { λ r. ⌜ r ≡ tasksOk (guestOf (now (b .entry))) ⌝ }
 {
     let run = column_of(b, layout::RUN);

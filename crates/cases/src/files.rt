@@ -1,7 +1,61 @@
-// The writer and the finder.
-use crate::plans;
+// The plan's blocks as the writer writes them: printed, cut short, damaged, searched.
+use crate::damage;
 use crate::say;
+use draft::text::Row;
 use plan::Guest;
+use plan::Plan;
+
+// The finder's companion, and how many bytes the part found has.
+fn find(bytes: &[u8], id: u32) {
+    let r = planfile::find_place(bytes, id);
+    let part = planfile::find(bytes, id);
+    say::number(b": number ", r.number);
+    say::number(b" place ", r.place);
+    say::text(b", bytes ");
+    io::print_decimal(1, part.len() as u64);
+    say::text(b"\n");
+}
+
+// `find` a guest in the bytes, or print what they hold.
+fn look(bytes: &[u8], row: Row) {
+    let x = row.numbers;
+    if row.first == b'f' {
+        find(bytes, x[0]);
+        return;
+    }
+    if row.first != b'p' {
+        say::text(b": ");
+    }
+    show::show(bytes);
+}
+
+// The same of the first n bytes.
+fn look_at(bytes: &[u8], n: u32, row: Row) {
+    let n = n as usize;
+    if n <= bytes.len() {
+        look(&bytes[..n], row);
+    }
+}
+
+// How many bytes are looked at: as many as the line says, else those of the plan's blocks.
+fn length(p: Plan, row: Row) -> u32 {
+    let x = row.numbers;
+    if row.first == b'r' {
+        return x[0];
+    }
+    if (row.first == b'f') & (1 < row.count) {
+        return x[1];
+    }
+    if p.count <= 8 { 512 * p.count } else { 0 }
+}
+
+// The plan's blocks, zeros past them, and the line's damage to them.
+fn blocks(p: Plan, row: Row) {
+    let mut buf = [0u8; 4608];
+    draft::write(p, &mut buf);
+    damage::damage(&mut buf, row);
+    look_at(&buf, length(p, row), row);
+}
 
 // The writer, lent the first n bytes.
 fn lend(g: Guest, place: u32, buf: &mut [u8], n: usize) {
@@ -10,61 +64,21 @@ fn lend(g: Guest, place: u32, buf: &mut [u8], n: usize) {
     }
 }
 
-fn write(name: &[u8], g: Guest, place: u32, n: usize) {
+// The first guest, by the writer.
+fn write(p: Plan, place: u32, n: u32) {
     let mut buf = [0u8; 512];
-    say::name(name);
-    lend(g, place, &mut buf, n);
+    let guests = p.guests;
+    lend(guests[0], place, &mut buf, n as usize);
+    say::text(b"\n");
 }
 
-// The finder's companion, and whether the part found is a block.
-fn found(bytes: &[u8], id: u32) {
-    let r = planfile::find_place(bytes, id);
-    let part = planfile::find(bytes, id);
-    say::number(b"number ", r.number);
-    say::number(b" place ", r.place);
-    if part.len() == 512 {
-        say::text(b", a block\n");
-    } else {
-        say::text(b", nothing\n");
+// `print` the plan; `read` so many bytes; `damage` a block or leave it `unmended`; `find` a guest, in so many bytes; `write` at a place into so many bytes.
+pub fn ask(p: Plan, row: Row) {
+    let x = row.numbers;
+    let first = row.first;
+    match first {
+        b'p' | b'r' | b'd' | b'u' | b'f' => blocks(p, row),
+        b'w' => write(p, x[0], x[1]),
+        _ => {}
     }
-}
-
-// In plan A.
-fn find(name: &[u8], id: u32) {
-    let mut buf = [0u8; 1024];
-    draft::write(plans::plan_a(), &mut buf);
-    say::name(name);
-    found(&buf, id);
-}
-
-// 12, 3, 4, 6; the last three with the place handed in.
-fn writer() {
-    let g = plans::nine();
-    write(b"write at place 7", g, 7, 512);
-    write(b"write into 511 bytes", g, 7, 511);
-    write(b"write at place 8 into 511 bytes", g, 8, 511);
-    write(b"write at place 8", g, 8, 512);
-    let bad = draft::with_task(plans::server(9, 21, 20), 0, 50, 50);
-    write(b"write capacity 21 of 20, run 0, at place 8", bad, 8, 512);
-    write(b"write capacity 21 of 20, run 0", bad, 3, 512);
-    let idle = draft::with_task(plans::server(9, 8, 20), 0, 50, 50);
-    write(b"write run 0", idle, 3, 512);
-    write(b"write no task", plans::server(9, 8, 20), 3, 512);
-}
-
-// The reading order, then 7.
-fn finder() {
-    find(b"find guest 7", 7);
-    find(b"find guest 9", 9);
-    find(b"find guest 8", 8);
-    find(b"find guest 0", 0);
-    say::name(b"find guest 7 in 512 zero bytes");
-    found(&[0u8; 512], 7);
-    say::name(b"find guest 7 in no bytes");
-    found(b"", 7);
-}
-
-pub fn all() {
-    writer();
-    finder();
 }

@@ -1,20 +1,60 @@
 // Document 01's numbers that no theorem has, and plans good and damaged in each way, through every entry.
-// Each case writes its name and its outcome; why the outcome is right stands beside the case.
-mod bytes;
-mod damages;
+// Standard input has the cases, a line for each guest, task or call: its first letter says which. Each line is written out again, a call with its outcome;
+// a line that starts with # says why the outcome is right and is left out.
+use dispatcher::Dispatcher;
+use draft::text;
+use draft::text::Row;
+use plan::Plan;
+
+mod damage;
+mod dispatching;
 mod files;
-mod judged;
-mod plans;
-mod printed;
-mod runs;
+mod judging;
 mod say;
-mod states;
+
+// The plan after a line: `new` empties it, `count` says how many of its guests count.
+fn planned(p: Plan, row: Row) -> Plan {
+    let x = row.numbers;
+    if row.first == b'n' {
+        return draft::empty();
+    }
+    if row.first == b'c' {
+        let guests = p.guests;
+        return Plan {
+            count: x[0],
+            guests,
+        };
+    }
+    text::with_line(p, row)
+}
+
+// The dispatcher's state after a line; what the line asks is asked, and the answer ends the line.
+fn asked(p: Plan, d: Dispatcher, row: Row) -> Dispatcher {
+    say::end(row);
+    files::ask(p, row);
+    judging::ask(p, row);
+    dispatching::call(p, d, row)
+}
+
+fn lines(text: &[u8]) {
+    let mut p = draft::empty();
+    let mut d = dispatching::fresh(p);
+    let mut row = text::blank_row();
+    for i in 0..text.len() {
+        let b = text[i];
+        if b == b'\n' {
+            p = planned(p, row);
+            d = asked(p, d, row);
+            row = text::blank_row();
+        } else {
+            row = text::with_byte(row, b);
+            say::byte(row, b);
+        }
+    }
+}
 
 fn main() {
-    printed::all();
-    damages::all();
-    files::all();
-    judged::all();
-    runs::all();
-    states::all();
+    let mut buf = [0u8; 16384];
+    let n = io::read_full(0, &mut buf);
+    lines(&buf[..n]);
 }

@@ -26,7 +26,7 @@ use Rattle.arrays.specs.Rows.{jobIn, blankAt, guestIsOk, rowIsBlank}
 use Rattle.dispatcher.specs.Lent.{Examines, guestGoes, ColumnsIn}
 use Rattle.lists.proofs.All.{and-left, and-right, and-true, all-turn, all-by, all-at, all-ext}
 use Rattle.lists.proofs.Refusals.{passed}
-use Rattle.plan.proofs.First.{first-none}
+use Rattle.plan.proofs.First.{none-refused}
 use Rattle.plan.proofs.Order.{none, counted}
 use Rattle.plan.proofs.Filled.{filled-next, filled-done}
 use Rattle.plan.specs.Ranges as ranges
@@ -141,7 +141,7 @@ module _ (d : Dispatcher) (some : 1 ≤ d .plan .count) (few : d .plan .count �
 
   -- the plan is not refused: no guest is
   number-zero : planRefusal (d .plan) .number ≡ 0 → (k : ℕ) → k < d .plan .count → guestNumber (d .plan .guests) k ≡ 0
-  number-zero e k h = first-none _ (d .plan .count) 0 (rw (← counted (d .plan) some few) at e) k (omega arith) (omega arith)
+  number-zero e k h = none-refused _ (d .plan .count) 0 (rw (← counted (d .plan) some few) at e) k (omega arith) (omega arith)
 
   -- a guest that goes has no number
   goes-number : (k : ℕ) → k < d .plan .count → guestGoes d k ≡ true → (guestNumber (d .plan .guests) k ≡ 0) × (rowOk d k ≡ true)

@@ -30,7 +30,7 @@ use Rattle.dispatcher.specs.Lent.{ColumnsIn, Taking, takeNumber, AimsAt,
 use Rattle.lists.proofs.All.{and-left, and-true, and-false-left, and-false-right}
 use Rattle.lists.proofs.Refusals.{none-left, go-on, stop, passed}
 use Rattle.lists.proofs.Search.{first-ext}
-use Rattle.plan.proofs.First.{first-none}
+use Rattle.plan.proofs.First.{none-refused}
 use Rattle.plan.proofs.Order.{counted, plan-in}
 use Rattle.arrays.proofs.Rows.{runs-small}
 use Rattle.plan.proofs.Ranges.{head-says}
@@ -147,7 +147,7 @@ pub records-in : (p : Plan) → planRefusal p .number ≡ 0 → (k : ℕ) → k 
 unfolding guestNumber numberOf
 records-in p e k h =
     let i = plan-in p e in
-    let n = first-none (guestNumber (p .guests)) (p .count) 0 (rw (← counted p (i .some) (i .few)) at e) k (omega arith) (omega arith) in
+    let n = none-refused (guestNumber (p .guests)) (p .count) 0 (rw (← counted p (i .some) (i .few)) at e) k (omega arith) (omega arith) in
     let a = passed (guestOk (guestAt (p .guests) k) && newId (λ j. guestAt (p .guests) j .id) k) 4 _ (omega arith) n in
     let b = passed (tasksOk (guestAt (p .guests) k)) 6 [] (omega arith) (a .1) in
     (and-left (guestOk (guestAt (p .guests) k)) _ (a .0), b .0)

@@ -3,6 +3,8 @@ use plan::Guest;
 use plan::Plan;
 use plan::Refusal;
 
+pub mod text;
+
 // A plan of no guest.
 pub fn empty() -> Plan {
     Plan {

@@ -1,7 +1,7 @@
 // A plan's text from standard input, its blocks to standard output. Where a line is wrong or the writer refuses a guest, a message and no block.
 use plan::Plan;
 
-mod text;
+mod lines;
 
 // A message and a number after it, to standard error.
 fn complain(words: &[u8], n: u32) {
@@ -35,7 +35,7 @@ fn write(p: Plan) {
 fn main() {
     let mut buf = [0u8; 16384];
     let n = io::read_full(0, &mut buf);
-    let t = text::read(&buf[..n]);
+    let t = lines::read(&buf[..n]);
     if 0 < t.wrong {
         complain(b"neither a guest nor a task: line ", t.wrong);
         io::write_all(2, b"\n");

@@ -34,18 +34,12 @@ after-zero zero k r e = (refl, e)
 after-zero (suc n) k r e = absurd (omega arith)
 
 -- no refusal, so no place has a number
-pub first-none : (f : ℕ → ℕ) (m k : ℕ) → firstRefused f m k .number ≡ 0 → (z : ℕ) → k ≤ z → z < k + m → f z ≡ 0
+pub none-refused : (f : ℕ → ℕ) (m k : ℕ) → firstRefused f m k .number ≡ 0 → (z : ℕ) → k ≤ z → z < k + m → f z ≡ 0
 unfolding firstRefused
-first-none f zero k e z l h = absurd (omega arith)
-first-none f (suc m) k e z l h =
+none-refused f zero k e z l h = absurd (omega arith)
+none-refused f (suc m) k e z l h =
     let p = after-zero (f k) k (firstRefused f m (suc k)) e in
-    ⊎-elim (λ q. rw (← q) (p .0)) (λ q. first-none f m (suc k) (p .1) z q (omega arith)) (eq-or-lt-of-le {n = k} {m = z} l)
-
--- numbers that agree refuse the same
-pub first-ext : (f g : ℕ → ℕ) (m k : ℕ) → ((z : ℕ) → k ≤ z → z < k + m → f z ≡ g z) → firstRefused f m k ≡ firstRefused g m k
-unfolding firstRefused
-first-ext f g zero k h = refl
-first-ext f g (suc m) k h = rw (h k (omega arith) (omega arith), first-ext f g m (suc k) (λ z l b. h z (omega arith) (omega arith))) refl
+    ⊎-elim (λ q. rw (← q) (p .0)) (λ q. none-refused f m (suc k) (p .1) z q (omega arith)) (eq-or-lt-of-le {n = k} {m = z} l)
 
 -- no number anywhere, so nothing is refused
 pub first-fine : (f : ℕ → ℕ) (m k : ℕ) → ((z : ℕ) → k ≤ z → z < k + m → f z ≡ 0) → firstRefused f m k ≡ fine

@@ -17,7 +17,7 @@ use Rattle.plan.specs.First.{refused, firstRefused}
 use Rattle.plan.specs.Order.{newId, numberOf, guestNumber, countedBy, planRefusal}
 use Rattle.lists.proofs.All.{and-left, and-right, and-true, and-false-left, and-false-right, all-turn, all-ext}
 use Rattle.lists.proofs.Refusals.{none-left, go-on, stop, passed}
-use Rattle.plan.proofs.First.{first-none}
+use Rattle.plan.proofs.First.{none-refused}
 use Rattle.plan.proofs.Ranges.{within-says, GuestIn, guest-says}
 
 -- the order of one guest, by what its tests come to
@@ -101,7 +101,7 @@ unfolding planRefusal
 plan-in p e =
     let c = counted-none (within 1 8 (p .count)) p e in
     let w = within-says 1 8 (p .count) (c .0) in
-    let each : (k : ℕ) → k < p .count → guestNumber (p .guests) k ≡ 0 = λ k h. first-none (guestNumber (p .guests)) (p .count) 0 (c .1) k (omega arith) (omega arith) in
+    let each : (k : ℕ) → k < p .count → guestNumber (p .guests) k ≡ 0 = λ k h. none-refused (guestNumber (p .guests)) (p .count) 0 (c .1) k (omega arith) (omega arith) in
     record {
       some = w .0;
       few = w .1;

@@ -11,7 +11,7 @@ use Rattle.plan.specs.First.{refused, firstRefused}
 use Rattle.planfile.specs.File.{blockAt, blocksIn, sizeOk, numberAt, sizedBy, fileRefusal}
 use Rattle.lists.proofs.All.{and-left, and-right}
 use Rattle.plan.proofs.Ranges.{within-says}
-use Rattle.plan.proofs.First.{first-none}
+use Rattle.plan.proofs.First.{none-refused}
 
 -- a right length
 pub record SizeIn (n : ℕ) : Type 0 where
@@ -51,7 +51,7 @@ file-in s e =
     let c = sized-none (sizeOk (length s)) s e in
     record {
       size = size-says (length s) (c .0);
-      blocks = λ k h. first-none (numberAt s) (blocksIn s) 0 (c .1) k (omega arith) (omega arith);
+      blocks = λ k h. none-refused (numberAt s) (blocksIn s) 0 (c .1) k (omega arith) (omega arith);
     }
 
 -- a part of 512 bytes from block k's first on is block k

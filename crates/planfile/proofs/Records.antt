@@ -16,9 +16,9 @@ use Rattle.planfile.specs.Records.{recordsOf, planBy, readOf}
 use Rattle.lists.proofs.Table.{table-turn}
 
 -- no block is read yet
-pub records-none : (s : List ℕ) → replicate 8 blank ≡ recordsOf s 0
+pub no-records : (s : List ℕ) → replicate 8 blank ≡ recordsOf s 0
 unfolding recordsOf table
-records-none s = refl
+no-records s = refl
 
 -- a loop's turn: block k's record is put in
 pub records-next : (s : List ℕ) (k : ℕ) (gs : List Guest) (g : Guest) → k < 8 → gs ≡ recordsOf s k → g ≡ guestOf (blockAt s k)
@@ -30,7 +30,7 @@ records-next s k gs g h e q = table-turn (λ i. guestOf (blockAt s i)) blank k (
 blank-plan : (n : ℕ) (s : List ℕ) → 0 < n → record { count = 0; guests = recordsOf s 0 } ≡ planBy n s
 unfolding planBy
 blank-plan zero s h = absurd (omega arith)
-blank-plan (suc n) s h = ap (λ (gs : List Guest). record { count = 0; guests = gs }) (sym (records-none s))
+blank-plan (suc n) s h = ap (λ (gs : List Guest). record { count = 0; guests = gs }) (sym (no-records s))
 
 -- a reading by its parts
 abbrev pub reading : Refusal → Plan → Reading

@@ -17,10 +17,10 @@ use Rattle.words.specs.Wrap.{wrapped}
 use Rattle.plan.specs.declared.Guest.{Guest}
 use Rattle.plan.specs.Ranges.{guestOk, tasksOk}
 use Rattle.block.specs.Layout.{runWord, everyWord, deadlineWord}
-use Rattle.block.specs.Reading.{column, guestOf, sumsToZero, kindOk, placeOk, zeroBetween, zerosOk, blockNumber}
+use Rattle.block.specs.Reading.{column, guestOf, sumsToZero, kindOk, ownPlace, zeroBetween, zerosOk, blockNumber}
 use Rattle.block.specs.Writing.{wordsOf, withCheck, blockOf}
 use Rattle.planfile_laws.specs.File.{firstTasks, clearedGuest}
-use Rattle.planfile_laws.specs.Fits.{GuestFits}
+use Rattle.planfile_laws.specs.Fits.{GuestInTypes}
 use Rattle.lists.proofs.All.{and-true, all-by, all-ext}
 use Rattle.lists.proofs.Sum.{sum-last, sum-same}
 use Rattle.lists.proofs.Table.{table-at, table-ext}
@@ -28,14 +28,15 @@ use Rattle.words.proofs.Bytes.{word-bytesOf, length-bytesOf}
 use Rattle.words.proofs.Wrap.{complement-sum}
 use Rattle.plan.proofs.Ranges.{head-says}
 use Rattle.block.proofs.Reading.{none}
-use Rattle.planfile_laws.proofs.Words.{WordsAt, words-at, words-length, words-fit, check-other, check-at, check-fits}
+use Rattle.block.proofs.Writing.{words-length}
+use Rattle.planfile_laws.proofs.Words.{WordsAt, words-at, words-fit, check-other, check-at, check-fits}
 
 -- a block has 512 bytes
 pub block-length : (g : Guest) (p : ℕ) → length (blockOf g p) ≡ 512
 unfolding blockOf
 block-length g p = length-bytesOf (nth (withCheck (wordsOf g p))) 128
 
-module _ (g : Guest) (p : ℕ) (fits : GuestFits g) (low : p ≤ 7) (head : guestOk g ≡ true) (tasks : tasksOk g ≡ true) where
+module _ (g : Guest) (p : ℕ) (fits : GuestInTypes g) (low : p ≤ 7) (head : guestOk g ≡ true) (tasks : tasksOk g ≡ true) where
   few : g .tasks ≤ 16
   few = head-says (g .id) (g .capacity) (g .period) (g .tasks) head .few
 
@@ -58,7 +59,7 @@ module _ (g : Guest) (p : ℕ) (fits : GuestFits g) (low : p ≤ 7) (head : gues
       (rw (sum-last (word (blockOf g p)) 127, sum-same (word (blockOf g p)) (nth (wordsOf g p)) 127 at, full-at 127 (omega arith), check-at (wordsOf g p) (words-length g p))
       (complement-sum (sumTo (nth (wordsOf g p)) 127)))
 
-  opens : (kindOk (blockOf g p) && placeOk (blockOf g p) p) ≡ true
+  opens : (kindOk (blockOf g p) && ownPlace (blockOf g p) p) ≡ true
   opens =
       let e : word (blockOf g p) 0 ≡ 1 + 65536 * p = at 0 (omega arith) ∙ written .kind-place in
       and-true (eq-eqb (word (blockOf g p) 0 % 65536) 1 (omega arith)) (eq-eqb (word (blockOf g p) 0 / 65536) p (omega arith))

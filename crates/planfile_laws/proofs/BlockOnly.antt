@@ -15,7 +15,7 @@ use Rattle.lists.specs.Sum.{sumTo}
 use Rattle.words.specs.Word.{word}
 use Rattle.words.specs.Wrap.{wrapped}
 use Rattle.block.specs.Layout.{runWord, everyWord, deadlineWord}
-use Rattle.block.specs.Reading.{tasksIn, guestOf, kindOk, placeOk, zeroBetween, blockNumber}
+use Rattle.block.specs.Reading.{taskCount, guestOf, kindOk, ownPlace, zeroBetween, blockNumber}
 use Rattle.block.specs.Writing.{wordsOf, withCheck, blockOf}
 use Rattle.planfile_laws.specs.Fits.{Bytes}
 use Rattle.lists.proofs.All.{and-left, and-right}
@@ -23,8 +23,9 @@ use Rattle.lists.proofs.Sum.{sum-last, sum-same}
 use Rattle.words.proofs.Word.{word-fits}
 use Rattle.words.proofs.Bytes.{bytes-ext, bytesOf-word}
 use Rattle.words.proofs.Wrap.{complement-only}
-use Rattle.block.proofs.Reading.{BlockIn, block-in, few-tasks, zero-at, column-at}
-use Rattle.planfile_laws.proofs.Words.{WordsAt, words-at, words-length, check-other, check-at}
+use Rattle.block.proofs.Reading.{BlockIn, block-in, few-in-block, zero-at, column-at}
+use Rattle.block.proofs.Writing.{words-length}
+use Rattle.planfile_laws.proofs.Words.{WordsAt, words-at, check-other, check-at}
 
 -- a number below 3 is 0, 1 or 2
 three : (P : ℕ → Type 0) → P 0 → P 1 → P 2 → (j : ℕ) → j < 3 → P j
@@ -46,8 +47,8 @@ module _ (b : List ℕ) (p : ℕ) (new : Bool) (long : length b ≡ 512) (bytes 
   passed : BlockIn b p new
   passed = block-in b p new ok
 
-  few : tasksIn b ≤ 16
-  few = few-tasks b new (passed .heads)
+  few : taskCount b ≤ 16
+  few = few-in-block b new (passed .heads)
 
   written : WordsAt (guestOf b) p
   written = words-at (guestOf b) p few
@@ -55,8 +56,8 @@ module _ (b : List ℕ) (p : ℕ) (new : Bool) (long : length b ≡ 512) (bytes 
   -- the head
   head-at : (k : ℕ) → k < 5 → nth (wordsOf (guestOf b) p) k ≡ word b k
   head-at =
-      let k1 : word b 0 % 65536 ≡ 1 = eqb-true _ _ (and-left (kindOk b) (placeOk b p) (passed .opens)) in
-      let k2 : word b 0 / 65536 ≡ p = eqb-true _ _ (and-right (kindOk b) (placeOk b p) (passed .opens)) in
+      let k1 : word b 0 % 65536 ≡ 1 = eqb-true _ _ (and-left (kindOk b) (ownPlace b p) (passed .opens)) in
+      let k2 : word b 0 / 65536 ≡ p = eqb-true _ _ (and-right (kindOk b) (ownPlace b p) (passed .opens)) in
       let e0 = written .kind-place in
       let e4 = written .tasks-charge in
       five (λ k. nth (wordsOf (guestOf b) p) k ≡ word b k) (omega arith) (written .id) (written .capacity) (written .period) (omega arith)
@@ -65,11 +66,11 @@ module _ (b : List ℕ) (p : ℕ) (new : Bool) (long : length b ≡ 512) (bytes 
   spare-at : (k : ℕ) → 5 ≤ k → k < 8 → nth (wordsOf (guestOf b) p) k ≡ word b k
   spare-at k h l = written .spare k h l ∙ sym (zero-at b 5 8 k h l (and-left (zeroBetween b 5 8) _ (passed .zeros)))
 
-  unused-at : (k : ℕ) → 8 + 3 * tasksIn b ≤ k → k < 127 → nth (wordsOf (guestOf b) p) k ≡ word b k
-  unused-at k h l = written .unused k h (omega arith) ∙ sym (zero-at b (8 + 3 * tasksIn b) 127 k h l (and-right (zeroBetween b 5 8) _ (passed .zeros)))
+  unused-at : (k : ℕ) → 8 + 3 * taskCount b ≤ k → k < 127 → nth (wordsOf (guestOf b) p) k ≡ word b k
+  unused-at k h l = written .unused k h (omega arith) ∙ sym (zero-at b (8 + 3 * taskCount b) 127 k h l (and-right (zeroBetween b 5 8) _ (passed .zeros)))
 
   -- entry i's number j
-  entry-at : (i : ℕ) → i < tasksIn b → (j : ℕ) → j < 3 → nth (wordsOf (guestOf b) p) (8 + j + 3 * i) ≡ word b (8 + j + 3 * i)
+  entry-at : (i : ℕ) → i < taskCount b → (j : ℕ) → j < 3 → nth (wordsOf (guestOf b) p) (8 + j + 3 * i) ≡ word b (8 + j + 3 * i)
   entry-at i l =
       let o = written .entry i l in
       three (λ j. nth (wordsOf (guestOf b) p) (8 + j + 3 * i) ≡ word b (8 + j + 3 * i))
@@ -83,7 +84,7 @@ module _ (b : List ℕ) (p : ℕ) (new : Bool) (long : length b ≡ 512) (bytes 
         | yes h ↦ head-at k h
         | no h ↦ elim (decLt k 8) [
           | yes m ↦ spare-at k (omega arith) m
-          | no m ↦ elim (decLt k (8 + 3 * tasksIn b)) [
+          | no m ↦ elim (decLt k (8 + 3 * taskCount b)) [
             | yes n ↦
                 let e : 8 + (k - 8) % 3 + 3 * ((k - 8) / 3) ≡ k = omega arith in
                 rw e at (entry-at ((k - 8) / 3) (omega arith) ((k - 8) % 3) (omega arith))

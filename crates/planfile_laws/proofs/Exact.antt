@@ -143,10 +143,10 @@ module _ (s : List ℕ) where
   most = rw (by-size (sizeOk (length s)) refl) (most-by (sizeOk (length s)))
 
 -- a number that the search gave: reading gave none
-after : (x q n k : ℕ) (r : Refusal) → x ≤ 6 → orElse x q r ≡ refused n k → (6 < n) ⊎ (n ≡ 0) → (x ≡ 0) × (r ≡ refused n k)
+past-file : (x q n k : ℕ) (r : Refusal) → x ≤ 6 → orElse x q r ≡ refused n k → (6 < n) ⊎ (n ≡ 0) → (x ≡ 0) × (r ≡ refused n k)
 unfolding orElse
-after zero q n k r l e h = (refl, e)
-after (suc x) q n k r l e h =
+past-file zero q n k r l e h = (refl, e)
+past-file (suc x) q n k r l e h =
     absurd (let a : suc x ≡ n = ap (λ (r : Refusal). r .number) e in ⊎-elim (λ b. omega arith) (λ b. omega arith) h)
 
 -- reading gave none: the search decides
@@ -157,7 +157,7 @@ orElse-zero x q r e = rw e refl
 module _ (s : List ℕ) (id : ℕ) where
   searched : (n k : ℕ) → foundPlace s id ≡ refused n k → (6 < n) ⊎ (n ≡ 0) → (fileRefusal s .number ≡ 0) × (placed (firstWith s id) ≡ refused n k)
   unfolding foundPlace
-  searched n k e h = after (fileRefusal s .number) (fileRefusal s .place) n k (placed (firstWith s id)) (most s) e h
+  searched n k e h = past-file (fileRefusal s .number) (fileRefusal s .place) n k (placed (firstWith s id)) (most s) e h
 
   -- by what the search found
   seven-by : (f : Found) → Says (λ k. eqb (idAt s k) id) (blocksIn s) 0 f → placed f ≡ refused 7 0 → (k : ℕ) → k < blocksIn s → idAt s k ≡ id → ⊥

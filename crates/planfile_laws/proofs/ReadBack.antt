@@ -17,7 +17,7 @@ use Rattle.block.specs.Writing.{blockOf, written}
 use Rattle.planfile.specs.File.{blockAt, idAt, blocksIn, sizeOk, numberAt, fileRefusal}
 use Rattle.planfile.specs.Records.{recordsOf, readOf}
 use Rattle.planfile_laws.specs.File.{fileOf, clearedGuest, cleared}
-use Rattle.planfile_laws.specs.Fits.{PlanFits}
+use Rattle.planfile_laws.specs.Fits.{PlanInTypes}
 use Rattle.lists.proofs.All.{and-true, all-by, all-ext}
 use Rattle.lists.proofs.Table.{table-ext}
 use Rattle.plan.proofs.Ranges.{TaskIn, HeadIn, GuestIn}
@@ -46,7 +46,7 @@ tasks-pass : (g : Guest) → GuestIn g → tasksOk g ≡ true
 unfolding tasksOk
 tasks-pass g i = all-by _ (g .tasks) (λ k l. task-passes (i .tasks k l))
 
-module _ (p : Plan) (fits : PlanFits p) (ok : planRefusal p .number ≡ 0) where
+module _ (p : Plan) (fits : PlanInTypes p) (ok : planRefusal p .number ≡ 0) where
   inside : PlanIn p
   inside = plan-in p ok
 
@@ -110,7 +110,7 @@ module _ (p : Plan) (fits : PlanFits p) (ok : planRefusal p .number ≡ 0) where
       ∙ ap (λ (gs : List Guest). reading fine (record { count = p .count; guests = gs })) records-are
 
 -- for records that pass the check, the file of their blocks is read without a refusal as those records, with zeros past the counts
-pub read-back : (p : Plan) → PlanFits p → planRefusal p .number ≡ 0 → readOf (fileOf p) ≡ record { refusal = fine; plan = cleared p }
+pub read-back : (p : Plan) → PlanInTypes p → planRefusal p .number ≡ 0 → readOf (fileOf p) ≡ record { refusal = fine; plan = cleared p }
 unfolding s
 read-back p fits ok = back p fits ok
 

@@ -13,7 +13,7 @@ use Rattle.words.specs.Wrap.{wrapped, complement}
 use Rattle.plan.specs.declared.Guest.{Guest}
 use Rattle.block.specs.Layout.{runWord, everyWord, deadlineWord, halves}
 use Rattle.block.specs.Writing.{withHead, withEntry, withEntries, wordsOf, withCheck}
-use Rattle.planfile_laws.specs.Fits.{Below, GuestFits}
+use Rattle.planfile_laws.specs.Fits.{Below, GuestInTypes}
 use Rattle.lists.proofs.Places.{set-get}
 use Rattle.block.proofs.Writing.{head-length, entries-length}
 
@@ -145,7 +145,7 @@ module _ (g : Guest) (p : ℕ) where
         | no h ↦ rw (List·getD-eq-default {A = ℕ} (replicate 128 0) 0 {n = k} (rw (length-replicate {A = ℕ} 128 0) (omega arith))) (omega arith)
       ]
 
-  head-fits : GuestFits g → p ≤ 7 → g .tasks ≤ 16 → Below (2 ^ 32) (withHead g p zeros)
+  head-fits : GuestInTypes g → p ≤ 7 → g .tasks ≤ 16 → Below (2 ^ 32) (withHead g p zeros)
   unfolding withHead
   head-fits f l h =
       let c = f .charge in
@@ -184,11 +184,7 @@ module _ (g : Guest) (p : ℕ) where
         unused = λ k l m. entries-after (g .run) (g .every) (g .deadline) (g .tasks) x k l ∙ head-past k (omega arith) m;
       }
 
-  pub words-length : length (wordsOf g p) ≡ 128
-  unfolding wordsOf zeros
-  words-length = entries-length (g .run) (g .every) (g .deadline) (g .tasks) (withHead g p zeros) ∙ head-length g p zeros
-
-  pub words-fit : GuestFits g → p ≤ 7 → g .tasks ≤ 16 → Below (2 ^ 32) (wordsOf g p)
+  pub words-fit : GuestInTypes g → p ≤ 7 → g .tasks ≤ 16 → Below (2 ^ 32) (wordsOf g p)
   unfolding wordsOf zeros
   words-fit f l h = entries-fit (g .run) (g .every) (g .deadline) (2 ^ 32) (g .tasks) (withHead g p zeros) (f .run) (f .every) (f .deadline) (head-fits f l h)
 

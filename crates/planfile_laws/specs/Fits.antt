@@ -11,7 +11,7 @@ abbrev pub Below : ℕ → List ℕ → Type 0
 Below bound l = (i : ℕ) → nth l i < bound
 
 -- a guest's numbers are u32, its charge u16
-pub record GuestFits (g : Guest) : Type 0 where
+pub record GuestInTypes (g : Guest) : Type 0 where
   pub id : g .id < 2 ^ 32
   pub capacity : g .capacity < 2 ^ 32
   pub period : g .period < 2 ^ 32
@@ -21,8 +21,8 @@ pub record GuestFits (g : Guest) : Type 0 where
   pub deadline : Below (2 ^ 32) (g .deadline)
 
 -- those of a plan's guests
-abbrev pub PlanFits : Plan → Type 0
-PlanFits p = (k : ℕ) → k < p .count → GuestFits (guestAt (p .guests) k)
+abbrev pub PlanInTypes : Plan → Type 0
+PlanInTypes p = (k : ℕ) → k < p .count → GuestInTypes (guestAt (p .guests) k)
 
 -- bytes
 abbrev pub Bytes : List ℕ → Type 0

@@ -6,9 +6,9 @@ use Rattle.plan.specs.Records.{blank}
 use Rattle.plan.specs.declared.Guest.{Guest}
 use Rattle.plan.specs.declared.Plan.{Plan}
 
--- a column of 16, zeros past its entries
-abbrev pub column : List ℕ → List ℕ
-column l = take 16 (l ++ replicate 16 0)
+-- a padded of 16, zeros past its entries
+abbrev pub padded : List ℕ → List ℕ
+padded l = take 16 (l ++ replicate 16 0)
 
 -- a guest by its id, capacity, period, charge and its tasks' runs, periods and deadlines
 abbrev pub guest : (id capacity period charge : ℕ) → (run every deadline : List ℕ) → Guest
@@ -18,9 +18,9 @@ guest id capacity period charge run every deadline = record {
   period = period;
   tasks = length run;
   charge = charge;
-  run = column run;
-  every = column every;
-  deadline = column deadline;
+  run = padded run;
+  every = padded every;
+  deadline = padded deadline;
 }
 
 -- a plan of these guests, records of zeros past them

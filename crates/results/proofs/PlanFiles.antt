@@ -11,12 +11,12 @@ use Rattle.plan.specs.declared.Plan.{Plan}
 use Rattle.block.specs.Writing.{blockOf, written}
 use Rattle.planfile.specs.Records.{readOf}
 use Rattle.planfile_laws.specs.File.{fileOf, cleared}
-use Rattle.planfile_laws.specs.Fits.{PlanFits, Bytes}
+use Rattle.planfile_laws.specs.Fits.{PlanInTypes, Bytes}
 use Rattle.planfile_laws.proofs.OnlyOurs as ours
 use Rattle.planfile_laws.proofs.ReadBack as back
 
 -- Records that pass the check, written block by block, read as those records.
-pub read-back : (p : Plan) → PlanFits p → planRefusal p .number ≡ 0 → readOf (fileOf p) ≡ record { refusal = fine; plan = cleared p }
+pub read-back : (p : Plan) → PlanInTypes p → planRefusal p .number ≡ 0 → readOf (fileOf p) ≡ record { refusal = fine; plan = cleared p }
 read-back = back.read-back
 
 -- Each block of that file is what the writer leaves in a lent buffer of 512 bytes.

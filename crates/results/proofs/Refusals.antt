@@ -15,7 +15,7 @@ use Rattle.history.proofs.Refused as refusals
 
 -- The writer leaves every byte as it was.
 pub write-alters-nothing : (g : Guest) (place : ℕ) (before : List ℕ) → 0 < writeRefusal g place (length before) .number → written g place before ≡ before
-write-alters-nothing = writing.refused-same
+write-alters-nothing = writing.refused-write-same
 
 -- A release, a tick or a run hands the state back as it was.
 pub call-alters-nothing : (c : Call) (d : Dispatcher) → 0 < callNumber c d → after c d ≡ d

@@ -3,9 +3,9 @@ use mathlib.Core.Path.{_≡_, sym, ap, _∙_}
 use mathlib.Core.Bool.{Bool, true, _&&_}
 use borrow.Author.Needs.{needs}
 use borrow.Author.Tests.{eq-eqb, ne-eqb, not-true, not-false}
-use Rattle.block.specs.Reading.{guestOf, sumsToZero, kindOk, placeOk, zerosOk}
+use Rattle.block.specs.Reading.{guestOf, sumsToZero, kindOk, ownPlace, zerosOk}
 use Rattle.plan.specs.Ranges.{guestOk}
-use Rattle.block.proofs.Reading.{two, three, four, five, six, none, few-tasks}
+use Rattle.block.proofs.Reading.{two, three, four, five, six, none, few-in-block}
 use Rattle.block.proofs.reader.block_number.Statement.{statement}
 use Rattle.block.proofs.reader.block_number.Tie as tie
 
@@ -32,7 +32,7 @@ at3 c = at2 (to2 c)
 sums : (c : tie.Else1) → sumsToZero (at1 c .args .b .now) ≡ true
 sums c = eq-eqb _ _ (sym (c .before .sum-words .ensures) ∙ c .if1 .left)
 
-opens : (c : tie.Else2) → (kindOk (at2 c .args .b .now) && placeOk (at2 c .args .b .now) (at2 c .args .place)) ≡ true
+opens : (c : tie.Else2) → (kindOk (at2 c .args .b .now) && ownPlace (at2 c .args .b .now) (at2 c .args .place)) ≡ true
 opens c = sym (c .before .opening-ok .ensures) ∙ not-false _ (c .if2 .left)
 
 head-of : (c : tie.Else2) {t : Bool} → t ≡ guestOk (guestOf (at2 c .args .b .now))
@@ -70,7 +70,7 @@ returns-3 c =
     four (a .b .now) (a .place) (a .fresh) (sums (to1 o)) (opens o) (head-of o (c .before .head-in .ensures) ∙ not-true _ (c .if3 .taken))
 
 zeros-ok-requires : tie.Need-zeros-ok-requires
-zeros-ok-requires c κs = (at3 c .pre, few-tasks _ (at3 c .args .fresh) (heads c))
+zeros-ok-requires c κs = (at3 c .pre, few-in-block _ (at3 c .args .fresh) (heads c))
 
 returns-4 : tie.Need-returns-4
 returns-4 c =
@@ -79,7 +79,7 @@ returns-4 c =
     five (a .b .now) (a .place) (a .fresh) (sums (to1 (to2 o))) (opens (to2 o)) (heads o) (sym (c .before .zeros-ok .ensures) ∙ not-true _ (c .if4 .taken))
 
 tasks-in-requires : tie.Need-tasks-in-requires
-tasks-in-requires c κs = let o = to3 c in (at3 o .pre, few-tasks _ (at3 o .args .fresh) (heads o))
+tasks-in-requires c κs = let o = to3 c in (at3 o .pre, few-in-block _ (at3 o .args .fresh) (heads o))
 
 returns-5 : tie.Need-returns-5
 returns-5 c =

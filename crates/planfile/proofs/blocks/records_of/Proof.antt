@@ -5,7 +5,7 @@ use native.Mathlib.Omega.{arith}
 use lib.ListN.{length, replicate, length-set}
 use borrow.Author.Needs.{needs}
 use Rattle.planfile.specs.Records.{recordsOf}
-use Rattle.planfile.proofs.Records.{records-none, records-next}
+use Rattle.planfile.proofs.Records.{no-records, records-next}
 use Rattle.planfile.proofs.blocks.records_of.Statement.{statement}
 use Rattle.planfile.proofs.blocks.records_of.Tie as tie
 
@@ -19,7 +19,7 @@ blank-guest-requires : tie.Need-blank-guest-requires Inv-loop μ-loop
 blank-guest-requires c κs = search needs
 
 loop-holds : tie.Need-loop-holds Inv-loop μ-loop
-loop-holds c = let a = c .before .before .args in (search needs, (ap (replicate 8) (c .blank-guest .ensures) ∙ records-none (a .s .now), refl))
+loop-holds c = let a = c .before .before .args in (search needs, (ap (replicate 8) (c .blank-guest .ensures) ∙ no-records (a .s .now), refl))
 
 guest-at-requires : tie.Need-guest-at-requires Inv-loop μ-loop
 guest-at-requires c κs = search needs

@@ -1,9 +1,9 @@
--- `mkplan::text::read` is safe and ends: the loop goes over the text's bytes. Assumes nothing.
+-- `mkplan::lines::read` is safe and ends: the loop goes over the text's bytes. Assumes nothing.
 use Prim.Native.Nat.{_≤_, _-_}
 use lib.ListN.{length}
 use borrow.Author.Needs.{needs}
-use Rattle.mkplan.proofs.text.read.Statement.{statement}
-use Rattle.mkplan.proofs.text.read.Tie as tie
+use Rattle.mkplan.proofs.lines.read.Statement.{statement}
+use Rattle.mkplan.proofs.lines.read.Tie as tie
 
 abbrev Inv-loop : tie.InvT-loop
 Inv-loop text t₀ i₀ i-end t i = i ≤ length text

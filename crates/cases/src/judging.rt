@@ -1,0 +1,47 @@
+// The plan's records handed over: verdicts, acceptance and the smallest capacity.
+use crate::say;
+use capacity::CapacityAnswer;
+use draft::text::Row;
+use plan::Plan;
+use show::Line;
+
+// Of a guest, or of one of its tasks.
+fn verdict(p: Plan, row: Row) {
+    let x = row.numbers;
+    say::text(b": ");
+    if row.count < 2 {
+        show::print(show::guest_line(p, x[0]));
+    } else {
+        show::print(show::task_line(p, x[0], x[1]));
+    }
+}
+
+fn accept(p: Plan) {
+    say::text(b": ");
+    show::print(show::last_line(p));
+}
+
+fn smallest(p: Plan, id: u32) {
+    match capacity::smallest_capacity(p, id) {
+        CapacityAnswer::Refused(number, place) => {
+            say::text(b": ");
+            show::print(Line::Refused(number, place));
+        }
+        CapacityAnswer::Smallest(c) => {
+            say::number(b": capacity ", c);
+            say::text(b"\n");
+        }
+    }
+}
+
+// `verdict` of a guest or a task; `accept`; `smallest` capacity of a guest.
+pub fn ask(p: Plan, row: Row) {
+    let x = row.numbers;
+    let first = row.first;
+    match first {
+        b'v' => verdict(p, row),
+        b'a' => accept(p),
+        b's' => smallest(p, x[0]),
+        _ => {}
+    }
+}

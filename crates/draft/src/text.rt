@@ -1,0 +1,125 @@
+// A line of text: its first letter says what it is, and whatever is no digit parts its numbers.
+// A guest's line is `guest ID CAPACITY/PERIOD charge CHARGE`, a task's `task RUN/PERIOD/DEADLINE`.
+use plan::Plan;
+
+// A line as far as it is read: its first byte, its numbers, and whether the last byte was a digit.
+pub struct Row {
+    pub first: u8,
+    pub count: u32,
+    pub inside: bool,
+    pub numbers: [u32; 6],
+}
+
+pub fn blank_row() -> Row {
+    Row {
+        first: 0,
+        count: 0,
+        inside: false,
+        numbers: [0; 6],
+    }
+}
+
+// The number with one digit more; one past 32 bits stays the largest.
+fn longer(n: u32, digit: u8) -> u32 {
+    let x = 10 * (n as u64) + (digit as u64);
+    if x < 4294967295 { x as u32 } else { 4294967295 }
+}
+
+// The line with a digit more.
+fn with_digit(row: Row, digit: u8) -> Row {
+    let mut row = row;
+    let mut numbers = row.numbers;
+    if !row.inside {
+        if row.count < 7 {
+            row.count += 1;
+        }
+        row.inside = true;
+    }
+    let n = row.count as usize;
+    if n < 1 {
+        return row;
+    }
+    let i = n - 1;
+    if i < 6 {
+        numbers[i] = longer(numbers[i], digit);
+        row.numbers = numbers;
+    }
+    row
+}
+
+// The line with a byte more.
+pub fn with_byte(row: Row, b: u8) -> Row {
+    let mut row = row;
+    if row.first == 0 {
+        row.first = b;
+    }
+    if 48 <= b {
+        if b <= 57 {
+            return with_digit(row, b - 48);
+        }
+    }
+    row.inside = false;
+    row
+}
+
+// How many tasks the last guest has; as many as there can be where there is none.
+fn last_tasks(p: Plan) -> u32 {
+    let guests = p.guests;
+    let n = p.count as usize;
+    if n < 1 {
+        return 16;
+    }
+    let k = n - 1;
+    if k < 8 { guests[k].tasks } else { 16 }
+}
+
+// What the line is below a plan: 0 nothing, 1 a guest, 2 a task, 3 none of these.
+pub fn kind_of(row: Row, p: Plan) -> u32 {
+    let x = row.numbers;
+    if (row.first == 0) | (row.first == b'#') {
+        return 0;
+    }
+    if (row.first == b'g') & (row.count == 4) & (x[3] <= 65535) & (p.count < 8) {
+        return 1;
+    }
+    if (row.first == b't') & (row.count == 3) & (last_tasks(p) < 16) {
+        return 2;
+    }
+    3
+}
+
+// The plan with the line's guest below the others.
+fn with_guest(p: Plan, x: [u32; 6]) -> Plan {
+    if x[3] <= 65535 {
+        return crate::with_guest(p, crate::guest(x[0], x[1], x[2], x[3] as u16));
+    }
+    p
+}
+
+// The plan with the line's task below the last guest's others.
+fn with_task(p: Plan, x: [u32; 6]) -> Plan {
+    let mut guests = p.guests;
+    let count = p.count;
+    let n = count as usize;
+    if n < 1 {
+        return p;
+    }
+    let k = n - 1;
+    if k < 8 {
+        guests[k] = crate::with_task(guests[k], x[0], x[1], x[2]);
+    }
+    Plan { count, guests }
+}
+
+// The plan with the line's guest or task; as it was where the line is neither.
+pub fn with_line(p: Plan, row: Row) -> Plan {
+    let kind = kind_of(row, p);
+    let x = row.numbers;
+    if kind == 1 {
+        return with_guest(p, x);
+    }
+    if kind == 2 {
+        return with_task(p, x);
+    }
+    p
+}
