@@ -16,7 +16,7 @@ use Rattle.dispatcher.specs.declared.Ran.{Ran}
 use Rattle.dispatcher.specs.Valid.{stateOk}
 use Rattle.dispatcher.specs.Tick.{next}
 use Rattle.dispatcher.specs.Answer.{answer, finishes}
-use Rattle.dispatcher.specs.Run.{ranTo, runFrom, runOf}
+use Rattle.dispatcher.specs.Run.{ranTo, runFrom, runFor}
 use Rattle.dispatcher.specs.Lent.{lastBy, Gone}
 use Rattle.dispatcher.specs.Entries.{tickedBy, tick, longestRun, ranBy, run}
 use Rattle.lists.proofs.Refusals.{none-left, go-on, stop}
@@ -32,7 +32,7 @@ unfolding run ranBy
 run-long d n e h = rw (go-on 14 _ e ∙ stop 13 [] (lt-leb n longestRun h)) refl
 
 -- a run that is not refused
-run-is : (d : Dispatcher) (n : ℕ) → stateOk d ≡ true → n ≤ 1000000 → runOf n d ≡ run d n
+run-is : (d : Dispatcher) (n : ℕ) → stateOk d ≡ true → n ≤ 1000000 → runFor n d ≡ run d n
 unfolding run ranBy
 run-is d n e h = rw (go-on 14 _ e ∙ go-on 13 [] (le-leb n longestRun h) ∙ none-left) refl
 
@@ -57,8 +57,8 @@ abbrev tickOf : Ran → Ticked
 tickOf r = record { refusal = r .refusal; answer = r .answer; state = r .state }
 
 -- a run of one tick ends after it, whether it finishes a job or not
-run-one : (d : Dispatcher) → tickOf (runOf 1 d) ≡ record { refusal = fine; answer = answer d; state = next d }
-unfolding runOf runFrom
+run-one : (d : Dispatcher) → tickOf (runFor 1 d) ≡ record { refusal = fine; answer = answer d; state = next d }
+unfolding runFor runFrom
 run-one d = go (finishes (answer d))
   where
     go : (b : Bool) → tickOf (pick b (ranTo 1 (answer d) (next d)) (ranTo 1 (answer d) (next d))) ≡ record { refusal = fine; answer = answer d; state = next d }

@@ -9,7 +9,7 @@ use Rattle.dispatcher.specs.declared.Turn.{Turn}
 use Rattle.dispatcher.specs.declared.Answer.{Answer}
 use Rattle.dispatcher.specs.Tick.{next}
 use Rattle.dispatcher.specs.Answer.{answer, finishes}
-use Rattle.dispatcher.specs.Run.{ranTo, runFrom, runOf}
+use Rattle.dispatcher.specs.Run.{ranTo, runFrom, runFor}
 use Rattle.dispatcher.specs.Lent.{Stepped, lastBy, Gone}
 use Rattle.dispatcher.proofs.Answers.{finishes-done, finishes-more}
 
@@ -28,11 +28,11 @@ run-none n done last d h = let q : n - done ≡ 0 = omega arith in rw q refl
 pub record Going (d : Dispatcher) (n done : ℕ) (t : Turn) (now : Dispatcher) : Type 0 where
   pub before : Dispatcher
   pub last : 0 < done → Stepped before now t
-  pub left : runOf n d ≡ runFrom (n - done) done (lastBy done before) now
+  pub left : runFor n d ≡ runFrom (n - done) done (lastBy done before) now
 
 -- it starts
 pub starts : (d : Dispatcher) (n : ℕ) (t : Turn) → Going d n 0 t d
-unfolding runOf lastBy
+unfolding runFor lastBy
 starts d n t = record { before = d; last = λ h. absurd (omega arith); left = let q : n - 0 ≡ n = omega arith in rw q refl }
 
 -- the answer of the last of some ticks

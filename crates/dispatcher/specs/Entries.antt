@@ -11,7 +11,7 @@ use Rattle.dispatcher.specs.declared.Ran.{Ran}
 use Rattle.dispatcher.specs.Valid.{stateOk}
 use Rattle.dispatcher.specs.Tick.{next}
 use Rattle.dispatcher.specs.Answer.{answer}
-use Rattle.dispatcher.specs.Run.{runOf}
+use Rattle.dispatcher.specs.Run.{runFor}
 
 -- the longest run, in ticks
 abbrev pub longestRun : ℕ
@@ -28,7 +28,7 @@ tick d = tickedBy (refusal (stateOk d orRefuse 14 ∷ [])) d
 
 -- by the number that a run is refused by
 unfoldable pub ranBy : ℕ → Dispatcher → ℕ → Ran
-ranBy zero d n = runOf n d
+ranBy zero d n = runFor n d
 ranBy (suc x) d n = record { refusal = refused (suc x) 0; done = 0; answer = Silent; state = d }
 
 -- a run of n ticks

@@ -28,7 +28,7 @@ use Rattle.dispatcher.specs.Valid.{stateOk}
 use Rattle.dispatcher.specs.Release.{releaseNumber}
 use Rattle.dispatcher.specs.Tick.{refilled, holder, isHeld, leftAfter, worker, isWorked, restAfter, ageAfter, next}
 use Rattle.dispatcher.specs.Answer.{answer}
-use Rattle.dispatcher.specs.Run.{ranTo, runOf}
+use Rattle.dispatcher.specs.Run.{ranTo, runFor}
 
 -- the state of a plan with these arrays
 abbrev pub stateOf : Plan → (left position rest wait age : List ℕ) → Dispatcher
@@ -119,7 +119,7 @@ lastBy (suc n) before = answer before
 pub record Gone (d : Dispatcher) (n done : ℕ) (t : Turn) (after : Dispatcher) : Type 0 where
   pub before : Dispatcher
   pub last : 0 < done → Stepped before after t
-  pub ran : runOf n d ≡ ranTo done (lastBy done before) after
+  pub ran : runFor n d ≡ ranTo done (lastBy done before) after
 
 -- what a release that no number refuses sets: the place of task i of guest g, at place k, its charged run and its period
 pub record Taking (g : Guest) (k i : ℕ) (r : Aim) : Type 0 where

@@ -25,5 +25,5 @@ runFrom (suc n) done last d =
     pick (finishes (answer d)) (ranTo (done + 1) (answer d) (next d)) (runFrom n (done + 1) (answer d) (next d))
 
 -- a run of n ticks; zero ticks report 0 and no answer
-unfoldable pub runOf : ℕ → Dispatcher → Ran
-runOf n d = runFrom n 0 Silent d
+unfoldable pub runFor : ℕ → Dispatcher → Ran
+runFor n d = runFrom n 0 Silent d

@@ -14,7 +14,7 @@ use Rattle.dispatcher.specs.declared.Dispatcher.{Dispatcher}
 use Rattle.dispatcher.specs.declared.Answer.{Answer}
 use Rattle.dispatcher.specs.declared.Answer.the-variants.{Silent}
 use Rattle.dispatcher.specs.Answer.{answer, finishes}
-use Rattle.dispatcher.specs.Run.{ranTo, runFrom, runOf}
+use Rattle.dispatcher.specs.Run.{ranTo, runFrom, runFor}
 use Rattle.dispatcher.specs.Tick.{next}
 use Rattle.dispatcher.specs.Valid.{stateOk}
 use Rattle.dispatcher.specs.Fresh.{idle, startedBy, fresh}
@@ -91,7 +91,7 @@ run-fine (suc n) m a d = go (finishes (answer d)) (run-fine n (m + 1) (answer d)
 
 -- so a run that is refused changes nothing
 run-same : (x : ℕ) (d : Dispatcher) (n : ℕ) → 0 < ranBy x d n .refusal .number → ranBy x d n .state ≡ d
-unfolding ranBy runOf
+unfolding ranBy runFor
 run-same zero d n h = absurd (omega (arith, run-fine n 0 Silent d))
 run-same (suc x) d n h = refl
 

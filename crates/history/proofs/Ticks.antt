@@ -19,7 +19,7 @@ use Rattle.dispatcher.specs.State.{restAt}
 use Rattle.dispatcher.specs.Valid.{stateOk}
 use Rattle.dispatcher.specs.Tick.{holder, isHeld, worker, isWorked, next}
 use Rattle.dispatcher.specs.Answer.{answerBy, answer, finishes}
-use Rattle.dispatcher.specs.Run.{ticks, ranTo, runFrom, runOf}
+use Rattle.dispatcher.specs.Run.{ticks, ranTo, runFrom, runFor}
 use Rattle.dispatcher.specs.Entries.{longestRun, tickedBy, tick, ranBy, run}
 use Rattle.history.specs.Calls.{listed, singles}
 use Rattle.lists.proofs.Refusals.{none-left, go-on, stop}
@@ -180,8 +180,8 @@ from-by (suc n) k a d ok = by (finishes (answer d)) refl (from-by n (k + 1) (ans
     by false e F = from-on n k a d (runFrom n (k + 1) (answer d) (next d)) ok e F
 
 -- a run that is not refused
-runs-by : (n : ℕ) (d : Dispatcher) → stateOk d ≡ true → RunBy n d (runOf n d)
-unfolding runOf
+runs-by : (n : ℕ) (d : Dispatcher) → stateOk d ≡ true → RunBy n d (runFor n d)
+unfolding runFor
 runs-by n d ok =
     let F = from-by n 0 Silent d ok in
     let e : runFrom n 0 Silent d .done ≡ F .j = omega (arith, F .done) in
@@ -204,7 +204,7 @@ run-too-long : (n : ℕ) (d : Dispatcher) → stateOk d ≡ true → 1000000 < n
 run-too-long n d ok h = go-on 14 _ ok ∙ stop 13 [] (lt-leb n longestRun h)
 
 -- the call
-pub run-fine : (n : ℕ) (d : Dispatcher) → stateOk d ≡ true → n ≤ 1000000 → run d n ≡ runOf n d
+pub run-fine : (n : ℕ) (d : Dispatcher) → stateOk d ≡ true → n ≤ 1000000 → run d n ≡ runFor n d
 unfolding run ranBy
 run-fine n d ok h = ap (λ (x : ℕ). ranBy x d n) (run-number n d ok h)
 

@@ -23,14 +23,14 @@ use Rattle.dispatcher.specs.Fresh.{idle, startedBy, fresh}
 use Rattle.dispatcher.specs.Release.{taken, releaseNumber, releasedBy, release}
 use Rattle.dispatcher.specs.Tick.{lessAt, refilled, holder, isHeld, leftAfter, worker, isWorked, restAfter, ageAfter, waitAfter, positionAfter, next}
 use Rattle.dispatcher.specs.Answer.{marginOf, answerBy, answer, finishes}
-use Rattle.dispatcher.specs.Run.{runFrom, runOf}
+use Rattle.dispatcher.specs.Run.{runFrom, runFor}
 use Rattle.dispatcher.specs.Entries.{ranBy, run}
 use Rattle.lists.specs.Places.{upTo}
 use Rattle.results.specs.Numbers.{Numbers}
 
 -- case by case
 pub numbers : Numbers
-unfolding allTo unless refusal least firstFrom sumTo up solve chargedRun orElse firstRefused newId numberOf guestNumber countedBy planRefusal placeOf headOk taskOk tasksOk jitter interference guestRight guestResponse fitted fittedTo gap load periods taskRight limit taskResponse hasGuest hasTask recordsThen refusedBy guestVerdict taskSays taskVerdict allMet accepted acceptSays acceptance withCapacity works smallest smallestCapacity upTo tasksIn guestInRange taskInRange rowOk stateOk idle startedBy fresh taken releaseNumber releasedBy release lessAt refilled holder isHeld leftAfter worker isWorked restAfter ageAfter waitAfter positionAfter next marginOf answerBy answer finishes runFrom runOf ranBy run
+unfolding allTo unless refusal least firstFrom sumTo up solve chargedRun orElse firstRefused newId numberOf guestNumber countedBy planRefusal placeOf headOk taskOk tasksOk jitter interference guestRight guestResponse fitted fittedTo gap load periods taskRight limit taskResponse hasGuest hasTask recordsThen refusedBy guestVerdict taskSays taskVerdict allMet accepted acceptSays acceptance withCapacity works smallest smallestCapacity upTo tasksIn guestInRange taskInRange rowOk stateOk idle startedBy fresh taken releaseNumber releasedBy release lessAt refilled holder isHeld leftAfter worker isWorked restAfter ageAfter waitAfter positionAfter next marginOf answerBy answer finishes runFrom runFor ranBy run
 numbers = record {
   alone = refl;
   second = refl;

@@ -16,7 +16,7 @@ use Rattle.dispatcher.specs.Answer.{marginOf, answerBy, answer, finishes}
 use Rattle.dispatcher.specs.Entries.{ranBy, run}
 use Rattle.dispatcher.specs.Fresh.{idle, startedBy, fresh}
 use Rattle.dispatcher.specs.Release.{taken, releaseNumber, releasedBy, release}
-use Rattle.dispatcher.specs.Run.{runFrom, runOf}
+use Rattle.dispatcher.specs.Run.{runFrom, runFor}
 use Rattle.dispatcher.specs.Tick.{lessAt, refilled, holder, isHeld, leftAfter, worker, isWorked, restAfter, ageAfter, waitAfter, positionAfter, next}
 use Rattle.dispatcher.specs.Valid.{tasksIn, guestInRange, taskInRange, rowOk, stateOk}
 use Rattle.history.specs.Calls.{Call, releasing, start, after, play, ticksIn, answers, Throughout}
@@ -52,5 +52,5 @@ second-finished ds h = finished-by-R A 9 2 80 (numbers .second-task) [] second-t
 
 -- Case 7: the guest 1/1000 is fitted, but its task is not quoted; released at tick 0, it is turned away at tick 10, though its period has passed.
 pub case-7-turned-away : release (run (release (fresh planD .state) 7 1 .state) 10 .state) 7 1 .refusal .number ≡ 10
-unfolding allTo upTo unless refusal firstFrom chargedRun orElse firstRefused newId numberOf guestNumber countedBy planRefusal placeOf headOk taskOk tasksOk marginOf answerBy answer finishes ranBy run idle startedBy fresh taken releaseNumber releasedBy release runFrom runOf lessAt refilled holder isHeld leftAfter worker isWorked restAfter ageAfter waitAfter positionAfter next tasksIn guestInRange taskInRange rowOk stateOk
+unfolding allTo upTo unless refusal firstFrom chargedRun orElse firstRefused newId numberOf guestNumber countedBy planRefusal placeOf headOk taskOk tasksOk marginOf answerBy answer finishes ranBy run idle startedBy fresh taken releaseNumber releasedBy release runFrom runFor lessAt refilled holder isHeld leftAfter worker isWorked restAfter ageAfter waitAfter positionAfter next tasksIn guestInRange taskInRange rowOk stateOk
 case-7-turned-away = refl
