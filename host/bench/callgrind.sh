@@ -1,6 +1,6 @@
 #!/bin/sh
-# Prints the instructions of one call, of the library and of plain Rust, for each case or the named ones.
-# The count of a call is the difference between 30 calls and 10, so that the start of the program falls out.
+# Prints the instructions of one call, of the library, of plain Rust behind the same interface and of plain Rust by reference,
+# for each case or the named ones. The count of a call is the difference between 30 calls and 10, so that the start of the program falls out.
 # From the folder host: bench/callgrind.sh [NAME..]
 set -eu
 cd "$(dirname "$0")/.."
@@ -28,10 +28,10 @@ for name in "$@"; do
     echo "$names" | grep -qx -e "$name" || { echo "no such case: $name" >&2; exit 2; }
 done
 
-printf '%-26s %14s %14s %7s\n' case ours plain ratio
+printf '%-26s %14s %14s %7s %14s %7s\n' case ours same ratio reference ratio
 for name in ${*:-$names}; do
-    ours=$(per_call "$name" --ours)
-    plain=$(per_call "$name" --plain)
-    ratio=$(awk "BEGIN { printf \"%.2f\", $ours / $plain }")
-    printf '%-26s %14s %14s %7s\n' "$name" "$ours" "$plain" "$ratio"
+    ours=$(per_call "$name" ours)
+    same=$(per_call "$name" same)
+    reference=$(per_call "$name" reference)
+    awk "BEGIN { printf \"%-26s %14s %14s %7.2f %14s %7.2f\n\", \"$name\", $ours, $same, $ours / $same, $reference, $ours / $reference }"
 done

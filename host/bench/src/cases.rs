@@ -1,31 +1,35 @@
-//! What is measured: the same call on the same input, of the library and of plain Rust.
+//! What is measured: the same call on the same input, of the library, of plain Rust behind the same
+//! interface, and of plain Rust by reference and in place.
 
 use crate::inputs;
-use coreshare::exports;
+use coreshare::exports as ours;
+use plain::exports as same;
 use plain::verdict::TaskVerdict;
 use std::hint::black_box;
 
-/// A call to be made again and again; what it gives shows that both sides do the same.
+/// A call to be made again and again; what it gives shows that all sides do the same.
 pub type Work = Box<dyn FnMut() -> u64>;
+
+/// The names of the sides, in order.
+pub const SIDES: [&str; 3] = ["ours", "same", "reference"];
 
 pub struct Case {
     pub name: &'static str,
-    pub ours: Work,
-    pub plain: Work,
+    /// Our aim for its ratio to plain Rust.
+    pub aim: f64,
+    pub sides: [Work; 3],
 }
 
-impl Case {
-    fn new(
-        name: &'static str,
-        ours: impl FnMut() -> u64 + 'static,
-        plain: impl FnMut() -> u64 + 'static,
-    ) -> Case {
-        Case {
-            name,
-            ours: Box::new(ours),
-            plain: Box::new(plain),
-        }
-    }
+/// A case of three sides: ours, plain Rust behind the same interface, plain Rust by reference.
+fn case(
+    name: &'static str,
+    aim: f64,
+    ours: impl FnMut() -> u64 + 'static,
+    same: impl FnMut() -> u64 + 'static,
+    reference: impl FnMut() -> u64 + 'static,
+) -> Case {
+    let sides: [Work; 3] = [Box::new(ours), Box::new(same), Box::new(reference)];
+    Case { name, aim, sides }
 }
 
 pub fn all() -> Vec<Case> {
@@ -33,7 +37,6 @@ pub fn all() -> Vec<Case> {
         read("read-1-block", inputs::near_a_million()[..512].to_vec()),
         read("read-8-blocks", inputs::near_a_million()),
         write("write-block", inputs::near_a_million()),
-        write_by_value("write-block-by-value", inputs::near_a_million()),
         accept("accept-plan-a", inputs::plan_a(), true),
         accept("accept-near-a-million", inputs::near_a_million(), true),
         accept("accept-growing", inputs::growing(), true),
@@ -52,12 +55,14 @@ pub fn all() -> Vec<Case> {
         release("release-full", inputs::endless()),
         tick("tick-plan-a", inputs::plan_a()),
         tick("tick-full", inputs::endless()),
-        tick_by_value("tick-plan-a-by-value", inputs::plan_a()),
-        tick_by_value("tick-full-by-value", inputs::endless()),
         run("run-million-plan-a-idle", inputs::plan_a(), false),
         run("run-million-full", inputs::endless(), true),
     ]
 }
+
+/// The aim for plan files, verdicts and capacities, and the one for the dispatcher.
+const FILES: f64 = 1.2;
+const DISPATCHER: f64 = 1.5;
 
 /// The plan as each side reads it.
 fn plans(bytes: &[u8]) -> (coreshare::Plan, plain::Plan) {
@@ -67,98 +72,112 @@ fn plans(bytes: &[u8]) -> (coreshare::Plan, plain::Plan) {
 }
 
 fn read(name: &'static str, bytes: Vec<u8>) -> Case {
-    let same = bytes.clone();
-    let ours = move || {
-        let plan = exports::read(black_box(&bytes)).plan;
-        u64::from(plan.count + plan.guests[0].deadline[15])
-    };
-    let plain = move || {
-        let plan = plain::block::read(black_box(&same)).expect("a plan");
-        u64::from(plan.count + plan.guests[0].deadline[15])
-    };
-    Case::new(name, ours, plain)
+    let (one, two) = (bytes.clone(), bytes.clone());
+    let mut lent = plain::Plan::default();
+    case(
+        name,
+        FILES,
+        move || {
+            let plan = ours::read(black_box(&bytes)).plan;
+            u64::from(plan.count + plan.guests[0].deadline[15])
+        },
+        move || {
+            let plan = same::read(black_box(&one)).plan;
+            u64::from(plan.count + plan.guests[0].deadline[15])
+        },
+        move || {
+            let plan = black_box(&mut lent);
+            plain::block::read_into(black_box(&two), plan).expect("a plan");
+            u64::from(plan.count + plan.guests[0].deadline[15])
+        },
+    )
 }
 
 fn write(name: &'static str, bytes: Vec<u8>) -> Case {
-    let (ours, plain) = plans(&bytes);
-    let (mut to_ours, mut to_plain) = ([0; 512], [0; 512]);
-    let ours = move || {
-        let refusal = exports::write(black_box(&ours.guests[0]), 0, black_box(&mut to_ours));
-        u64::from(refusal.number) + u64::from(to_ours[508])
-    };
-    let plain = move || {
-        let guest = black_box(&plain.guests[0]);
-        plain::block::write(guest, 0, black_box(&mut to_plain)).expect("taken");
-        u64::from(to_plain[508])
-    };
-    Case::new(name, ours, plain)
-}
-
-/// Plain Rust behind the library's own interface: the record by value, in a call of its own.
-fn write_by_value(name: &'static str, bytes: Vec<u8>) -> Case {
-    #[inline(never)]
-    fn by_value(guest: plain::Guest, place: u32, buffer: &mut [u8]) {
-        plain::block::write(&guest, place, buffer).expect("taken");
-    }
-    let (ours, plain) = plans(&bytes);
-    let (mut to_ours, mut to_plain) = ([0; 512], [0; 512]);
-    let ours = move || {
-        let refusal = exports::write(black_box(&ours.guests[0]), 0, black_box(&mut to_ours));
-        u64::from(refusal.number) + u64::from(to_ours[508])
-    };
-    let plain = move || {
-        by_value(*black_box(&plain.guests[0]), 0, black_box(&mut to_plain));
-        u64::from(to_plain[508])
-    };
-    Case::new(name, ours, plain)
+    let (product, plain) = plans(&bytes);
+    let (mut to_ours, mut to_same, mut to_reference) = ([0; 512], [0; 512], [0; 512]);
+    case(
+        name,
+        FILES,
+        move || {
+            let refusal = ours::write(black_box(&product.guests[0]), 0, black_box(&mut to_ours));
+            u64::from(refusal.number) + u64::from(to_ours[508])
+        },
+        move || {
+            let guest = *black_box(&plain.guests[0]);
+            let refusal = same::write(guest, 0, black_box(&mut to_same));
+            u64::from(refusal.number) + u64::from(to_same[508])
+        },
+        move || {
+            let guest = black_box(&plain.guests[0]);
+            plain::block::write(guest, 0, black_box(&mut to_reference)).expect("taken");
+            u64::from(to_reference[508])
+        },
+    )
 }
 
 fn accept(name: &'static str, bytes: Vec<u8>, accepted: bool) -> Case {
-    let (ours, plain) = plans(&bytes);
+    let (product, plain) = plans(&bytes);
     assert_eq!(plain.accepted(), Ok(accepted), "{name}");
-    let ours = move || u64::from(exports::accept(black_box(&ours)).verdict);
-    let plain = move || match black_box(&plain).accepted().expect("a plan") {
-        true => 1,
-        false => 2,
-    };
-    Case::new(name, ours, plain)
+    case(
+        name,
+        FILES,
+        move || u64::from(ours::accept(black_box(&product)).verdict),
+        move || u64::from(same::accept(*black_box(&plain)).verdict),
+        move || match black_box(&plain).accepted().expect("a plan") {
+            true => 1,
+            false => 2,
+        },
+    )
 }
 
 fn guest_verdict(name: &'static str, bytes: Vec<u8>, id: u32, response: u32) -> Case {
-    let (ours, plain) = plans(&bytes);
+    let (product, plain) = plans(&bytes);
     assert_eq!(plain.guest_verdict(id), Ok(Some(response)), "{name}");
-    let ours = move || u64::from(exports::guest_verdict(black_box(&ours), id).ticks);
-    let plain = move || {
-        let response = black_box(&plain).guest_verdict(id).expect("a guest");
-        u64::from(response.unwrap_or(0))
-    };
-    Case::new(name, ours, plain)
+    case(
+        name,
+        FILES,
+        move || u64::from(ours::guest_verdict(black_box(&product), id).ticks),
+        move || u64::from(same::guest_verdict(*black_box(&plain), id).ticks),
+        move || {
+            let response = black_box(&plain).guest_verdict(id).expect("a guest");
+            u64::from(response.unwrap_or(0))
+        },
+    )
 }
 
 /// The last of 16 tasks.
 fn task_verdict(name: &'static str, bytes: Vec<u8>, id: u32, response: u32) -> Case {
-    let (ours, plain) = plans(&bytes);
+    let (product, plain) = plans(&bytes);
     let met = TaskVerdict::Met(response);
     assert_eq!(plain.task_verdict(id, 16), Ok(met), "{name}");
-    let ours = move || u64::from(exports::task_verdict(black_box(&ours), id, 16).ticks);
-    let plain = move || match black_box(&plain).task_verdict(id, 16) {
-        Ok(TaskVerdict::Met(response)) => u64::from(response),
-        _ => 0,
-    };
-    Case::new(name, ours, plain)
+    case(
+        name,
+        FILES,
+        move || u64::from(ours::task_verdict(black_box(&product), id, 16).ticks),
+        move || u64::from(same::task_verdict(*black_box(&plain), id, 16).ticks),
+        move || match black_box(&plain).task_verdict(id, 16) {
+            Ok(TaskVerdict::Met(response)) => u64::from(response),
+            _ => 0,
+        },
+    )
 }
 
 fn capacity(name: &'static str, bytes: Vec<u8>, id: u32, found: Result<u32, u32>) -> Case {
-    let (ours, plain) = plans(&bytes);
+    let (product, plain) = plans(&bytes);
     let refused = |refusal: plain::Refusal| refusal.number;
     assert_eq!(
         plain.smallest_capacity(id).map_err(refused),
         found,
         "{name}"
     );
-    let ours = move || u64::from(exports::smallest_capacity(black_box(&ours), id).ticks);
-    let plain = move || u64::from(black_box(&plain).smallest_capacity(id).unwrap_or(0));
-    Case::new(name, ours, plain)
+    case(
+        name,
+        FILES,
+        move || u64::from(ours::smallest_capacity(black_box(&product), id).ticks),
+        move || u64::from(same::smallest_capacity(*black_box(&plain), id).ticks),
+        move || u64::from(black_box(&plain).smallest_capacity(id).unwrap_or(0)),
+    )
 }
 
 /// A fresh state of each side, with a job of every task if asked for.
@@ -175,66 +194,71 @@ fn states(bytes: &[u8], busy: bool) -> (coreshare::Dispatcher, plain::Dispatcher
     (ours, plain)
 }
 
-/// A release into a fresh state each time: plain Rust has to copy the state, too.
+/// A release into a fresh state each time; in place, the job is taken back.
 fn release(name: &'static str, bytes: Vec<u8>) -> Case {
-    let (ours, plain) = states(&bytes, false);
-    let ours = move || {
-        let next = exports::release(black_box(&ours), 8, 16).dispatcher;
-        u64::from(next.rest[127])
-    };
-    let plain = move || {
-        let mut next = *black_box(&plain);
-        next.release(8, 16).expect("taken");
-        u64::from(black_box(&next).rest[127])
-    };
-    Case::new(name, ours, plain)
+    let (product, plain) = states(&bytes, false);
+    let mut placed = plain;
+    case(
+        name,
+        DISPATCHER,
+        move || {
+            let next = ours::release(black_box(&product), 8, 16).dispatcher;
+            u64::from(next.rest[127])
+        },
+        move || {
+            let next = same::release(*black_box(&plain), 8, 16).dispatcher;
+            u64::from(next.rest[127])
+        },
+        move || {
+            let state = black_box(&mut placed);
+            state.release(8, 16).expect("taken");
+            let rest = std::mem::take(&mut state.rest[127]);
+            state.wait[127] = 0;
+            u64::from(rest)
+        },
+    )
 }
 
-/// One tick after another: plain Rust changes its state in place.
+/// One tick after another.
 fn tick(name: &'static str, bytes: Vec<u8>) -> Case {
-    let (mut ours, mut plain) = states(&bytes, true);
-    let ours = move || {
-        ours = exports::tick(black_box(&ours)).dispatcher;
-        u64::from(ours.position[0])
-    };
-    let plain = move || {
-        black_box(&mut plain).tick().expect("in range");
-        u64::from(plain.position[0])
-    };
-    Case::new(name, ours, plain)
+    let (mut product, mut plain) = states(&bytes, true);
+    let mut placed = plain;
+    case(
+        name,
+        DISPATCHER,
+        move || {
+            product = ours::tick(black_box(&product)).dispatcher;
+            u64::from(product.position[0])
+        },
+        move || {
+            plain = same::tick(*black_box(&plain)).dispatcher;
+            u64::from(plain.position[0])
+        },
+        move || {
+            black_box(&mut placed).tick().expect("in range");
+            u64::from(placed.position[0])
+        },
+    )
 }
 
-/// One tick after another, of plain Rust too by value: the state in, the next state out.
-fn tick_by_value(name: &'static str, bytes: Vec<u8>) -> Case {
-    #[inline(never)]
-    fn by_value(mut state: plain::Dispatcher) -> plain::Dispatcher {
-        state.tick().expect("in range");
-        state
-    }
-    let (mut ours, mut plain) = states(&bytes, true);
-    let ours = move || {
-        ours = exports::tick(black_box(&ours)).dispatcher;
-        u64::from(ours.position[0])
-    };
-    let plain = move || {
-        plain = by_value(*black_box(&plain));
-        u64::from(plain.position[0])
-    };
-    Case::new(name, ours, plain)
-}
-
-/// 1,000,000 ticks that finish no job.
+/// 1,000,000 ticks that finish no job: in place, a loop that checks nothing.
 fn run(name: &'static str, bytes: Vec<u8>, busy: bool) -> Case {
-    let (ours, plain) = states(&bytes, busy);
-    let ours = move || {
-        let outcome = exports::run(black_box(&ours), 1_000_000);
-        assert_eq!(outcome.done, 1_000_000);
-        u64::from(outcome.done + outcome.dispatcher.position[0])
-    };
-    let plain = move || {
-        let mut next = *black_box(&plain);
-        let (done, _) = next.run(1_000_000).expect("in range");
-        u64::from(done + next.position[0])
-    };
-    Case::new(name, ours, plain)
+    let (product, plain) = states(&bytes, busy);
+    case(
+        name,
+        DISPATCHER,
+        move || {
+            let outcome = ours::run(black_box(&product), 1_000_000);
+            u64::from(outcome.done + outcome.dispatcher.position[0])
+        },
+        move || {
+            let outcome = same::run(*black_box(&plain), 1_000_000);
+            u64::from(outcome.done + outcome.dispatcher.position[0])
+        },
+        move || {
+            let mut next = *black_box(&plain);
+            let (done, _) = next.unchecked(1_000_000);
+            u64::from(done + next.position[0])
+        },
+    )
 }

@@ -5,11 +5,17 @@ use crate::{Guest, Plan, Refusal};
 pub const BLOCK: usize = 512;
 
 pub fn read(bytes: &[u8]) -> Result<Plan, Refusal> {
+    let mut plan = Plan::default();
+    read_into(bytes, &mut plan)?;
+    Ok(plan)
+}
+
+/// The same into the caller's records, of which those past the count stay as they are.
+pub fn read_into(bytes: &[u8], plan: &mut Plan) -> Result<(), Refusal> {
     let (blocks, rest) = bytes.as_chunks::<BLOCK>();
     if !rest.is_empty() || !(1..=8).contains(&blocks.len()) {
         return Err(Refusal::new(1, 0));
     }
-    let mut plan = Plan::default();
     for (place, block) in blocks.iter().enumerate() {
         let refuse = |number| Refusal::new(number, place as u32);
         let guest = decode(block, place).map_err(refuse)?;
@@ -20,7 +26,7 @@ pub fn read(bytes: &[u8]) -> Result<Plan, Refusal> {
         plan.guests[place] = guest;
     }
     plan.count = blocks.len() as u32;
-    Ok(plan)
+    Ok(())
 }
 
 /// The place of a guest's block.

@@ -4,6 +4,7 @@ use crate::records::LONGEST;
 use crate::{Guest, Plan, Refusal};
 
 /// Task `t` of guest `g` at `16 * g + t`.
+#[repr(C)]
 #[derive(Clone, Copy, Debug, PartialEq, Eq)]
 pub struct Dispatcher {
     pub plan: Plan,
@@ -70,15 +71,20 @@ impl Dispatcher {
         if ticks > 1_000_000 {
             return Err(Refusal::new(13, 0));
         }
+        Ok(self.unchecked(ticks))
+    }
+
+    /// The same of a state and a number of ticks that are known to be in range.
+    pub fn unchecked(&mut self, ticks: u32) -> (u32, Option<Tick>) {
         let mut last = None;
         for done in 0..ticks {
             let tick = self.step();
             if let Tick::Finished { .. } = tick {
-                return Ok((done + 1, Some(tick)));
+                return (done + 1, Some(tick));
             }
             last = Some(tick);
         }
-        Ok((ticks, last))
+        (ticks, last)
     }
 
     fn check(&self) -> Result<(), Refusal> {

@@ -5,6 +5,7 @@
 pub mod block;
 pub mod capacity;
 pub mod dispatcher;
+pub mod exports;
 pub mod records;
 pub mod verdict;
 

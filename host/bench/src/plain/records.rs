@@ -3,6 +3,7 @@
 /// The longest period and the longest run, in ticks.
 pub const LONGEST: u32 = 1_000_000;
 
+#[repr(C)]
 #[derive(Clone, Copy, Debug, Default, PartialEq, Eq)]
 pub struct Guest {
     pub id: u32,
@@ -15,6 +16,7 @@ pub struct Guest {
     pub deadline: [u32; 16],
 }
 
+#[repr(C)]
 #[derive(Clone, Copy, Debug, Default, PartialEq, Eq)]
 pub struct Plan {
     pub count: u32,
@@ -22,7 +24,8 @@ pub struct Plan {
 }
 
 /// A refusal's number and place.
-#[derive(Clone, Copy, Debug, PartialEq, Eq)]
+#[repr(C)]
+#[derive(Clone, Copy, Debug, Default, PartialEq, Eq)]
 pub struct Refusal {
     pub number: u32,
     pub place: u32,

@@ -1,24 +1,23 @@
 //! Holds plain Rust to the reference, as the library is held: what is measured must be right.
 
 use crate as plain;
-use crate::dispatcher::Tick;
-use crate::verdict::TaskVerdict;
+use crate::exports;
 use compare::session::Session;
 use compare::side::Side;
 use reference::dispatcher as dispatching;
 use reference::plan::{Guest, Plan, Read, Refusal};
-use reference::verdict::{NO, UNJUDGED, Verdict, YES};
+use reference::verdict::Verdict;
 use std::time::Duration;
 
 const PLAIN: Side = Side {
     read,
-    check: |plan| refusal(plan_in(plan).check()),
-    write: |guest, place, buffer| refusal(plain::block::write(&guest_in(guest), place, buffer)),
+    check: |plan| refusal(plan_in(plan).check().err().unwrap_or_default()),
+    write: |guest, place, buffer| refusal(exports::write(guest_in(guest), place, buffer)),
     find,
-    guest_verdict,
-    task_verdict,
-    accept,
-    smallest_capacity,
+    guest_verdict: |plan, id| verdict(exports::guest_verdict(plan_in(plan), id)),
+    task_verdict: |plan, id, task| verdict(exports::task_verdict(plan_in(plan), id, task)),
+    accept: |plan| verdict(exports::accept(plan_in(plan))),
+    smallest_capacity: |plan, id| verdict(exports::smallest_capacity(plan_in(plan), id)),
     fresh,
     release,
     tick,
@@ -94,122 +93,81 @@ fn state(state: &plain::Dispatcher) -> dispatching::Dispatcher {
     }
 }
 
-fn refused(refusal: plain::Refusal) -> Refusal {
+fn refusal(refusal: plain::Refusal) -> Refusal {
     Refusal::new(refusal.number, refusal.place)
 }
 
-fn refusal<T>(result: Result<T, plain::Refusal>) -> Refusal {
-    result.err().map_or(Refusal::NONE, refused)
+fn verdict(told: exports::Verdict) -> Verdict {
+    Verdict {
+        number: told.number,
+        place: told.place,
+        verdict: told.verdict,
+        ticks: told.ticks,
+    }
+}
+
+fn answer(told: exports::Answer) -> dispatching::Answer {
+    dispatching::Answer {
+        kind: told.kind,
+        guest: told.guest,
+        task: told.task,
+        age: told.age,
+        margin: told.margin,
+    }
 }
 
 fn read(bytes: &[u8]) -> Read {
-    let result = plain::block::read(bytes);
+    let outcome = exports::read(bytes);
     Read {
-        refusal: refusal(result),
-        plan: result.map_or(Plan::default(), |read| plan(&read)),
+        refusal: refusal(outcome.refusal),
+        plan: plan(&outcome.plan),
     }
 }
 
 fn find(bytes: &[u8], id: u32) -> Refusal {
     match plain::block::find(bytes, id) {
         Ok(place) => Refusal::new(0, place as u32),
-        Err(refusal) => refused(refusal),
+        Err(refused) => refusal(refused),
     }
-}
-
-fn verdict(result: Result<(u32, u32), plain::Refusal>) -> Verdict {
-    let (verdict, ticks) = result.unwrap_or((0, 0));
-    let Refusal { number, place } = refusal(result);
-    Verdict {
-        number,
-        place,
-        verdict,
-        ticks,
-    }
-}
-
-fn guest_verdict(plan: &Plan, id: u32) -> Verdict {
-    let result = plan_in(plan).guest_verdict(id);
-    verdict(result.map(|response| response.map_or((NO, 0), |x| (YES, x))))
-}
-
-fn task_verdict(plan: &Plan, id: u32, task: u32) -> Verdict {
-    let result = plan_in(plan).task_verdict(id, task);
-    verdict(result.map(|found| match found {
-        TaskVerdict::Met(response) => (YES, response),
-        TaskVerdict::Unmet => (NO, 0),
-        TaskVerdict::Unjudged => (UNJUDGED, 0),
-    }))
-}
-
-fn accept(plan: &Plan) -> Verdict {
-    let result = plan_in(plan).accepted();
-    verdict(result.map(|accepted| (if accepted { YES } else { NO }, 0)))
-}
-
-fn smallest_capacity(plan: &Plan, id: u32) -> Verdict {
-    let result = plan_in(plan).smallest_capacity(id);
-    verdict(result.map(|capacity| (YES, capacity)))
 }
 
 fn fresh(plan: &Plan) -> dispatching::Start {
-    let result = plain::Dispatcher::fresh(&plan_in(plan));
     let zero = dispatching::Dispatcher::with(Plan::default());
-    dispatching::Start {
-        refusal: refusal(result),
-        dispatcher: result.map_or(zero, |fresh| state(&fresh)),
+    match plain::Dispatcher::fresh(&plan_in(plan)) {
+        Ok(fresh) => dispatching::Start {
+            refusal: Refusal::NONE,
+            dispatcher: state(&fresh),
+        },
+        Err(refused) => dispatching::Start {
+            refusal: refusal(refused),
+            dispatcher: zero,
+        },
     }
 }
 
 fn release(from: &dispatching::Dispatcher, id: u32, task: u32) -> dispatching::Released {
-    let mut next = state_in(from);
-    let result = next.release(id, task);
+    let outcome = exports::release(state_in(from), id, task);
     dispatching::Released {
-        refusal: refusal(result),
-        dispatcher: state(&next),
+        refusal: refusal(outcome.refusal),
+        dispatcher: state(&outcome.dispatcher),
     }
 }
 
 fn tick(from: &dispatching::Dispatcher) -> dispatching::Ticked {
-    let mut next = state_in(from);
-    let result = next.tick();
+    let outcome = exports::tick(state_in(from));
     dispatching::Ticked {
-        refusal: refusal(result),
-        answer: answer(result.ok()),
-        dispatcher: state(&next),
+        refusal: refusal(outcome.refusal),
+        answer: answer(outcome.answer),
+        dispatcher: state(&outcome.dispatcher),
     }
 }
 
 fn run(from: &dispatching::Dispatcher, ticks: u32) -> dispatching::Run {
-    let mut next = state_in(from);
-    let result = next.run(ticks);
-    let (done, last) = result.unwrap_or((0, None));
+    let outcome = exports::run(state_in(from), ticks);
     dispatching::Run {
-        refusal: refusal(result),
-        done,
-        answer: answer(last),
-        dispatcher: state(&next),
-    }
-}
-
-fn answer(tick: Option<Tick>) -> dispatching::Answer {
-    let (kind, guest, task, age, margin) = match tick {
-        None => (dispatching::NO_ANSWER, 0, 0, 0, 0),
-        Some(Tick::Nobody) => (dispatching::NOBODY, 0, 0, 0, 0),
-        Some(Tick::Idled(guest)) => (dispatching::IDLED, guest, 0, 0, 0),
-        Some(Tick::Ran(guest, task)) => (dispatching::RAN, guest, task, 0, 0),
-        Some(Tick::Finished {
-            guest,
-            task,
-            age,
-            margin,
-        }) => (dispatching::FINISHED, guest, task, age, margin),
-    };
-    dispatching::Answer {
-        kind,
-        guest,
-        task,
-        age,
-        margin,
+        refusal: refusal(outcome.refusal),
+        done: outcome.done,
+        answer: answer(outcome.answer),
+        dispatcher: state(&outcome.dispatcher),
     }
 }
