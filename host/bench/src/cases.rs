@@ -44,7 +44,8 @@ pub fn all() -> Vec<Case> {
         guest_verdict("guest-long-climb", inputs::long_climb(), 8, 89_600),
         task_verdict("task-long-climb", inputs::long_climb(), 8, 324_900),
         task_verdict("task-growing", inputs::growing(), 8, 478_324),
-        capacity("capacity-small", inputs::plan_a(), 9, Ok(7)),
+        capacity("capacity-plan-a", inputs::plan_a(), 9, Ok(7)),
+        capacity("capacity-small", inputs::little_asked(), 8, Ok(6)),
         capacity(
             "capacity-half-a-million",
             inputs::half_a_million(),

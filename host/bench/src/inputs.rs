@@ -54,6 +54,14 @@ pub fn long_climb() -> Vec<u8> {
     blocks(&guests)
 }
 
+/// 8 guests of 16 tasks, the last of which needs next to nothing.
+pub fn little_asked() -> Vec<u8> {
+    full(|guest, task| {
+        let every = 999_983 - 1_009 * task - 13 * guest;
+        [if guest == 7 { 11 } else { 3_900 }, every, every]
+    })
+}
+
 /// A guest of period 1,000,000 under 3 short ones, with 16 tasks that need some half of it.
 pub fn half_a_million() -> Vec<u8> {
     let mut guests = short_guests();
