@@ -9,7 +9,9 @@
  * - A pointer must be good for its length, for the whole call, and not be NULL even where the length is 0.
  * - CsGuest has two bytes of padding after charge. The library neither reads nor promises them: compare
  *   records field by field, not by memcmp, and clear a record before its bytes are sent anywhere.
- * - A state is 3,300 bytes and crosses on the stack, there and back.
+ * - CsDispatcher has four bytes of padding before usage, and CsTicked four before its dispatcher: the same holds
+ *   for them.
+ * - A state is 3,440 bytes and crosses on the stack, there and back.
  * - Like any compiled C, the library may call memcpy, memmove, memset and memcmp, also where there is no C library.
  */
 #ifndef CORESHARE_H
@@ -62,7 +64,20 @@ typedef struct CsVerdict {
     uint32_t ticks;
 } CsVerdict;
 
-/* The dispatcher's state. Task t of guest g, both from 0, has its numbers at 16 * g + t. */
+/* Where usage keeps the ticks that guest g, from 0, idled away, and those that no guest had. */
+#define CS_IDLED_AT(g) (8 + (g))
+#define CS_NOBODYS 16
+
+/* The dispatcher's state. Task t of guest g, both from 0, has its numbers at 16 * g + t.
+ *
+ * Beside it stands where the ticks went. A tick that is done adds 1
+ * - to usage[g] if guest g had it, and to usage[8 + g] too if none of its tasks had run left and so it idled the
+ *   tick away;
+ * - to usage[16] if no guest had capacity left.
+ * Nothing else changes these numbers: a release leaves them, a run adds what its single ticks would, and a refused
+ * call hands them back as they came. After 2^64 - 1 each goes on at 0. They have no range: any numbers are taken
+ * and refusal 14 does not look at them, so a host may set them to 0 whenever it likes. From a fresh state on,
+ * usage[0] to usage[count - 1] and usage[16] sum to the ticks done, modulo 2^64; places past the count stay 0. */
 typedef struct CsDispatcher {
     CsPlan plan;
     uint32_t left[8];     /* capacity left, 0 to the capacity */
@@ -70,6 +85,7 @@ typedef struct CsDispatcher {
     uint32_t rest[128];   /* run left, at most the charged run */
     uint32_t wait[128];   /* ticks until the next release may be taken, at most the task's period */
     uint32_t age[128];    /* age of the last job, at most 1,000,000 */
+    uint64_t usage[17];   /* ticks of each guest, those of them that it idled away, ticks that no guest had */
 } CsDispatcher;
 
 typedef struct CsStart {
@@ -140,21 +156,21 @@ CsVerdict cs_accept(CsPlan plan);
  * Refusals: those of cs_check, then 7 no such guest, 11 no capacity works. */
 CsVerdict cs_smallest_capacity(CsPlan plan, uint32_t id);
 
-/* A fresh state over the records as handed over; the plan need not be an accepted one.
+/* A fresh state over the records as handed over, with no tick counted; the plan need not be an accepted one.
  * Refusals: those of cs_check. */
 CsStart cs_fresh(CsPlan plan);
 
 /* Releases a job of a task, by its number from 1.
- * Refusals: 14 a state outside its ranges, 7 no such guest, 8 no such task, 9 before its period has passed,
- * 10 while its last job is unfinished. */
+ * Refusals: 14 a state outside its ranges (usage has none), 7 no such guest, 8 no such task, 9 before its period
+ * has passed, 10 while its last job is unfinished. */
 CsReleased cs_release(CsDispatcher dispatcher, uint32_t id, uint32_t task);
 
 /* One tick.
- * Refusal: 14 a state outside its ranges. */
+ * Refusal: 14 a state outside its ranges (usage has none). */
 CsTicked cs_tick(CsDispatcher dispatcher);
 
 /* Ticks until one finishes a job or their number is used up.
- * Refusals: 14 a state outside its ranges, 13 more than 1,000,000 ticks. */
+ * Refusals: 14 a state outside its ranges (usage has none), 13 more than 1,000,000 ticks. */
 CsRun cs_run(CsDispatcher dispatcher, uint32_t ticks);
 
 #ifdef __cplusplus

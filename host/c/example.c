@@ -1,7 +1,9 @@
-/* Plan A of document 01 from C: its blocks written, read and judged, and its dispatcher run until a job finishes.
+/* Plan A of document 01 from C: its blocks written, read and judged, and its dispatcher run until a job finishes;
+ * last, where the ticks went.
  * From this folder: cc -O2 example.c ../../target/staticlib/libhost.a -o example */
 #include "coreshare.h"
 
+#include <inttypes.h>
 #include <stdio.h>
 
 /* A record with one task; more are added by hand. */
@@ -58,6 +60,14 @@ static void print_verdicts(const CsPlan *plan) {
     printf("guest 9 needs a capacity of %u\n", cs_smallest_capacity(*plan, 9).ticks);
 }
 
+static void print_usage(const CsDispatcher *dispatcher) {
+    for (uint32_t at = 0; at < dispatcher->plan.count; at++) {
+        printf("guest %u had %" PRIu64 " ticks and idled %" PRIu64 " of them away\n", dispatcher->plan.guests[at].id,
+               dispatcher->usage[at], dispatcher->usage[CS_IDLED_AT(at)]);
+    }
+    printf("nobody had %" PRIu64 "\n", dispatcher->usage[CS_NOBODYS]);
+}
+
 static int run_until_finished(const CsPlan *plan) {
     CsStart start = cs_fresh(*plan);
     if (refused("start", start.refusal)) {
@@ -73,6 +83,7 @@ static int run_until_finished(const CsPlan *plan) {
     }
     printf("after %u ticks guest %u finished task %u: age %u, margin %d\n", run.done, run.answer.guest, run.answer.task,
            run.answer.age, run.answer.margin);
+    print_usage(&run.dispatcher);
     return 0;
 }
 

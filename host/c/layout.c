@@ -42,6 +42,7 @@ static void dispatcher(void) {
     FIELD(CsDispatcher, rest);
     FIELD(CsDispatcher, wait);
     FIELD(CsDispatcher, age);
+    FIELD(CsDispatcher, usage);
     STRUCT(CsStart);
     FIELD(CsStart, refusal);
     FIELD(CsStart, dispatcher);

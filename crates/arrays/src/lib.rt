@@ -1,7 +1,8 @@
-// The dispatcher's numbers in lent arrays: the parts of a tick, and the ranges of refusal 14.
+// The dispatcher's numbers in lent arrays: the parts of a tick, where ticks went, and the ranges of refusal 14.
 mod jobs;
 mod ranges;
 mod server;
+mod usage;
 
 pub use jobs::fall;
 pub use jobs::grow;
@@ -11,3 +12,4 @@ pub use ranges::guest_ok;
 pub use server::advance;
 pub use server::holder;
 pub use server::refill;
+pub use usage::tally;

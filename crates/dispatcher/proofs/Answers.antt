@@ -44,7 +44,7 @@ unfolding isWorked
 worker-in d e = ltb-true (worker d) (guestIn d (holder d) .tasks) (and-right (isHeld d) _ e)
 
 -- and has run left
-worker-runs : (d : Dispatcher) → isWorked d ≡ true → 1 ≤ restAt d (holder d) (worker d)
+pub worker-runs : (d : Dispatcher) → isWorked d ≡ true → 1 ≤ restAt d (holder d) (worker d)
 unfolding worker
 worker-runs d e =
     let h : worker d < guestIn d (holder d) .tasks = worker-in d e in

@@ -23,12 +23,14 @@ use Rattle.arrays.specs.Ranges.{noJob}
 use Rattle.dispatcher.specs.Valid.{guestInRange, taskInRange, rowOk, stateOk}
 use Rattle.arrays.specs.Rows.{blankAt}
 use Rattle.dispatcher.specs.Lent.{stateOf, ColumnsIn, Small, Columned, Quiet, Telling, Ending, Refilled, Served, Stepped, turnBy, turn}
+use Rattle.arrays.specs.Usage.{tallied}
 use Rattle.arrays.specs.Parts.{full, onward, grown, fallen, hasLeft, hasRun}
 use Rattle.lists.proofs.All.{and-left, and-right, and-true, and-false-right, all-at}
 use Rattle.lists.proofs.Places.{upTo-get, upTo-ext, upTo-short}
 use Rattle.lists.proofs.Search.{first-found}
 use Rattle.plan.proofs.Order.{plan-in}
 use Rattle.dispatcher.proofs.Pass.{past-task-is}
+use Rattle.dispatcher.proofs.Counted.{counted}
 
 -- the guest that was found has capacity left
 pub has-left : (left : List ℕ) (n k : ℕ) → k ≡ firstFrom (hasLeft left) n 0 → k < n → 1 ≤ nth left k
@@ -119,35 +121,39 @@ module _ {n : ℕ} {rest wait : List ℕ} (few : n ≤ 8) (z : Quiet n rest wait
   grown-short : (age : List ℕ) → upTo (grown rest) (n * 16) age ≡ upTo (grown rest) 128 age
   grown-short age = sym (upTo-short (grown rest) (n * 16) 128 age (omega arith) (λ k a b. rw (z .runs k a b) refl))
 
-module _ {p : Plan} {n : ℕ} {capacities periods tasks : List ℕ} (u : Columned p n capacities periods tasks) (left position rest wait age : List ℕ) where
+module _ {p : Plan} {n : ℕ} {capacities periods tasks : List ℕ} (u : Columned p n capacities periods tasks) (left position rest wait age usage : List ℕ) where
   -- the code's capacities are the rule's
-  refilled-is : upTo (full position capacities) n left ≡ refilled (stateOf p left position rest wait age)
+  refilled-is : upTo (full position capacities) n left ≡ refilled (stateOf p left position rest wait age usage)
   unfolding refilled
   refilled-is = rw (u .count) (upTo-ext _ _ n left (λ k x b. rw (u .capacity k b) refl))
 
   -- and so are its positions
-  onward-is : upTo (onward periods) n position ≡ positionAfter (stateOf p left position rest wait age)
+  onward-is : upTo (onward periods) n position ≡ positionAfter (stateOf p left position rest wait age usage)
   unfolding positionAfter
   onward-is = rw (u .count) (upTo-ext _ _ n position (λ k x b. rw (u .period k b) refl))
 
   -- the parts of a tick make the tick
-  pub stepped : {l l' q r' w a : List ℕ} {t : Turn} → l ≡ upTo (full position capacities) n left → q ≡ upTo (onward periods) n position
+  pub stepped : {l l' q r' w a c : List ℕ} {t : Turn} → l ≡ upTo (full position capacities) n left → q ≡ upTo (onward periods) n position
       → w ≡ upTo fallen (n * 16) wait → a ≡ upTo (grown rest) (n * 16) age → n ≤ 8 → Quiet n rest wait
       → ((d : Dispatcher) → Refilled d n tasks l rest → Served d l' r' t)
-      → Stepped (stateOf p left position rest wait age) (stateOf p l' q r' w a) t
+      → c ≡ tallied (ltb (t .guest) n) (ltb 0 (t .had)) (t .guest) usage
+      → Stepped (stateOf p left position rest wait age usage) (stateOf p l' q r' w a c) t
   unfolding next waitAfter ageAfter
-  stepped e f g h few z serves =
-      let s = serves (stateOf p left position rest wait age) record { count = u .count; many = u .many; filled = e ∙ refilled-is; runs = refl } in
-      record { state = rw (s .lefts, f, onward-is, s .runs, g, h, fallen-short few z, grown-short few z age) refl; had = s .had }
+  stepped e f g h few z serves i =
+      let s = serves (stateOf p left position rest wait age usage) record { count = u .count; many = u .many; filled = e ∙ refilled-is; runs = refl } in
+      record {
+        state = rw (s .lefts, f, onward-is, s .runs, g, h, fallen-short few z, grown-short few z age, i, counted _ (s .had) (u .count)) refl;
+        had = s .had;
+      }
 
   module _ (m : Small n tasks) (z : Quiet n rest wait) where
     -- a place from n guests on is not the one that loses a run
-    far : (b : Bool) → isWorked (stateOf p left position rest wait age) ≡ b → (k : ℕ) → n * 16 ≤ k → k < 128
-        → nth (lessAt b rest (placeAt (holder (stateOf p left position rest wait age)) (worker (stateOf p left position rest wait age)))) k ≡ 0
+    far : (b : Bool) → isWorked (stateOf p left position rest wait age usage) ≡ b → (k : ℕ) → n * 16 ≤ k → k < 128
+        → nth (lessAt b rest (placeAt (holder (stateOf p left position rest wait age usage)) (worker (stateOf p left position rest wait age usage)))) k ≡ 0
     unfolding lessAt isWorked isHeld
     far false e k a b = z .runs k a b
     far true e k a b =
-        let d = stateOf p left position rest wait age in
+        let d = stateOf p left position rest wait age usage in
         let h = ltb-true (holder d) (p .count) (and-left (ltb (holder d) (p .count)) _ e) in
         let t = ltb-true (worker d) _ (and-right (ltb (holder d) (p .count)) _ e) in
         let c = u .count in
@@ -157,17 +163,17 @@ module _ {p : Plan} {n : ℕ} {capacities periods tasks : List ℕ} (u : Columne
         getD-set-other rest (placeAt (holder d) (worker d)) k _ 0 (λ q. omega arith) ∙ z .runs k a b
 
     -- no run is left there after the tick
-    rests-kept : (k : ℕ) → n * 16 ≤ k → k < 128 → nth (restAfter (stateOf p left position rest wait age)) k ≡ 0
+    rests-kept : (k : ℕ) → n * 16 ≤ k → k < 128 → nth (restAfter (stateOf p left position rest wait age usage)) k ≡ 0
     unfolding restAfter
     rests-kept k a b = far _ refl k a b
 
     -- and no wait
-    waits-kept : (k : ℕ) → n * 16 ≤ k → k < 128 → nth (waitAfter (stateOf p left position rest wait age)) k ≡ 0
+    waits-kept : (k : ℕ) → n * 16 ≤ k → k < 128 → nth (waitAfter (stateOf p left position rest wait age usage)) k ≡ 0
     unfolding waitAfter
     waits-kept k a b = ⊎-elim (λ e. omega (arith, e, z .waits k a b)) (λ e. e ∙ z .waits k a b) (upTo-get fallen 128 wait k)
 
     -- a tick leaves the places past the guests quiet
-    pub quiet-kept : {l q r w a : List ℕ} {t : Turn} → Stepped (stateOf p left position rest wait age) (stateOf p l q r w a) t → Quiet n r w
+    pub quiet-kept : {l q r w a v : List ℕ} {t : Turn} → Stepped (stateOf p left position rest wait age usage) (stateOf p l q r w a v) t → Quiet n r w
     unfolding next
     quiet-kept s = record {
       runs = λ k a b. ap (λ (x : Dispatcher). nth (x .rest) k) (s .state) ∙ rests-kept k a b;

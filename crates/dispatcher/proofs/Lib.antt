@@ -1,11 +1,12 @@
 -- Laws, each file named after the definition that it is about.
 pub mod Valid
 pub mod Pass
+pub mod Answers
+pub mod Counted
 pub mod Lent
 pub mod Fresh
 pub mod Release
 pub mod Margin
-pub mod Answers
 pub mod Run
 pub mod Entries
 pub mod Promises

@@ -68,6 +68,7 @@ module _ (d : Dispatcher) (id task : ℕ) {r : Aim} (a : Aims d id task r) where
           rest = set (d .rest) (r .at) (r .full);
           wait = set (d .wait) (r .at) (r .every);
           age = set (d .age) (r .at) 0;
+          usage = d .usage;
         };
       })
       (release d id task)

@@ -1,4 +1,4 @@
--- Fresh start: no job, no wait and no age in any of the 128 places, all positions 0, no capacity left, and the records as handed over.
+-- Fresh start: no job, no wait and no age in any of the 128 places, all positions 0, no capacity left, no tick counted, and the records as handed over.
 use Prim.Native.Nat.{ℕ, zero, suc}
 use lib.ListN.{replicate}
 use Rattle.plan.specs.declared.Plan.{Plan}
@@ -17,6 +17,7 @@ idle p =
       rest = replicate 128 0;
       wait = replicate 128 0;
       age = replicate 128 0;
+      usage = replicate 17 0;
     }
 
 -- by the records' number: a refused start is zero throughout, guest count included

@@ -31,8 +31,9 @@ use Rattle.dispatcher.specs.Answer.{answer}
 use Rattle.dispatcher.specs.Run.{ranTo, runFor}
 
 -- the state of a plan with these arrays
-abbrev pub stateOf : Plan → (left position rest wait age : List ℕ) → Dispatcher
-stateOf p left position rest wait age = record { plan = p; left = left; position = position; rest = rest; wait = wait; age = age }
+abbrev pub stateOf : Plan → (left position rest wait age usage : List ℕ) → Dispatcher
+stateOf p left position rest wait age usage =
+    record { plan = p; left = left; position = position; rest = rest; wait = wait; age = age; usage = usage }
 
 -- guest k of a state: its id is new, and it is in its ranges
 abbrev pub guestGoes : Dispatcher → ℕ → Bool

@@ -25,6 +25,7 @@ taken d k t =
       rest = set (d .rest) (placeAt k t) (charged (guestIn d k) t);
       wait = set (d .wait) (placeAt k t) (everyOf (guestIn d k) t);
       age = set (d .age) (placeAt k t) 0;
+      usage = d .usage;
     }
 
 -- the number that a release is refused by

@@ -10,6 +10,7 @@ use Rattle.lists.specs.Search.{firstFrom}
 use Rattle.plan.specs.Ranges.{longest}
 use Rattle.dispatcher.specs.declared.Dispatcher.{Dispatcher}
 use Rattle.arrays.specs.Place.{placeAt}
+use Rattle.arrays.specs.Usage.{tallied}
 use Rattle.dispatcher.specs.State.{guestIn, restAt}
 
 -- one less at place k, where the test holds
@@ -57,6 +58,10 @@ waitAfter d = upTo (λ k wait. wait - 1) 128 (d .wait)
 unfoldable pub positionAfter : Dispatcher → List ℕ
 positionAfter d = upTo (λ k position. pick (ltb (position + 1) (guestIn d k .period)) (position + 1) 0) (d .plan .count) (d .position)
 
+-- and the tick is counted: for that guest, among those that it idled away if no task works, or for nobody
+unfoldable pub usageAfter : Dispatcher → List ℕ
+usageAfter d = tallied (isHeld d) (isWorked d) (holder d) (d .usage)
+
 -- the state after the tick: nothing else in it changes
 unfoldable pub next : Dispatcher → Dispatcher
 next d =
@@ -67,4 +72,5 @@ next d =
       rest = restAfter d;
       wait = waitAfter d;
       age = ageAfter d;
+      usage = usageAfter d;
     }

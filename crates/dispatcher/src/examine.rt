@@ -1,6 +1,7 @@
 // Refusal 14: the plan's own check and all places, in one pass over the records, which are copied once.
 ghost use mathlib.Core.Path.{_≡_};
 ghost use mathlib.Core.Bool.{true, false};
+ghost use mathlib.Core.List.{List, []};
 ghost use Prim.Native.Nat.{ℕ, _≤_};
 ghost use lib.Dec.{ltb};
 ghost use Rattle.lists.specs.Choice.{pick};
@@ -24,7 +25,7 @@ fn guests_ok(
     age: &[u32; 128],
 ) -> Checked
     requires { ⌜ plan .count ≤ 8 ⌝ }
-    ensures { λ r. ⌜ (r .ok ≡ allTo (guestGoes (stateOf plan (now (left .entry)) (now (position .entry)) (now (rest .entry)) (now (wait .entry)) (now (age .entry)))) (plan .count)) × ColumnsIn plan r ⌝ }
+    ensures { λ r. ⌜ (r .ok ≡ allTo (guestGoes (stateOf plan (now (left .entry)) (now (position .entry)) (now (rest .entry)) (now (wait .entry)) (now (age .entry)) [])) (plan .count)) × ColumnsIn plan r ⌝ }
 {
     let n = plan.count as usize;
     let mut ids = [0u32; 16];
@@ -95,7 +96,7 @@ pub fn examine(
     wait: &[u32; 128],
     age: &[u32; 128],
 ) -> Checked
-    ensures { λ r. ⌜ Examines (stateOf plan (now (left .entry)) (now (position .entry)) (now (rest .entry)) (now (wait .entry)) (now (age .entry))) r ⌝ }
+    ensures { λ r. ⌜ ((usage : List ℕ) → Examines (stateOf plan (now (left .entry)) (now (position .entry)) (now (rest .entry)) (now (wait .entry)) (now (age .entry)) usage) r) ⌝ }
 {
     let n = plan.count as usize;
     if n < 1 {

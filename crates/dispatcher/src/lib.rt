@@ -12,6 +12,7 @@ use plan::Refusal;
 
 // The plan's records; for each guest the capacity left and the position in its period;
 // for task t of guest g, at place 16 g + t, the run left, the wait and the age.
+// Beside them where the ticks went: guest g's at place g, those of them that it idled away at 8 + g, nobody's at 16.
 #[repr(C)]
 pub struct Dispatcher {
     pub plan: Plan,
@@ -20,6 +21,7 @@ pub struct Dispatcher {
     pub rest: [u32; 128],
     pub wait: [u32; 128],
     pub age: [u32; 128],
+    pub usage: [u64; 17],
 }
 
 // Who had a tick: nobody; a guest that idled it away; a task; a task that finished, with its age and margin.

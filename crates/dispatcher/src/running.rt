@@ -26,6 +26,7 @@ fn steps(
     rest: &mut [u32; 128],
     wait: &mut [u32; 128],
     age: &mut [u32; 128],
+    usage: &mut [u64; 17],
     capacities: &[u32; 16],
     periods: &[u32; 16],
     tasks: &[u32; 16],
@@ -33,7 +34,7 @@ fn steps(
     ticks: u32,
 ) -> Went
     requires { ⌜ Small n (now tasks) ⌝ }
-    ensures { λ r. ⌜ ((p : declared.Plan) → Columned p n (now (capacities .entry)) (now (periods .entry)) (now (tasks .entry)) → Quiet n (now (rest .entry)) (now (wait .entry)) → Gone (stateOf p (now (left .entry)) (now (position .entry)) (now (rest .entry)) (now (wait .entry)) (now (age .entry))) ticks (r .done) (r .turn) (stateOf p (now (left .exit)) (now (position .exit)) (now (rest .exit)) (now (wait .exit)) (now (age .exit)))) ⌝ }
+    ensures { λ r. ⌜ ((p : declared.Plan) → Columned p n (now (capacities .entry)) (now (periods .entry)) (now (tasks .entry)) → Quiet n (now (rest .entry)) (now (wait .entry)) → Gone (stateOf p (now (left .entry)) (now (position .entry)) (now (rest .entry)) (now (wait .entry)) (now (age .entry)) (now (usage .entry))) ticks (r .done) (r .turn) (stateOf p (now (left .exit)) (now (position .exit)) (now (rest .exit)) (now (wait .exit)) (now (age .exit)) (now (usage .exit)))) ⌝ }
 {
     let mut turn = Turn {
         guest: 0,
@@ -48,6 +49,7 @@ fn steps(
             rest,
             wait,
             age,
+            usage,
             capacities,
             periods,
             tasks,
@@ -81,10 +83,11 @@ pub fn ran(
     rest: &mut [u32; 128],
     wait: &mut [u32; 128],
     age: &mut [u32; 128],
+    usage: &mut [u64; 17],
     ticks: u32,
 ) -> RunOutcome
-    requires { ⌜ Examines (stateOf plan (now left) (now position) (now rest) (now wait) (now age)) found ⌝ }
-    ensures { λ r. ⌜ Runs (stateOf plan (now (left .entry)) (now (position .entry)) (now (rest .entry)) (now (wait .entry)) (now (age .entry))) ticks (record { refusal = refused (r .number) 0; done = r .done; answer = r .answer; state = stateOf plan (now (left .exit)) (now (position .exit)) (now (rest .exit)) (now (wait .exit)) (now (age .exit)) }) ⌝ }
+    requires { ⌜ Examines (stateOf plan (now left) (now position) (now rest) (now wait) (now age) (now usage)) found ⌝ }
+    ensures { λ r. ⌜ Runs (stateOf plan (now (left .entry)) (now (position .entry)) (now (rest .entry)) (now (wait .entry)) (now (age .entry)) (now (usage .entry))) ticks (record { refusal = refused (r .number) 0; done = r .done; answer = r .answer; state = stateOf plan (now (left .exit)) (now (position .exit)) (now (rest .exit)) (now (wait .exit)) (now (age .exit)) (now (usage .exit)) }) ⌝ }
 {
     if !found.ok {
         return unmoved(14);
@@ -103,6 +106,7 @@ pub fn ran(
         rest,
         wait,
         age,
+        usage,
         &capacities,
         &periods,
         &tasks,
@@ -137,6 +141,7 @@ impl Dispatcher {
         let mut rest = self.rest;
         let mut wait = self.wait;
         let mut age = self.age;
+        let mut usage = self.usage;
         let found = examine(self.plan, &left, &position, &rest, &wait, &age);
         let r = ran(
             found,
@@ -146,6 +151,7 @@ impl Dispatcher {
             &mut rest,
             &mut wait,
             &mut age,
+            &mut usage,
             ticks,
         );
         self.left = left;
@@ -153,6 +159,7 @@ impl Dispatcher {
         self.rest = rest;
         self.wait = wait;
         self.age = age;
+        self.usage = usage;
         let answer = r.answer;
         Ran {
             refusal: Refusal {

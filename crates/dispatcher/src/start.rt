@@ -18,7 +18,7 @@ fn blank_plan() -> Plan
     }
 }
 
-// No job, no wait and no age in any of the 128 places, all positions 0, no capacity left.
+// No job, no wait and no age in any of the 128 places, all positions 0, no capacity left, no tick counted.
 fn idle_of(plan: Plan) -> Dispatcher
     ensures { λ r. ⌜ r ≡ idle plan ⌝ }
 {
@@ -29,6 +29,7 @@ fn idle_of(plan: Plan) -> Dispatcher
         rest: [0; 128],
         wait: [0; 128],
         age: [0; 128],
+        usage: [0; 17],
     }
 }
 

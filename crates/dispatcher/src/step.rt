@@ -11,6 +11,7 @@ use arrays::fall;
 use arrays::grow;
 use arrays::holder;
 use arrays::refill;
+use arrays::tally;
 use arrays::worker;
 
 // The first guest with capacity left has the tick, inside it the first task with run left: each loses one.
@@ -53,17 +54,20 @@ pub fn step(
     rest: &mut [u32; 128],
     wait: &mut [u32; 128],
     age: &mut [u32; 128],
+    usage: &mut [u64; 17],
     capacities: &[u32; 16],
     periods: &[u32; 16],
     tasks: &[u32; 16],
     n: usize,
 ) -> Turn
     requires { ⌜ Small n (now tasks) ⌝ }
-    ensures { λ r. ⌜ ((p : Plan) → Columned p n (now (capacities .entry)) (now (periods .entry)) (now (tasks .entry)) → Quiet n (now (rest .entry)) (now (wait .entry)) → Stepped (stateOf p (now (left .entry)) (now (position .entry)) (now (rest .entry)) (now (wait .entry)) (now (age .entry))) (stateOf p (now (left .exit)) (now (position .exit)) (now (rest .exit)) (now (wait .exit)) (now (age .exit))) r) ⌝ }
+    ensures { λ r. ⌜ ((p : Plan) → Columned p n (now (capacities .entry)) (now (periods .entry)) (now (tasks .entry)) → Quiet n (now (rest .entry)) (now (wait .entry)) → Stepped (stateOf p (now (left .entry)) (now (position .entry)) (now (rest .entry)) (now (wait .entry)) (now (age .entry)) (now (usage .entry))) (stateOf p (now (left .exit)) (now (position .exit)) (now (rest .exit)) (now (wait .exit)) (now (age .exit)) (now (usage .exit))) r) ⌝ }
 {
     refill(left, position, capacities, n);
     grow(age, rest, n);
     fall(wait, n);
     advance(position, periods, n);
-    serve(left, rest, tasks, n)
+    let turn = serve(left, rest, tasks, n);
+    tally(usage, n, turn.guest, turn.had);
+    turn
 }

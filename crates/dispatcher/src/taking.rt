@@ -1,6 +1,7 @@
 // A release: its refusals in order, then one place of each array changed.
 ghost use mathlib.Core.Path.{_≡_};
 ghost use mathlib.Core.Bool.{true};
+ghost use mathlib.Core.List.{List};
 ghost use Prim.Native.Nat.{ℕ, _<_};
 ghost use Rattle.plan.specs.Ranges.{guestOk, tasksOk};
 ghost use Rattle.dispatcher.specs.Lent.{stateOf, Aims, AimsAt};
@@ -63,7 +64,7 @@ fn aim(
     guest: u32,
     task: u32,
 ) -> Aim
-    ensures { λ r. ⌜ Aims (stateOf plan (now (left .entry)) (now (position .entry)) (now (rest .entry)) (now (wait .entry)) (now (age .entry))) guest task r ⌝ }
+    ensures { λ r. ⌜ ((usage : List ℕ) → Aims (stateOf plan (now (left .entry)) (now (position .entry)) (now (rest .entry)) (now (wait .entry)) (now (age .entry)) usage) guest task r) ⌝ }
 {
     let found = examine(plan, left, position, rest, wait, age);
     if !found.ok {

@@ -15,6 +15,7 @@ impl Dispatcher {
         let mut rest = self.rest;
         let mut wait = self.wait;
         let mut age = self.age;
+        let mut usage = self.usage;
         let found = examine(self.plan, &left, &position, &rest, &wait, &age);
         let r = ran(
             found,
@@ -24,6 +25,7 @@ impl Dispatcher {
             &mut rest,
             &mut wait,
             &mut age,
+            &mut usage,
             1,
         );
         self.left = left;
@@ -31,6 +33,7 @@ impl Dispatcher {
         self.rest = rest;
         self.wait = wait;
         self.age = age;
+        self.usage = usage;
         let answer = r.answer;
         Ticked {
             refusal: Refusal {

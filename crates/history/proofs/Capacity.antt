@@ -28,7 +28,7 @@ use Rattle.history.proofs.Play.{Sound}
 use Rattle.history.proofs.Fresh.{idle-held, idle-position}
 use Rattle.analysis.proofs.Ids.{idOf}
 use Rattle.history.proofs.Answered.{names-mine, names-else}
-use Rattle.history.proofs.Share.{share-none, share-old, share-next}
+use Rattle.history.proofs.Share.{count-none, count-old, count-next}
 
 -- After the answers L: q periods have ended, each with the whole capacity; in the one under way, what was had and what is held make it up.
 pub record Shares (p : Plan) (g x : ℕ) (L : List Answer) (d : Dispatcher) : Type 0 where
@@ -43,7 +43,7 @@ module _ (p : Plan) (g x : ℕ) (L : List Answer) (a : Answer) (d : Dispatcher) 
     (had : l + names (idOf p g) a ≡ heldAt d g) where
   -- what was had with this tick, and what is left, make up the capacity
   with-this : share (idOf p g) (L ++ (a ∷ [])) (S .q * perOf p g) (suc (posAt d g)) + l ≡ capOf p g
-  with-this = omega (arith, share-next (idOf p g) L a (S .q * perOf p g) (posAt d g) (S .time), S .now)
+  with-this = omega (arith, count-next (names (idOf p g)) L a (S .q * perOf p g) (posAt d g) (S .time), S .now)
 
   -- one answer more
   longer : length (L ++ (a ∷ [])) ≡ S .q * perOf p g + suc (posAt d g)
@@ -52,7 +52,7 @@ module _ (p : Plan) (g x : ℕ) (L : List Answer) (a : Answer) (d : Dispatcher) 
   -- periods that have ended stand
   stood : (k : ℕ) → k < S .q → share (idOf p g) (L ++ (a ∷ [])) (k * perOf p g) (perOf p g) ≡ capOf p g
   stood k h =
-      share-old (idOf p g) L (a ∷ []) (k * perOf p g) (perOf p g)
+      count-old (names (idOf p g)) L (a ∷ []) (k * perOf p g) (perOf p g)
       (omega (arith, S .time, mul-le-mul-right {m = suc k} {n = S .q} (perOf p g) h))
       ∙ S .past k h
 
@@ -83,7 +83,7 @@ module _ (p : Plan) (g x : ℕ) (L : List Answer) (a : Answer) (d : Dispatcher) 
         now =
             omega (
               arith,
-              share-none (idOf p g) (L ++ (a ∷ [])) (suc (S .q) * perOf p g),
+              count-none (names (idOf p g)) (L ++ (a ∷ [])) (suc (S .q) * perOf p g),
               ap (λ (n : ℕ). share (idOf p g) (L ++ (a ∷ [])) (suc (S .q) * perOf p g) n) v,
             );
         past = λ k h. ⊎-elim (λ (j : k ≡ S .q). rw j whole) (λ (j : k < S .q). stood k j) (eq-or-lt-of-le {n = k} {m = S .q} (omega arith));
@@ -139,7 +139,7 @@ module _ (p : Plan) (P : PlanIn p) (g x : ℕ) (in-plan : g < p .count) (F : Fit
         omega (
           arith,
           idle-held p g (omega (arith, P .few)),
-          share-none (idOf p g) [] (0 * perOf p g),
+          count-none (names (idOf p g)) [] (0 * perOf p g),
           ap (λ (n : ℕ). share (idOf p g) [] (0 * perOf p g) n) (idle-position p g (omega (arith, P .few))),
         );
     past = λ k h. absurd (omega arith);

@@ -1,4 +1,4 @@
--- Laws of a guest's share: later answers do not change it, and one tick more adds what that tick's answer says. Assumes nothing.
+-- Laws of a count: later answers do not change it, and one tick more adds what that tick's answer says. Assumes nothing.
 use mathlib.Core.Path.{_≡_, ap}
 use mathlib.Core.List.{List, [], _∷_, _++_}
 use Prim.Native.Nat.{ℕ, suc, _+_, _≤_, _<_}
@@ -7,7 +7,7 @@ use lib.ListN.{length, List·getD-append}
 use lib.Seq.{getD-at}
 use Rattle.dispatcher.specs.declared.Answer.{Answer}
 use Rattle.dispatcher.specs.declared.Answer.the-variants.{Silent}
-use Rattle.history.specs.Share.{names, answerAt, share}
+use Rattle.history.specs.Share.{answerAt, countOf}
 use Rattle.lists.proofs.Sum.{sum-none, sum-last, sum-same}
 
 -- an answer already given
@@ -18,32 +18,29 @@ answer-old l m k h = List·getD-append l m Silent k h
 pub answer-new : (l : List Answer) (a : Answer) (k : ℕ) → length l ≡ k → answerAt (l ++ (a ∷ [])) k ≡ a
 answer-new l a k e = getD-at l a [] Silent k e
 
--- of no ticks, none
-pub share-none : (id : ℕ) (l : List Answer) (m : ℕ) → share id l m 0 ≡ 0
-unfolding share
-share-none id l m = sum-none (λ j. names id (answerAt l (m + j)))
+module _ (f : Answer → ℕ) where
+  -- of no ticks, none
+  pub count-none : (l : List Answer) (m : ℕ) → countOf f l m 0 ≡ 0
+  unfolding countOf
+  count-none l m = sum-none (λ j. f (answerAt l (m + j)))
 
--- ticks already done
-pub share-old : (id : ℕ) (l k : List Answer) (m n : ℕ) → m + n ≤ length l → share id (l ++ k) m n ≡ share id l m n
-unfolding share
-share-old id l k m n h =
-    sum-same (λ j. names id (answerAt (l ++ k) (m + j))) (λ j. names id (answerAt l (m + j))) n
-    (λ j b. ap (names id) (answer-old l k (m + j) (omega arith)))
+  -- ticks already done
+  pub count-old : (l k : List Answer) (m n : ℕ) → m + n ≤ length l → countOf f (l ++ k) m n ≡ countOf f l m n
+  unfolding countOf
+  count-old l k m n h =
+      sum-same (λ j. f (answerAt (l ++ k) (m + j))) (λ j. f (answerAt l (m + j))) n (λ j b. ap f (answer-old l k (m + j) (omega arith)))
 
--- the last tick peeled off
-share-last : (id : ℕ) (l : List Answer) (m n : ℕ) → share id l m (suc n) ≡ share id l m n + names id (answerAt l (m + n))
-unfolding share
-share-last id l m n = sum-last (λ j. names id (answerAt l (m + j))) n
+  -- the last tick peeled off
+  count-last : (l : List Answer) (m n : ℕ) → countOf f l m (suc n) ≡ countOf f l m n + f (answerAt l (m + n))
+  unfolding countOf
+  count-last l m n = sum-last (λ j. f (answerAt l (m + j))) n
 
--- one tick more
-pub share-next :
-    (id : ℕ) (l : List Answer) (a : Answer) (m n : ℕ)
-    → length l ≡ m + n
-    → share id (l ++ (a ∷ [])) m (suc n) ≡ share id l m n + names id a
-share-next id l a m n e =
-    omega (
-      arith,
-      share-last id (l ++ (a ∷ [])) m n,
-      share-old id l (a ∷ []) m n (omega arith),
-      ap (names id) (answer-new l a (m + n) e),
-    )
+  -- one tick more
+  pub count-next : (l : List Answer) (a : Answer) (m n : ℕ) → length l ≡ m + n → countOf f (l ++ (a ∷ [])) m (suc n) ≡ countOf f l m n + f a
+  count-next l a m n e =
+      omega (
+        arith,
+        count-last (l ++ (a ∷ [])) m n,
+        count-old l (a ∷ []) m n (omega arith),
+        ap f (answer-new l a (m + n) e),
+      )

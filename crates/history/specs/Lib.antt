@@ -3,3 +3,4 @@ pub mod Named
 pub mod Share
 pub mod Runs
 pub mod Finished
+pub mod Usage

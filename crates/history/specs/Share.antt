@@ -1,4 +1,4 @@
--- How many ticks a guest had, by the answers.
+-- Ticks counted by their answers, and how many a guest had.
 use mathlib.Core.Bool.{Bool, true, false}
 use mathlib.Core.List.{List}
 use Prim.Native.Nat.{ℕ, _+_}
@@ -25,6 +25,10 @@ names id (Finished guest task age margin) = bit (eqb guest id)
 abbrev pub answerAt : List Answer → ℕ → Answer
 answerAt l m = getD l m Silent
 
--- of the n ticks from tick m on, how many the guest had
-unfoldable pub share : (id : ℕ) → List Answer → ℕ → ℕ → ℕ
-share id l m n = sumTo (λ j. names id (answerAt l (m + j))) n
+-- of the n ticks from tick m on, how many a test counts
+unfoldable pub countOf : (Answer → ℕ) → List Answer → ℕ → ℕ → ℕ
+countOf f l m n = sumTo (λ j. f (answerAt l (m + j))) n
+
+-- how many of them the guest had
+abbrev pub share : (id : ℕ) → List Answer → ℕ → ℕ → ℕ
+share id l m n = countOf (names id) l m n

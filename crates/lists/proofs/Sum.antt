@@ -40,22 +40,23 @@ unfolding sumTo
 sum-add f h zero = refl
 sum-add f h (suc n) = omega (arith, sum-add f h n)
 
--- one place is higher by c, all others are the same
+-- one place has changed, all others are the same
+pub sum-change : (f h : ℕ → ℕ) (n k : ℕ) → k < n → ((j : ℕ) → j < n → (j ≡ k → ⊥) → f j ≡ h j) → sumTo f n + h k ≡ sumTo h n + f k
+unfolding sumTo
+sum-change f h zero k l p = absurd (omega arith)
+sum-change f h (suc n) k l p =
+    ⊎-elim (λ (q : k ≡ n). rw q (omega (arith, sum-same f h n (λ j b. p j (omega arith) (λ z. omega arith)))))
+    (λ (q : k < n). omega (arith, sum-change f h n k q (λ j b. p j (omega arith)), p n (omega arith) (λ z. omega arith)))
+    (eq-or-lt-of-le {n = k} {m = n} (omega arith))
+
+-- it is higher by c
 pub sum-bump :
     (f h : ℕ → ℕ) (c n k : ℕ)
     → k < n
     → f k + c ≡ h k
     → ((j : ℕ) → j < n → (j ≡ k → ⊥) → f j ≡ h j)
     → sumTo f n + c ≡ sumTo h n
-unfolding sumTo
-sum-bump f h c zero k l e p = absurd (omega arith)
-sum-bump f h c (suc n) k l e p =
-    ⊎-elim
-    (λ (q : k ≡ n).
-    let r : f n + c ≡ h n = rw q at e in
-    omega (arith, sum-same f h n (λ j b. p j (omega arith) (λ z. omega arith))))
-    (λ (q : k < n). omega (arith, sum-bump f h c n k q e (λ j b. p j (omega arith)), p n (omega arith) (λ z. omega arith)))
-    (eq-or-lt-of-le {n = k} {m = n} (omega arith))
+sum-bump f h c n k l e p = omega (arith, sum-change f h n k l p)
 
 -- where all are 0, so is the sum
 pub sum-zero : (f : ℕ → ℕ) (n : ℕ) → ((k : ℕ) → k < n → f k ≡ 0) → sumTo f n ≡ 0

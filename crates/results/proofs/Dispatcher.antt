@@ -1,18 +1,24 @@
--- The dispatcher over histories of calls, for any plan in order: its states are never refused, a run is its single ticks, wait and age mean what they say.
+-- The dispatcher over histories of calls, for any plan in order: its states are never refused, a run is its single ticks, wait and age mean what they say,
+-- and the numbers beside the state say where the ticks went.
 use mathlib.Core.Path.{_≡_}
 use mathlib.Core.Bool.{true}
 use mathlib.Core.List.{List}
-use Prim.Native.Nat.{ℕ, _-_, _≤_, _<_, min}
+use Prim.Native.Nat.{ℕ, _+_, _-_, _%_, _≤_, _<_, min}
+use Rattle.lists.specs.Places.{nth}
+use Rattle.lists.specs.Sum.{sumTo}
+use Rattle.arrays.specs.Usage.{wrap, nobodys}
 use Rattle.plan.specs.Order.{planRefusal}
 use Rattle.plan.specs.declared.Plan.{Plan}
 use Rattle.dispatcher.specs.declared.Dispatcher.{Dispatcher}
 use Rattle.dispatcher.specs.Release.{release}
 use Rattle.dispatcher.specs.Valid.{stateOk}
-use Rattle.history.specs.Calls.{Call, releasing, start, after, play, ticksIn, callNumber, NoneTaken}
+use Rattle.history.specs.Calls.{Call, releasing, start, after, play, ticksIn, answers, callNumber, NoneTaken}
 use Rattle.history.specs.Named.{everyBy, restBy, waitBy, ageBy}
 use Rattle.history.specs.Runs.{RunIs}
+use Rattle.history.specs.Usage.{Accounts}
 use Rattle.history.proofs.Clocks as clocks
 use Rattle.history.proofs.Stays as stays
+use Rattle.history.proofs.Usage as usage
 
 -- A state that is not refused stays so over every call.
 pub never-spoiled : (c : Call) (d : Dispatcher) → stateOk d ≡ true → stateOk (after c d) ≡ true
@@ -40,3 +46,19 @@ module _ (p : Plan) (order : planRefusal p .number ≡ 0) (id number : ℕ) (cs 
       0 < restBy p id number (play ds (after (releasing id number) (play cs (start p))))
       → ageBy p id number (play ds (after (releasing id number) (play cs (start p)))) ≡ min (ticksIn ds (after (releasing id number) (play cs (start p)))) 1000000
   age-means = clocks.age-since p order id number cs taken ds none
+
+-- Where the ticks went: after any history each number beside the state is the count of such ticks, modulo 2 to the 64.
+pub usage-counts : (p : Plan) → planRefusal p .number ≡ 0 → (cs : List Call) → Accounts p (answers cs (start p)) (play cs (start p) .usage)
+usage-counts = usage.usage-counts
+
+-- All guests' ticks and nobody's are the ticks done.
+pub usage-adds-up :
+    (p : Plan)
+    → planRefusal p .number ≡ 0
+    → (cs : List Call)
+    → (sumTo (nth (play cs (start p) .usage)) (p .count) + nth (play cs (start p) .usage) nobodys) % wrap ≡ ticksIn cs (start p) % wrap
+usage-adds-up = usage.usage-adds-up
+
+-- 14 does not look at them.
+pub usage-unseen : (d : Dispatcher) (u : List ℕ) → stateOk (record { plan = d .plan; left = d .left; position = d .position; rest = d .rest; wait = d .wait; age = d .age; usage = u }) ≡ stateOk d
+usage-unseen = usage.usage-unseen

@@ -3,7 +3,7 @@
 use crate::call::Call;
 use crate::random_calls::every_verdict;
 use crate::session::Session;
-use reference::dispatcher::Dispatcher;
+use reference::dispatcher::{COUNTED, Dispatcher};
 use reference::plan::{BLOCK, Guest, LONGEST_PLAN, Plan, blocks_of, seal};
 use reference::samples::{falling, long_gap, plan_a, unfit_above};
 
@@ -193,10 +193,11 @@ fn states_of_one_guest(session: &mut Session) {
     }
 }
 
-/// Every state without ages of guests 1/2 and 1/3, each with one task 2/2/2.
+/// Every state without ages of guests 1/2 and 1/3, each with one task 2/2/2; whatever a tick counts wraps.
 fn states_of_two_guests(session: &mut Session) {
     let guest = |id, period| Guest::new(id, 1, period, &[[2, 2, 2]]);
-    let fresh = Dispatcher::with(Plan::new(&[guest(1, 2), guest(2, 3)]));
+    let mut fresh = Dispatcher::with(Plan::new(&[guest(1, 2), guest(2, 3)]));
+    fresh.usage = [u64::MAX; COUNTED];
     for number in 0..2 * 2 * 2 * 3 * 3 * 3 * 3 * 3 {
         let mut state = fresh;
         state.left[..2].copy_from_slice(&[number % 2, number / 2 % 2]);

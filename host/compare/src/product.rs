@@ -49,6 +49,7 @@ fn state_in(state: &Dispatcher) -> coreshare::Dispatcher {
         rest: state.rest,
         wait: state.wait,
         age: state.age,
+        usage: state.usage,
     }
 }
 
@@ -80,6 +81,7 @@ fn state(state: &coreshare::Dispatcher) -> Dispatcher {
         rest: state.rest,
         wait: state.wait,
         age: state.age,
+        usage: state.usage,
     }
 }
 

@@ -1,5 +1,5 @@
 //! The promise to a tenant, from outside: in every history a quoted task finishes by its response,
-//! and no release of it that is due is refused.
+//! and no release of it that is due is refused. The numbers beside the state are held to the history too.
 
 mod play;
 

@@ -40,6 +40,18 @@ impl Random {
         of[self.below(of.len())]
     }
 
+    /// A number of ticks: often one that a tick or two make wrap.
+    pub fn count(&mut self) -> u64 {
+        match self.below(8) {
+            0 => self.next(),
+            1 => u64::from(self.edge()),
+            2 => 1 << 32,
+            3 => u64::MAX - 1,
+            4 | 5 => u64::MAX,
+            _ => 0,
+        }
+    }
+
     /// A number that tests look for: an edge of some range, or any.
     pub fn edge(&mut self) -> u32 {
         const EDGES: [u32; 22] = [

@@ -104,11 +104,16 @@ fn state(state: &Dispatcher) -> String {
         .iter()
         .map(|(name, column)| format!("{name} [{}]", not_zero(column)))
         .collect();
-    format!("{} {}", plan(&state.plan), columns.join(" "))
+    let usage = not_zero(&state.usage);
+    format!(
+        "{} {} usage [{usage}]",
+        plan(&state.plan),
+        columns.join(" ")
+    )
 }
 
 /// Each number that is not zero, with its place.
-fn not_zero<T: Copy + Display + Into<u32>>(numbers: &[T]) -> String {
+fn not_zero<T: Copy + Display + Into<u64>>(numbers: &[T]) -> String {
     let set: Vec<String> = numbers
         .iter()
         .enumerate()

@@ -1,7 +1,7 @@
 //! Makes an input smaller as long as the two sides still differ.
 
 use crate::call::Call;
-use reference::dispatcher::{Dispatcher, place_of};
+use reference::dispatcher::{COUNTED, Dispatcher, IDLED_FROM, place_of};
 use reference::plan::{BLOCK, Guest, MOST_GUESTS, MOST_TASKS, Plan, seal};
 use std::time::{Duration, Instant};
 
@@ -210,12 +210,25 @@ fn smaller_states(state: &Dispatcher) -> Vec<Dispatcher> {
         .map(|gone| state_without_guest(state, gone))
         .collect();
     all.extend(with_a_smaller_number(state, state_numbers));
+    all.extend(with_less_counted(state));
     all.extend(
         smaller_plans(&state.plan)
             .into_iter()
             .map(|plan| Dispatcher { plan, ..*state }),
     );
     all
+}
+
+/// Copies of a state with a number of ticks made zero.
+fn with_less_counted(state: &Dispatcher) -> Vec<Dispatcher> {
+    let counted = (0..COUNTED).filter(|at| state.usage[*at] != 0);
+    counted
+        .map(|at| {
+            let mut less = *state;
+            less.usage[at] = 0;
+            less
+        })
+        .collect()
 }
 
 fn state_numbers(state: &mut Dispatcher) -> Vec<&mut u32> {
@@ -232,6 +245,11 @@ fn state_without_guest(state: &Dispatcher, gone: usize) -> Dispatcher {
     let mut fewer = *state;
     fewer.plan = without_guest(&state.plan, gone);
     for column in [&mut fewer.left, &mut fewer.position] {
+        column.copy_within(gone + 1.., gone);
+        column[MOST_GUESTS - 1] = 0;
+    }
+    for first in [0, IDLED_FROM] {
+        let column = &mut fewer.usage[first..first + MOST_GUESTS];
         column.copy_within(gone + 1.., gone);
         column[MOST_GUESTS - 1] = 0;
     }

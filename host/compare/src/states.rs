@@ -1,12 +1,13 @@
 //! Random states of the dispatcher: in range, and hostile.
 
 use crate::random::Random;
-use reference::dispatcher::{Dispatcher, PLACES, place_of};
+use reference::dispatcher::{COUNTED, Dispatcher, PLACES, place_of};
 use reference::plan::{MOST_GUESTS, Plan};
 
-/// A state in its ranges, which a history may reach or not.
+/// A state in its ranges, which a history may reach or not, with any numbers for where the ticks went.
 pub fn in_range(random: &mut Random, plan: Plan) -> Dispatcher {
     let mut state = Dispatcher::with(plan);
+    state.usage = counts(random);
     let busy = random.once_in(2);
     for (at, guest) in plan.listed().iter().enumerate() {
         state.left[at] = up_to(random, guest.capacity);
@@ -23,6 +24,11 @@ pub fn in_range(random: &mut Random, plan: Plan) -> Dispatcher {
     state
 }
 
+/// Where the ticks went: no range is asked of any of these, past the guests either.
+fn counts(random: &mut Random) -> [u64; COUNTED] {
+    std::array::from_fn(|_| random.count())
+}
+
 /// A number from 0 to `most`, often an end of it or small.
 fn up_to(random: &mut Random, most: u32) -> u32 {
     match random.below(6) {
@@ -34,7 +40,8 @@ fn up_to(random: &mut Random, most: u32) -> u32 {
     }
 }
 
-/// The state with some numbers changed: to an edge, or to the first one out of range.
+/// The state with some numbers changed: to an edge, or to the first one out of range; or
+/// where the ticks went, which has no range.
 pub fn hostile(random: &mut Random, state: &Dispatcher) -> Dispatcher {
     if random.once_in(30) {
         return anything(random, state.plan);
@@ -54,6 +61,7 @@ fn anything(random: &mut Random, plan: Plan) -> Dispatcher {
         rest: std::array::from_fn(|_| random.edge()),
         wait: std::array::from_fn(|_| random.edge()),
         age: std::array::from_fn(|_| random.edge()),
+        usage: counts(random),
     }
 }
 
@@ -66,7 +74,7 @@ fn damage(random: &mut Random, state: &mut Dispatcher) {
     let charged = guest.run[task].wrapping_add(guest.charge.into());
     let value = random.edge();
     let over = |most: u32, random: &mut Random| random.pick(&[most.wrapping_add(1), most, value]);
-    match random.below(8) {
+    match random.below(9) {
         0 => state.left[at] = over(guest.capacity, random),
         1 => state.position[at] = over(guest.period.wrapping_sub(1), random),
         2 => state.rest[place] = over(charged, random),
@@ -74,6 +82,7 @@ fn damage(random: &mut Random, state: &mut Dispatcher) {
         4 => state.age[place] = over(1_000_000, random),
         5 => state.plan.count = value,
         6 => state.plan.guests[at].id = random.pick(&[0, state.plan.guests[0].id, value]),
+        7 => state.usage = counts(random),
         _ => state.plan.guests[at].period = value,
     }
 }

@@ -1,8 +1,11 @@
-//! The comparison itself is tried: each mistake that document 01 names must be found.
+//! The comparison itself is tried: each mistake that document 01 names must be found, and some in
+//! counting where the ticks went.
 
 use compare::session::Session;
 use compare::side::{REFERENCE, Side};
-use reference::dispatcher::{Dispatcher, Run, Ticked, run, tick};
+use reference::dispatcher::{
+    COUNTED, Dispatcher, IDLED, IDLED_FROM, Run, Ticked, release, run, tick,
+};
 use reference::plan::{Plan, Refusal};
 use reference::verdict::{self, NO, Verdict, YES};
 use std::time::Duration;
@@ -130,4 +133,62 @@ fn without_idle_capacity(state: &Dispatcher) -> Dispatcher {
         }
     }
     changed
+}
+
+#[test]
+fn a_tick_that_counts_what_is_idled_away_as_nobodys() {
+    assert!(!passes(Side {
+        tick: |state| {
+            let mut ticked = tick(state);
+            if ticked.answer.kind == IDLED {
+                let usage = &mut ticked.dispatcher.usage;
+                usage[IDLED_FROM..].copy_from_slice(&state.usage[IDLED_FROM..]);
+                usage[COUNTED - 1] = usage[COUNTED - 1].wrapping_add(1);
+            }
+            ticked
+        },
+        ..REFERENCE
+    }));
+}
+
+#[test]
+fn a_count_that_stops_instead_of_wrapping() {
+    assert!(!passes(Side {
+        tick: |state| {
+            let mut ticked = tick(state);
+            for (number, before) in ticked.dispatcher.usage.iter_mut().zip(state.usage) {
+                *number = before.max(*number);
+            }
+            ticked
+        },
+        ..REFERENCE
+    }));
+}
+
+#[test]
+fn a_refused_run_that_starts_the_count_anew() {
+    assert!(!passes(Side {
+        run: |state, ticks| {
+            let mut outcome = run(state, ticks);
+            if outcome.refusal.number != 0 {
+                outcome.dispatcher.usage = [0; COUNTED];
+            }
+            outcome
+        },
+        ..REFERENCE
+    }));
+}
+
+#[test]
+fn a_release_that_looks_at_where_the_ticks_went() {
+    assert!(!passes(Side {
+        release: |state, id, task| match state.usage[COUNTED - 1] {
+            u64::MAX => reference::dispatcher::Released {
+                refusal: Refusal::new(14, 0),
+                dispatcher: *state,
+            },
+            _ => release(state, id, task),
+        },
+        ..REFERENCE
+    }));
 }

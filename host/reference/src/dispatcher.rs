@@ -23,8 +23,19 @@ pub const IDLED: u32 = 2;
 pub const RAN: u32 = 3;
 pub const FINISHED: u32 = 4;
 
+/// Where `usage` keeps the ticks that the first guest idled away, the next guests' after it.
+pub const IDLED_FROM: usize = MOST_GUESTS;
+
+/// Where `usage` keeps the ticks that no guest had.
+pub const NOBODYS: usize = 2 * MOST_GUESTS;
+
+/// The numbers of `usage`.
+pub const COUNTED: usize = NOBODYS + 1;
+
 /// The plan's records; for each guest the capacity left and the position in its period; and run
-/// left, wait and age for each task, task `t` of guest `g` at `16 * g + t`.
+/// left, wait and age for each task, task `t` of guest `g` at `16 * g + t`. Beside them where the
+/// ticks went: for each guest its ticks, then for each how many of them it idled away, then the
+/// ticks that no guest had.
 #[derive(Clone, Copy, Debug, PartialEq, Eq)]
 pub struct Dispatcher {
     pub plan: Plan,
@@ -33,6 +44,7 @@ pub struct Dispatcher {
     pub rest: [u32; PLACES],
     pub wait: [u32; PLACES],
     pub age: [u32; PLACES],
+    pub usage: [u64; COUNTED],
 }
 
 /// What had a tick: the guest by its id, the task by its number from 1; the age and the margin of a
@@ -79,8 +91,8 @@ pub fn place_of(guest: usize, task: usize) -> usize {
 }
 
 impl Dispatcher {
-    /// No job, no wait and no age in any place, all positions 0, no capacity left, and the records
-    /// as handed over.
+    /// No job, no wait and no age in any place, all positions 0, no capacity left, no tick counted,
+    /// and the records as handed over.
     pub fn with(plan: Plan) -> Dispatcher {
         Dispatcher {
             plan,
@@ -89,6 +101,7 @@ impl Dispatcher {
             rest: [0; PLACES],
             wait: [0; PLACES],
             age: [0; PLACES],
+            usage: [0; COUNTED],
         }
     }
 }
@@ -178,7 +191,7 @@ fn released(state: &Dispatcher, id: u32, task: u32) -> Result<Dispatcher, Refusa
 }
 
 /// Refusal 14: a state whose plan fails the records' order, or with a number outside its range, or
-/// with anything but 0 past its guests and tasks.
+/// with anything but 0 past its guests and tasks. It ignores where the ticks went.
 fn in_range(state: &Dispatcher) -> Result<(), Refusal> {
     let guests_in_range = || (0..MOST_GUESTS).all(|guest| guest_in_range(state, guest));
     if well_formed(&state.plan).is_ok() && guests_in_range() {

@@ -53,7 +53,7 @@ impl Answer {
 }
 
 impl Dispatcher {
-    /// A fresh state: no job, and all positions 0. The plan need not be an accepted one.
+    /// A fresh state: no job, all positions 0, and no tick counted. The plan need not be an accepted one.
     ///
     /// ```
     /// use coreshare::{Dispatcher, Guest, Plan};
@@ -131,5 +131,45 @@ impl Dispatcher {
             done: outcome.done,
             last: outcome.answer.tick(),
         })
+    }
+
+    /// How many ticks the guest had, modulo 2 to the 64; none where the plan has no such guest.
+    ///
+    /// ```
+    /// use coreshare::{Dispatcher, Guest, Plan};
+    ///
+    /// let plan = Plan::new(&[
+    ///     Guest::new(7, 2, 5, &[[1, 20, 20]]),
+    ///     Guest::new(9, 8, 20, &[[10, 50, 50], [8, 100, 100]]),
+    /// ]);
+    /// let mut dispatcher = Dispatcher::fresh(&plan)?;
+    /// dispatcher.release(9, 1)?;
+    /// let progress = dispatcher.run(1_000)?;
+    /// assert_eq!([dispatcher.ticks(7), dispatcher.idled(7)], [Some(10), Some(10)]);
+    /// assert_eq!([dispatcher.ticks(9), dispatcher.idled(9)], [Some(10), Some(0)]);
+    /// assert_eq!(dispatcher.nobodys(), 4);
+    /// assert_eq!(dispatcher.ticks(8), None);
+    /// assert_eq!(progress.done, 24);
+    /// # Ok::<(), coreshare::Refusal>(())
+    /// ```
+    pub fn ticks(&self, id: u32) -> Option<u64> {
+        self.place(id).map(|place| self.usage[place])
+    }
+
+    /// How many of its ticks the guest idled away, modulo 2 to the 64; none where the plan has no
+    /// such guest.
+    pub fn idled(&self, id: u32) -> Option<u64> {
+        self.place(id).map(|place| self.usage[8 + place])
+    }
+
+    /// How many ticks no guest had, modulo 2 to the 64.
+    pub fn nobodys(&self) -> u64 {
+        self.usage[16]
+    }
+
+    /// The guest's place in the plan, whatever the plan's count is.
+    fn place(&self, id: u32) -> Option<usize> {
+        let mut listed = self.plan.guests.iter().take(self.plan.count as usize);
+        listed.position(|guest| guest.id == id)
     }
 }

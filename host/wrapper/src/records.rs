@@ -63,6 +63,10 @@ pub struct Verdict {
 }
 
 /// The dispatcher's state. Task `t` of guest `g`, both from 0, has its numbers at `16 * g + t`.
+///
+/// Beside it stands where the ticks went, which no refusal looks at; [`Dispatcher::ticks`],
+/// [`Dispatcher::idled`] and [`Dispatcher::nobodys`] read it. There are four bytes of padding before
+/// `usage`, of which the same is true as of a record's.
 #[repr(C)]
 #[derive(Clone, Copy, Debug, PartialEq, Eq)]
 pub struct Dispatcher {
@@ -77,6 +81,9 @@ pub struct Dispatcher {
     pub wait: [u32; 128],
     /// The age of each task's last job.
     pub age: [u32; 128],
+    /// The ticks of guest `g` at `g`, those of them that it idled away at `8 + g`, and at 16 the
+    /// ticks that no guest had; each goes on at 0 after `u64::MAX`.
+    pub usage: [u64; 17],
 }
 
 /// What had a tick: kind 0 no answer, 1 nobody, 2 a guest idled, 3 a task ran, 4 a job finished.

@@ -57,7 +57,7 @@ fn layout() -> String {
     lines!(to, "CsRefusal", Refusal, number place);
     lines!(to, "CsRead", Read, refusal plan);
     lines!(to, "CsVerdict", Verdict, number place verdict ticks);
-    lines!(to, "CsDispatcher", Dispatcher, plan left position rest wait age);
+    lines!(to, "CsDispatcher", Dispatcher, plan left position rest wait age usage);
     lines!(to, "CsStart", Start, refusal dispatcher);
     lines!(to, "CsReleased", Released, refusal dispatcher);
     lines!(to, "CsAnswer", Answer, kind guest task age margin);
@@ -79,7 +79,7 @@ fn the_sizes_are_those_of_the_header() {
         size_of::<Dispatcher>(),
         size_of::<Run>(),
     ];
-    assert_eq!(sizes, [212, 1_700, 3_300, 3_332]);
+    assert_eq!(sizes, [212, 1_700, 3_440, 3_472]);
 }
 
 #[test]
@@ -94,6 +94,9 @@ task 2 met 80
 plan accepted
 guest 9 needs a capacity of 7
 after 24 ticks guest 9 finished task 1: age 24, margin 26
+guest 7 had 10 ticks and idled 10 of them away
+guest 9 had 10 ticks and idled 0 of them away
+nobody had 4
 ";
     assert_eq!(output_of("example", &[archive]), text);
 }

@@ -3,7 +3,8 @@
 use crate::records::LONGEST;
 use crate::{Guest, Plan, Refusal};
 
-/// Task `t` of guest `g` at `16 * g + t`.
+/// Task `t` of guest `g` at `16 * g + t`; the ticks of guest `g` at `g`, those that it idled away at `8 + g`,
+/// nobody's at 16.
 #[repr(C)]
 #[derive(Clone, Copy, Debug, PartialEq, Eq)]
 pub struct Dispatcher {
@@ -13,6 +14,7 @@ pub struct Dispatcher {
     pub rest: [u32; 128],
     pub wait: [u32; 128],
     pub age: [u32; 128],
+    pub usage: [u64; 17],
 }
 
 /// What had a tick: guests by their id, tasks by their number from 1.
@@ -39,6 +41,7 @@ impl Dispatcher {
             rest: [0; 128],
             wait: [0; 128],
             age: [0; 128],
+            usage: [0; 17],
         })
     }
 
@@ -153,17 +156,26 @@ impl Dispatcher {
         self.serve(count)
     }
 
+    /// One more tick at a place of `usage`.
+    fn count(&mut self, at: usize) {
+        self.usage[at] = self.usage[at].wrapping_add(1);
+    }
+
     /// Hands the tick to the first guest with capacity left, and in it to the first task with run left.
     fn serve(&mut self, count: usize) -> Tick {
         let Some(at) = self.left[..count].iter().position(|left| *left > 0) else {
+            self.count(16);
             return Tick::Nobody;
         };
         self.left[at] -= 1;
+        self.count(at);
         let guest = &self.plan.guests[at];
         let first = 16 * at;
         let rest = &mut self.rest[first..first + 16];
         let Some(task) = rest.iter().position(|rest| *rest > 0) else {
-            return Tick::Idled(guest.id);
+            let id = guest.id;
+            self.count(8 + at);
+            return Tick::Idled(id);
         };
         rest[task] -= 1;
         let number = task as u32 + 1;

@@ -59,6 +59,7 @@ fn state_in(state: &dispatching::Dispatcher) -> plain::Dispatcher {
         rest: state.rest,
         wait: state.wait,
         age: state.age,
+        usage: state.usage,
     }
 }
 
@@ -90,6 +91,7 @@ fn state(state: &plain::Dispatcher) -> dispatching::Dispatcher {
         rest: state.rest,
         wait: state.wait,
         age: state.age,
+        usage: state.usage,
     }
 }
 

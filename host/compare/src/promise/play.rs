@@ -1,7 +1,9 @@
-//! Plays a script of releases and watches the clock itself.
+//! Plays a script of releases, watches the clock itself and counts where the ticks went.
 
 use crate::side::Side;
-use reference::dispatcher::{Answer, Dispatcher, FINISHED, PLACES, place_of};
+use reference::dispatcher::{
+    Answer, COUNTED, Dispatcher, FINISHED, IDLED, IDLED_FROM, NOBODY, NOBODYS, PLACES, place_of,
+};
 use reference::plan::Plan;
 
 /// A task that the subject quotes a response for, by places from 0.
@@ -31,6 +33,7 @@ pub fn play(side: &Side, plan: &Plan, quoted: &[Quoted], script: &Script) -> Res
         response: [None; PLACES],
         taken: [None; PLACES],
         unfinished: [false; PLACES],
+        counted: [0; COUNTED],
         seen: Seen::default(),
     };
     for quote in quoted {
@@ -42,6 +45,7 @@ pub fn play(side: &Side, plan: &Plan, quoted: &[Quoted], script: &Script) -> Res
         }
         play.tick(time)?;
     }
+    play.accounts(script.len())?;
     Ok(play.seen)
 }
 
@@ -53,6 +57,8 @@ struct Play<'a> {
     /// When each task's last release was taken.
     taken: [Option<u32>; PLACES],
     unfinished: [bool; PLACES],
+    /// Where the ticks went, by their answers.
+    counted: [u64; COUNTED],
     seen: Seen,
 }
 
@@ -85,6 +91,7 @@ impl Play<'_> {
     fn tick(&mut self, time: u32) -> Result<(), String> {
         let outcome = (self.side.tick)(&self.state);
         self.state = outcome.dispatcher;
+        self.count(&outcome.answer);
         let finished = self.finished(&outcome.answer);
         for place in (0..PLACES).filter(|place| self.unfinished[*place]) {
             let (Some(response), Some(taken)) = (self.response[place], self.taken[place]) else {
@@ -105,13 +112,43 @@ impl Play<'_> {
         Ok(())
     }
 
+    /// Counts the tick for the guest that its answer names, or for nobody.
+    fn count(&mut self, answer: &Answer) {
+        if answer.kind == NOBODY {
+            self.counted[NOBODYS] += 1;
+        }
+        if let Some(guest) = self.guest(answer) {
+            self.counted[guest] += 1;
+            self.counted[IDLED_FROM + guest] += u64::from(answer.kind == IDLED);
+        }
+    }
+
+    /// Each number beside the state is the count of such ticks, and all guests' ticks and nobody's
+    /// are the ticks done.
+    fn accounts(&self, ticks: usize) -> Result<(), String> {
+        let usage = &self.state.usage;
+        let of_guests = usage[..self.plan.listed().len()].iter();
+        let all = of_guests.fold(usage[NOBODYS], |sum, number| sum.wrapping_add(*number));
+        match *usage == self.counted && all == ticks as u64 {
+            true => Ok(()),
+            false => Err(format!(
+                "{ticks} ticks went {:?}, not {usage:?}",
+                self.counted
+            )),
+        }
+    }
+
+    /// The place of the guest that the answer names.
+    fn guest(&self, answer: &Answer) -> Option<usize> {
+        let mut guests = self.plan.listed().iter();
+        guests.position(|guest| guest.id == answer.guest)
+    }
+
     /// The place of the task whose job the answer says is finished.
     fn finished(&self, answer: &Answer) -> Option<usize> {
         if answer.kind != FINISHED {
             return None;
         }
-        let mut guests = self.plan.listed().iter();
-        let guest = guests.position(|guest| guest.id == answer.guest)?;
-        Some(place_of(guest, answer.task as usize - 1))
+        Some(place_of(self.guest(answer)?, answer.task as usize - 1))
     }
 }

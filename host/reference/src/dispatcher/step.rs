@@ -1,6 +1,6 @@
 //! One tick of a state that is in its ranges, sentence by sentence.
 
-use super::{Answer, Dispatcher, FINISHED, IDLED, NOBODY, RAN, place_of};
+use super::{Answer, Dispatcher, FINISHED, IDLED, IDLED_FROM, NOBODY, NOBODYS, RAN, place_of};
 use crate::plan::Guest;
 
 /// One tick, in order.
@@ -12,6 +12,7 @@ pub fn step(state: &mut Dispatcher) -> Answer {
     grow(state, &at_start);
     wait(state);
     advance(state);
+    count(state, guest, task);
     answer(state, guest, task)
 }
 
@@ -64,6 +65,20 @@ fn advance(state: &mut Dispatcher) {
         state.position[guest] += 1;
         if state.position[guest] == state.plan.guests[guest].period {
             state.position[guest] = 0;
+        }
+    }
+}
+
+/// For each guest its ticks and how many of them it idled away, and one number for ticks that no
+/// guest had, all 64-bit and wrapping.
+fn count(state: &mut Dispatcher, guest: Option<usize>, task: Option<usize>) {
+    let mut more = |at: usize| state.usage[at] = state.usage[at].wrapping_add(1);
+    match (guest, task) {
+        (None, _) => more(NOBODYS),
+        (Some(guest), Some(_)) => more(guest),
+        (Some(guest), None) => {
+            more(guest);
+            more(IDLED_FROM + guest);
         }
     }
 }

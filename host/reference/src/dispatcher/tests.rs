@@ -100,6 +100,38 @@ fn an_age_stops_and_a_margin_can_be_negative() {
     assert_eq!(outcome.dispatcher.age[0], 1_000_000);
 }
 
+/// The ticks of plan A's two guests, those that they idled away, and nobody's.
+fn went(state: &Dispatcher) -> [u64; 5] {
+    [0, 1, IDLED_FROM, IDLED_FROM + 1, NOBODYS].map(|at| state.usage[at])
+}
+
+#[test]
+fn each_tick_is_counted_where_it_went() {
+    let state = taken(&started(&plan_a()), 9, 1);
+    assert_eq!(went(&state), [0; 5]);
+    assert_eq!(went(&after(&state, 2)), [2, 0, 2, 0, 0]);
+    assert_eq!(went(&after(&state, 5)), [2, 3, 2, 0, 0]);
+    assert_eq!(went(&run(&state, 1000).dispatcher), [10, 10, 10, 0, 4]);
+    assert_eq!(went(&after(&state, 40)), [16, 16, 16, 6, 8]);
+    let busy = taken(&state, 7, 1);
+    assert_eq!(went(&after(&busy, 2)), [2, 0, 1, 0, 0]);
+}
+
+#[test]
+fn counts_wrap_and_a_refusal_hands_them_back() {
+    let mut state = started(&plan_a());
+    state.usage = [u64::MAX; COUNTED];
+    let most = u64::MAX;
+    assert_eq!(went(&after(&state, 1)), [0, most, 0, most, most]);
+    assert_eq!(went(&after(&state, 14)), [5, 7, 5, 7, most]);
+    assert_eq!(went(&after(&state, 15)), [5, 7, 5, 7, 0]);
+    assert_eq!(taken(&state, 9, 1).usage, state.usage);
+    assert_eq!(release(&state, 9, 3).dispatcher.usage, state.usage);
+    assert_eq!(run(&state, 1_000_001).dispatcher.usage, state.usage);
+    state.left[0] = 3;
+    assert_eq!(tick(&state).dispatcher.usage, state.usage);
+}
+
 #[test]
 fn a_run_equals_its_single_ticks() {
     let state = taken(&taken(&started(&plan_a()), 9, 1), 7, 1);
@@ -193,6 +225,7 @@ fn each_range_of_a_state() {
         assert!(refused_with(|state| state.wait[place] = 1));
         assert!(refused_with(|state| state.age[place] = 1));
     }
+    assert!(!refused_with(|state| state.usage = [u64::MAX; COUNTED]));
     assert!(refused_with(|state| state.plan.count = 3));
     assert!(refused_with(|state| state.plan.guests[0].tasks = 0));
 }

@@ -12,13 +12,13 @@ nothing-requires : tie.Need-nothing-requires
 nothing-requires c κs = search needs
 
 returns : tie.Need-returns
-returns c = uncounted _ _ (c .nothing .ensures) (count-few (c .before .before .before .args .plan) (c .before .if1 .taken))
+returns c = λ u. uncounted _ _ (c .nothing .ensures) (count-few (c .before .before .before .args .plan) (c .before .if1 .taken))
 
 nothing-requires-2 : tie.Need-nothing-requires-2
 nothing-requires-2 c κs = search needs
 
 returns-2 : tie.Need-returns-2
-returns-2 c = uncounted _ _ (c .nothing2 .ensures) (count-many (c .before .before .before .before .args .plan) (c .before .before .if1 .left) (c .before .if2 .taken))
+returns-2 c = λ u. uncounted _ _ (c .nothing2 .ensures) (count-many (c .before .before .before .before .args .plan) (c .before .before .if1 .left) (c .before .if2 .taken))
 
 guests-ok-requires : tie.Need-guests-ok-requires
 guests-ok-requires c κs = search needs
@@ -27,7 +27,7 @@ blanks-ok-requires : tie.Need-blanks-ok-requires
 blanks-ok-requires c κs = search needs
 
 returns-3 : tie.Need-returns-3
-returns-3 c = examined _ (c .before .before .guests-ok .result) (c .before .before .before .before .if1 .left) (c .before .before .before .if2 .left) (c .before .before .guests-ok .ensures .0) (c .before .before .guests-ok .ensures .1) (c .before .blanks-ok .ensures)
+returns-3 c = λ u. examined _ (c .before .before .guests-ok .result) (c .before .before .before .before .if1 .left) (c .before .before .before .if2 .left) (c .before .before .guests-ok .ensures .0) (c .before .before .guests-ok .ensures .1) (c .before .blanks-ok .ensures)
 
 pub examine-spec : {M : Type 1} → statement M
 examine-spec =

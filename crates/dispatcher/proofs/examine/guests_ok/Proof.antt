@@ -1,5 +1,6 @@
 -- The loop's invariant: `ok` says whether the guests passed go, and the columns hold their numbers.
 use mathlib.Core.Path.{_≡_, sym}
+use mathlib.Core.List.{[]}
 use Prim.Native.Nat.{_≤_, _-_}
 use native.Mathlib.Omega.{arith}
 use borrow.Author.Needs.{needs}
@@ -11,7 +12,7 @@ use Rattle.dispatcher.proofs.examine.guests_ok.Statement.{statement}
 use Rattle.dispatcher.proofs.examine.guests_ok.Tie as tie
 
 abbrev Inv-loop : tie.InvT-loop
-Inv-loop left position rest wait age plan n ids₀ capacities₀ periods₀ tasks₀ ok₀ k₀ ids capacities periods tasks ok k = (k ≤ n) × ((ok ≡ allTo (guestGoes (stateOf plan left position rest wait age)) k) × Columns plan ids capacities periods tasks k)
+Inv-loop left position rest wait age plan n ids₀ capacities₀ periods₀ tasks₀ ok₀ k₀ ids capacities periods tasks ok k = (k ≤ n) × ((ok ≡ allTo (guestGoes (stateOf plan left position rest wait age [])) k) × Columns plan ids capacities periods tasks k)
 
 abbrev μ-loop : tie.MeasureT-loop
 μ-loop left position rest wait age plan n ids₀ capacities₀ periods₀ tasks₀ ok₀ k₀ ids capacities periods tasks ok k = n - k
@@ -80,14 +81,14 @@ loop-again : tie.Need-loop-again Inv-loop μ-loop
 loop-again c =
     let l = c .before .before .before .before .before .before .before in
     let a = l .before .args in
-    let d = stateOf (a .t1) (a .left .now) (a .position .now) (a .rest .now) (a .wait .now) (a .age .now) in
+    let d = stateOf (a .t1) (a .left .now) (a .position .now) (a .rest .now) (a .wait .now) (a .age .now) [] in
     let f = columns-next (l .loop .k) (omega arith) (l .loop .inv .1 .1) in
     (search needs, (goes-turn d (l .loop .k) (f .id) (l .loop .inv .1 .0) (c .before .before .before .new-id .ensures) (c .guest-ok .ensures), f))
 
 returns : tie.Need-returns Inv-loop μ-loop
 returns c =
     let a = c .before .before .args in
-    (all-end (guestGoes (stateOf (a .t1) (a .left .now) (a .position .now) (a .rest .now) (a .wait .now) (a .age .now))) _ _ (c .before .loop .inv .1 .0) (search needs) (search needs), columns-done _ _ (search needs) (c .before .loop .inv .1 .1))
+    (all-end (guestGoes (stateOf (a .t1) (a .left .now) (a .position .now) (a .rest .now) (a .wait .now) (a .age .now) [])) _ _ (c .before .loop .inv .1 .0) (search needs) (search needs), columns-done _ _ (search needs) (c .before .loop .inv .1 .1))
 
 pub guests-ok-spec : {M : Type 1} → statement M
 guests-ok-spec =

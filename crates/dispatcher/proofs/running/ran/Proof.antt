@@ -26,7 +26,7 @@ cast-n c = search needs
 
 steps-requires : tie.Need-steps-requires
 steps-requires c κs =
-    let e = c .before .before .before .before .before .before .before .before .before .before .before .before .before .before in
+    let e = c .before .before .before .before .before .before .before .before .before .before .before .before .before .before .before in
     let k = sym (e .before .before .pre .okay) ∙ not-false _ (e .if1 .left) in
     small-tasks (ok-plan _ k) (e .before .before .pre .columns k)
 
@@ -35,7 +35,7 @@ unmoved-requires-3 c κs = search needs
 
 returns-3 : tie.Need-returns-3
 returns-3 c =
-    let f = c .before .before .before .before .before .before .before .before .before .before .before .before .before .before .before .before .before in
+    let f = c .before .before .before .before .before .before .before .before .before .before .before .before .before .before .before .before .before .before in
     let e = f .before in
     let k = sym (e .before .before .pre .okay) ∙ not-false _ (e .if1 .left) in
     let g = c .before .before .before .steps .ensures (e .before .before .args .plan) (columned (e .before .before .pre .columns k)) (quiet _ k) in
@@ -43,19 +43,19 @@ returns-3 c =
 
 finished-requires : tie.Need-finished-requires
 finished-requires c κs =
-    let e = c .before .before .before .before .before .before .before .before .before .before .before .before .before .before .before .before .before .before .before .before in
+    let e = c .before .before .before .before .before .before .before .before .before .before .before .before .before .before .before .before .before .before .before .before .before in
     let a = e .before .before .args in
-    let d = stateOf (a .plan) (a .left .now) (a .position .now) (a .rest .now) (a .wait .now) (a .age .now) in
+    let d = stateOf (a .plan) (a .left .now) (a .position .now) (a .rest .now) (a .wait .now) (a .age .now) (a .usage .now) in
     let k = sym (e .before .before .pre .okay) ∙ not-false _ (e .if1 .left) in
     let g = c .before .before .before .before .before .steps .ensures (a .plan) (columned (e .before .before .pre .columns k)) (quiet _ k) in
     (g .before, ending (ok-plan d k) (g .last (c .before .before .before .if3 .left)) (c .before .if4 .taken))
 
 returns-4 : tie.Need-returns-4
 returns-4 c =
-    let f = c .before .before .before .before .before .before .before .before .before .before .before .before .before .before .before .before .before .before .before .before in
+    let f = c .before .before .before .before .before .before .before .before .before .before .before .before .before .before .before .before .before .before .before .before .before in
     let e = f .before in
     let a = e .before .before .args in
-    let d = stateOf (a .plan) (a .left .now) (a .position .now) (a .rest .now) (a .wait .now) (a .age .now) in
+    let d = stateOf (a .plan) (a .left .now) (a .position .now) (a .rest .now) (a .wait .now) (a .age .now) (a .usage .now) in
     let k = sym (e .before .before .pre .okay) ∙ not-false _ (e .if1 .left) in
     let s = c .before .before .before .before .before in
     let g = s .before .steps .ensures (a .plan) (columned (e .before .before .pre .columns k)) (quiet _ k) in
@@ -63,9 +63,9 @@ returns-4 c =
 
 told-requires : tie.Need-told-requires
 told-requires c κs =
-    let e = c .before .before .before .before .before .before .before .before .before .before .before .before .before .before .before .before .before .before .before .before in
+    let e = c .before .before .before .before .before .before .before .before .before .before .before .before .before .before .before .before .before .before .before .before .before in
     let a = e .before .before .args in
-    let d = stateOf (a .plan) (a .left .now) (a .position .now) (a .rest .now) (a .wait .now) (a .age .now) in
+    let d = stateOf (a .plan) (a .left .now) (a .position .now) (a .rest .now) (a .wait .now) (a .age .now) (a .usage .now) in
     let k = sym (e .before .before .pre .okay) ∙ not-false _ (e .if1 .left) in
     let f = e .before .before .pre .columns k in
     let g = c .before .before .before .before .before .steps .ensures (a .plan) (columned f) (quiet _ k) in
@@ -73,10 +73,10 @@ told-requires c κs =
 
 returns-5 : tie.Need-returns-5
 returns-5 c =
-    let t = c .before .before .before .before .before .before .before .before .before .before .before .before .before .before .before .before .before .before .before .before in
+    let t = c .before .before .before .before .before .before .before .before .before .before .before .before .before .before .before .before .before .before .before .before .before in
     let e = t .before in
     let a = e .before .before .args in
-    let d = stateOf (a .plan) (a .left .now) (a .position .now) (a .rest .now) (a .wait .now) (a .age .now) in
+    let d = stateOf (a .plan) (a .left .now) (a .position .now) (a .rest .now) (a .wait .now) (a .age .now) (a .usage .now) in
     let k = sym (e .before .before .pre .okay) ∙ not-false _ (e .if1 .left) in
     let f = e .before .before .pre .columns k in
     let s = c .before .before .before .before .before in

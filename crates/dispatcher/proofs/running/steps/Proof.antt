@@ -9,17 +9,17 @@ use Rattle.dispatcher.proofs.running.steps.Statement.{statement}
 use Rattle.dispatcher.proofs.running.steps.Tie as tie
 
 abbrev Inv-loop : tie.InvT-loop
-Inv-loop left₀ position₀ rest₀ wait₀ age₀ capacities periods tasks n ticks turn₀ done₀ left position rest wait age turn done = (done ≤ ticks) × ((p : Plan) → Columned p n capacities periods tasks → Quiet n rest₀ wait₀ → (Going (stateOf p left₀ position₀ rest₀ wait₀ age₀) ticks done turn (stateOf p left position rest wait age)) × (Quiet n rest wait))
+Inv-loop left₀ position₀ rest₀ wait₀ age₀ usage₀ capacities periods tasks n ticks turn₀ done₀ left position rest wait age usage turn done = (done ≤ ticks) × ((p : Plan) → Columned p n capacities periods tasks → Quiet n rest₀ wait₀ → (Going (stateOf p left₀ position₀ rest₀ wait₀ age₀ usage₀) ticks done turn (stateOf p left position rest wait age usage)) × (Quiet n rest wait))
 
 abbrev μ-loop : tie.MeasureT-loop
-μ-loop left₀ position₀ rest₀ wait₀ age₀ capacities periods tasks n ticks turn₀ done₀ left position rest wait age turn done = ticks - done
+μ-loop left₀ position₀ rest₀ wait₀ age₀ usage₀ capacities periods tasks n ticks turn₀ done₀ left position rest wait age usage turn done = ticks - done
 
 loop-holds : tie.Need-loop-holds Inv-loop μ-loop
 loop-holds c = (search needs, λ p u z. (starts _ _ _, z))
 
 step-requires : tie.Need-step-requires Inv-loop μ-loop
 step-requires c κs =
-    let l = c .before .before .before .before .before in
+    let l = c .before .before .before .before .before .before in
     l .before .before .pre
 
 add-done : tie.Need-add-done Inv-loop μ-loop
@@ -27,7 +27,7 @@ add-done c = search needs
 
 returns : tie.Need-returns Inv-loop μ-loop
 returns c =
-    let t = c .before .before .before .before .before .before .before .before in
+    let t = c .before .before .before .before .before .before .before .before .before in
     λ p u z.
     let g = t .before .loop .inv .1 p u z in
     stops (g .0) (t .loop-test .taken) (c .before .before .step .ensures p u (g .1)) (c .if1 .taken)
@@ -37,12 +37,12 @@ loop-less c = search needs
 
 loop-again : tie.Need-loop-again Inv-loop μ-loop
 loop-again c =
-    let t = c .before .before .before .before .before .before .before .before in (
+    let t = c .before .before .before .before .before .before .before .before .before in (
       search needs,
       λ p u z.
           let g = t .before .loop .inv .1 p u z in
           let s = c .before .before .step .ensures p u (g .1) in
-          (goes-on (g .0) (t .loop-test .taken) s (c .if1 .left), quiet-kept u _ _ _ _ _ (t .before .before .pre) (g .1) s),
+          (goes-on (g .0) (t .loop-test .taken) s (c .if1 .left), quiet-kept u _ _ _ _ _ _ (t .before .before .pre) (g .1) s),
     )
 
 returns-2 : tie.Need-returns-2 Inv-loop μ-loop

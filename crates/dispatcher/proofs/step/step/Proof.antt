@@ -19,14 +19,25 @@ advance-requires c κs = search needs
 serve-requires : tie.Need-serve-requires
 serve-requires c κs = search needs
 
+tally-requires : tie.Need-tally-requires
+tally-requires c κs = search needs
+
 returns : tie.Need-returns
 returns c =
-    let s = c .before .before .before .before .before in
+    let v = c .before .before in
+    let s = v .before .before .before .before .before in
     let b = s .before .before .before .before .before .before .before .before in
     let a = b .args in
-    λ p u z. stepped u (a .left .now) (a .position .now) (a .rest .now) (a .wait .now) (a .age .now) (s .before .before .before .before .before .refill .ensures) (c .before .before .before .advance .ensures) (s .fall .ensures) (s .before .before .grow .ensures) (b .pre .guests) z (c .serve .ensures)
+    λ p u z. stepped u (a .left .now) (a .position .now) (a .rest .now) (a .wait .now) (a .age .now) (a .usage .now) (s .before .before .before .before .before .refill .ensures) (v .before .before .before .advance .ensures) (s .fall .ensures) (s .before .before .grow .ensures) (b .pre .guests) z (v .serve .ensures) (c .tally .ensures)
 
 pub step-spec : {M : Type 1} → statement M
 step-spec =
     tie.close
-    (tie.spec refill-requires grow-requires fall-requires advance-requires serve-requires returns)
+    (tie.spec
+    refill-requires
+    grow-requires
+    fall-requires
+    advance-requires
+    serve-requires
+    tally-requires
+    returns)

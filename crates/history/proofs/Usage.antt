@@ -1,0 +1,268 @@
+-- The numbers beside a state count the ticks of its history. Strategy: a tick adds one where its answer is counted, modulo 2 to the 64. Assumes nothing.
+use mathlib.Core.Path.{_≡_, refl, ap, sym, subst, _∙_}
+use mathlib.Core.List.{List, [], _∷_, _++_}
+use Prim.Native.Nat.{ℕ, suc, _+_, _%_, _≤_, _<_}
+use native.Mathlib.Decide.{decLt, ℕ-discrete}
+use native.Mathlib.Omega.{arith}
+use lib.ListN.{length, length-append, replicate, getD-replicate}
+use borrow.Author.Tests.{eq-eqb, ne-eqb}
+use Rattle.lists.specs.Places.{nth}
+use Rattle.lists.specs.Sum.{sumTo}
+use Rattle.plan.specs.declared.Plan.{Plan}
+use Rattle.plan.specs.Order.{planRefusal}
+use Rattle.arrays.specs.Usage.{wrap, idledAt, nobodys, oneMore, tallied}
+use Rattle.dispatcher.specs.declared.Dispatcher.{Dispatcher}
+use Rattle.dispatcher.specs.declared.Answer.{Answer}
+use Rattle.dispatcher.specs.State.{guestIn, restAt}
+use Rattle.dispatcher.specs.Valid.{tasksIn, guestInRange, taskInRange, rowOk, stateOk}
+use Rattle.dispatcher.specs.Tick.{holder, worker, usageAfter, next}
+use Rattle.dispatcher.specs.Answer.{holderId, answer}
+use Rattle.dispatcher.specs.Release.{taken}
+use Rattle.dispatcher.specs.Fresh.{idle}
+use Rattle.history.specs.Calls.{Call, start, play, ticksIn, answers}
+use Rattle.history.specs.Share.{bit, names, countOf}
+use Rattle.history.specs.Usage.{idles, unhad, inAll, Accounts}
+use Rattle.lists.proofs.Sum.{sum-same, sum-change, sum-zero}
+use Rattle.plan.proofs.Order.{PlanIn, plan-in}
+use Rattle.arrays.proofs.Tallies.{more-long, more-here, more-else}
+use Rattle.analysis.proofs.Ids.{idOf, id-one}
+use Rattle.history.proofs.Next.{is-held, not-held, is-worked, not-worked}
+use Rattle.history.proofs.Answered.{answer-nobody, answer-idled, answer-worked, answer-finished, names-mine, names-else}
+use Rattle.history.proofs.Play.{Sound, Any, any, play-keeps, answers-length}
+use Rattle.history.proofs.Fresh.{fresh-idle}
+use Rattle.history.proofs.Share.{count-none, count-next}
+use Rattle.history.proofs.Clocks.{sound-start}
+
+-- what one answer more adds to a count
+all-next : (f : Answer → ℕ) (l : List Answer) (a : Answer) → inAll f (l ++ (a ∷ [])) ≡ inAll f l + f a
+all-next f l a =
+    let e : length (l ++ (a ∷ [])) ≡ suc (length l) = simp length-append (omega arith) in
+    ap (λ (n : ℕ). countOf f (l ++ (a ∷ [])) 0 n) e ∙ count-next f l a 0 (length l) (omega arith)
+
+module _ (f : Answer → ℕ) (l : List Answer) (a : Answer) {x y : ℕ} (e : x ≡ inAll f l % wrap) where
+  -- the answer is counted, and its place has one more
+  goes-up : f a ≡ 1 → y ≡ (x + 1) % wrap → y ≡ inAll f (l ++ (a ∷ [])) % wrap
+  goes-up h g = omega (arith, all-next f l a)
+
+  -- it is not, and the place is as it was
+  stays-put : f a ≡ 0 → y ≡ x → y ≡ inAll f (l ++ (a ∷ [])) % wrap
+  stays-put h g = omega (arith, all-next f l a)
+
+-- a sum that one place adds to, whatever it wraps to
+sum-more : (u : List ℕ) (n k : ℕ) → k < n → k < length u → sumTo (nth (oneMore u k)) n + nth u k ≡ sumTo (nth u) n + (nth u k + 1) % wrap
+sum-more u n k h l = omega (arith, sum-change (nth (oneMore u k)) (nth u) n k h (λ j b q. more-else u k j q), more-here u k l)
+
+-- or that none of its places do
+sum-still : (u : List ℕ) (n k : ℕ) → n ≤ k → sumTo (nth (oneMore u k)) n ≡ sumTo (nth u) n
+sum-still u n k h = sum-same (nth (oneMore u k)) (nth u) n (λ j b. more-else u k j (λ q. omega arith))
+
+-- After the answers l, what the numbers of a state are.
+record Kept (p : Plan) (l : List Answer) (d : Dispatcher) : Type 0 where
+  long : length (d .usage) ≡ 17
+  accounts : Accounts p l (d .usage)
+
+-- by the answer of a tick: who is named, who idled, and whether nobody had it
+module _ (p : Plan) (P : PlanIn p) (l : List Answer) (a : Answer) (u : List ℕ) (long : length u ≡ 17) (A : Accounts p l u) where
+  -- nobody's
+  by-nobody : ((id : ℕ) → names id a ≡ 0) → ((id : ℕ) → idles id a ≡ 0) → unhad a ≡ 1 → Accounts p (l ++ (a ∷ [])) (oneMore u nobodys)
+  by-nobody m i z = record {
+    ticks = λ k h. stays-put (names (idOf p k)) l a (A .ticks k h) (m (idOf p k)) (more-else u 16 k (λ q. omega (arith, P .few)));
+    idled = λ k h. stays-put (idles (idOf p k)) l a (A .idled k h) (i (idOf p k)) (more-else u 16 (8 + k) (λ q. omega (arith, P .few)));
+    nobody = goes-up unhad l a (A .nobody) z (more-here u 16 (omega arith));
+    all =
+        let e : length (l ++ (a ∷ [])) ≡ suc (length l) = simp length-append (omega arith) in
+        omega (arith, A .all, sum-still u (p .count) 16 (omega (arith, P .few)), more-here u 16 (omega arith));
+  }
+
+  -- guest h's
+  module _ (h : ℕ) (in-plan : h < p .count) (mine : names (idOf p h) a ≡ 1) (others : (k : ℕ) → k < p .count → (h ≡ k → ⊥) → names (idOf p k) a ≡ 0) (z : unhad a ≡ 0) where
+    -- the ticks of each guest
+    ticks-by : (v : List ℕ) → ((k : ℕ) → k < 8 → nth v k ≡ nth (oneMore u h) k) → (k : ℕ) → k < p .count → nth v k ≡ inAll (names (idOf p k)) (l ++ (a ∷ [])) % wrap
+    ticks-by v s k b =
+        elim (ℕ-discrete h k) [
+          | yes e ↦
+              goes-up (names (idOf p k)) l a (A .ticks k b) (subst (λ (x : ℕ). names (idOf p x) a ≡ 1) e mine)
+              (s k (omega (arith, P .few)) ∙ subst (λ (x : ℕ). nth (oneMore u h) x ≡ (nth u x + 1) % wrap) e (more-here u h (omega (arith, P .few))))
+          | no n ↦
+              stays-put (names (idOf p k)) l a (A .ticks k b) (others k b n) (s k (omega (arith, P .few)) ∙ more-else u h k (λ q. n (sym q)))
+        ]
+
+    -- all of them
+    all-by : (v : List ℕ) → ((k : ℕ) → k < 8 → nth v k ≡ nth (oneMore u h) k) → nth v nobodys ≡ nth u nobodys
+        → (sumTo (nth v) (p .count) + nth v nobodys) % wrap ≡ length (l ++ (a ∷ [])) % wrap
+    all-by v s q =
+        let e : length (l ++ (a ∷ [])) ≡ suc (length l) = simp length-append (omega arith) in
+        omega (
+          arith,
+          A .all,
+          sum-same (nth v) (nth (oneMore u h)) (p .count) (λ k b. s k (omega (arith, P .few))),
+          sum-more u (p .count) h in-plan (omega (arith, P .few)),
+        )
+
+    -- where a task works
+    by-worked : ((k : ℕ) → idles (idOf p k) a ≡ 0) → Accounts p (l ++ (a ∷ [])) (oneMore u h)
+    by-worked i = record {
+      ticks = ticks-by (oneMore u h) (λ k b. refl);
+      idled = λ k b. stays-put (idles (idOf p k)) l a (A .idled k b) (i k) (more-else u h (8 + k) (λ q. omega (arith, P .few)));
+      nobody = stays-put unhad l a (A .nobody) z (more-else u h 16 (λ q. omega (arith, P .few)));
+      all = all-by (oneMore u h) (λ k b. refl) (more-else u h 16 (λ q. omega (arith, P .few)));
+    }
+
+    -- where none does
+    by-idled : idles (idOf p h) a ≡ 1 → ((k : ℕ) → k < p .count → (h ≡ k → ⊥) → idles (idOf p k) a ≡ 0) → Accounts p (l ++ (a ∷ [])) (oneMore (oneMore u h) (idledAt h))
+    by-idled one rest = record {
+      ticks = ticks-by v low;
+      idled =
+          λ k b.
+          elim (ℕ-discrete h k) [
+            | yes e ↦
+                goes-up (idles (idOf p k)) l a (A .idled k b) (subst (λ (x : ℕ). idles (idOf p x) a ≡ 1) e one)
+                (subst (λ (x : ℕ). nth v (8 + x) ≡ (nth u (8 + x) + 1) % wrap) e
+                (omega (arith, more-here (oneMore u h) (8 + h) (omega (arith, P .few, more-long u h)), more-else u h (8 + h) (λ q. omega arith))))
+            | no n ↦
+                stays-put (idles (idOf p k)) l a (A .idled k b) (rest k b n)
+                (more-else (oneMore u h) (8 + h) (8 + k) (λ q. n (omega arith)) ∙ more-else u h (8 + k) (λ q. omega (arith, P .few)))
+          ];
+      nobody = stays-put unhad l a (A .nobody) z last;
+      all = all-by v low last;
+    }
+      where
+        v : List ℕ
+        v = oneMore (oneMore u h) (idledAt h)
+
+        low : (k : ℕ) → k < 8 → nth v k ≡ nth (oneMore u h) k
+        low k b = more-else (oneMore u h) (8 + h) k (λ q. omega arith)
+
+        last : nth v nobodys ≡ nth u nobodys
+        last = more-else (oneMore u h) (8 + h) 16 (λ q. omega (arith, P .few)) ∙ more-else u h 16 (λ q. omega (arith, P .few))
+
+-- ---- a tick
+module _ (d : Dispatcher) where
+  -- nobody has it
+  usage-nobody : d .plan .count ≤ holder d → usageAfter d ≡ oneMore (d .usage) nobodys
+  unfolding usageAfter tallied
+  usage-nobody h = rw (not-held d h) refl
+
+  -- a task has it
+  usage-worked : holder d < d .plan .count → worker d < guestIn d (holder d) .tasks → usageAfter d ≡ oneMore (d .usage) (holder d)
+  unfolding usageAfter tallied
+  usage-worked h w = rw (is-held d h, is-worked d h w) refl
+
+  -- a guest idles it away
+  usage-idled : holder d < d .plan .count → guestIn d (holder d) .tasks ≤ worker d → usageAfter d ≡ oneMore (oneMore (d .usage) (holder d)) (idledAt (holder d))
+  unfolding usageAfter tallied
+  usage-idled h w = rw (is-held d h, not-worked d w) refl
+
+  -- where a task works, none idled and it is not nobody's
+  worked-tests : holder d < d .plan .count → worker d < guestIn d (holder d) .tasks → ((id : ℕ) → idles id (answer d) ≡ 0) × (unhad (answer d) ≡ 0)
+  unfolding idles unhad
+  worked-tests h w =
+      elim (decLt 1 (restAt d (holder d) (worker d))) [
+        | yes m ↦ rw (answer-worked d h w m) (λ id. refl, refl)
+        | no m ↦ rw (answer-finished d h w (omega arith)) (λ id. refl, refl)
+      ]
+
+  -- the array keeps its length
+  usage-long : length (usageAfter d) ≡ length (d .usage)
+  usage-long =
+      elim (decLt (holder d) (d .plan .count)) [
+        | no n ↦ ap length (usage-nobody (omega arith)) ∙ more-long (d .usage) nobodys
+        | yes h ↦
+            elim (decLt (worker d) (guestIn d (holder d) .tasks)) [
+              | yes w ↦ ap length (usage-worked h w) ∙ more-long (d .usage) (holder d)
+              | no w ↦
+                  ap length (usage-idled h (omega arith))
+                  ∙ more-long (oneMore (d .usage) (holder d)) (idledAt (holder d))
+                  ∙ more-long (d .usage) (holder d)
+            ]
+      ]
+
+  module _ (P : PlanIn (d .plan)) (l : List Answer) (long : length (d .usage) ≡ 17) (A : Accounts (d .plan) l (d .usage)) where
+    -- by who has it
+    accounts-nobody : d .plan .count ≤ holder d → Accounts (d .plan) (l ++ (answer d ∷ [])) (usageAfter d)
+    unfolding names idles unhad
+    accounts-nobody h =
+        rw (usage-nobody h)
+        (by-nobody (d .plan) P l (answer d) (d .usage) long A (λ id. rw (answer-nobody d h) refl) (λ id. rw (answer-nobody d h) refl) (rw (answer-nobody d h) refl))
+
+    module _ (h : holder d < d .plan .count) where
+      accounts-worked : worker d < guestIn d (holder d) .tasks → Accounts (d .plan) (l ++ (answer d ∷ [])) (usageAfter d)
+      accounts-worked w =
+          rw (usage-worked h w)
+          (by-worked (d .plan) P l (answer d) (d .usage) long A (holder d) h (names-mine d (holder d) h refl) (λ k b n. names-else d k P b n)
+          (worked-tests h w .1) (λ k. worked-tests h w .0 (idOf (d .plan) k)))
+
+      accounts-idled : guestIn d (holder d) .tasks ≤ worker d → Accounts (d .plan) (l ++ (answer d ∷ [])) (usageAfter d)
+      unfolding bit idles unhad
+      accounts-idled w =
+          rw (usage-idled h w)
+          (by-idled (d .plan) P l (answer d) (d .usage) long A (holder d) h (names-mine d (holder d) h refl) (λ k b n. names-else d k P b n)
+          (rw (answer-idled d h w) refl)
+          (rw (answer-idled d h w) (ap bit (eq-eqb (holderId d) (holderId d) refl)))
+          (λ k b n. rw (answer-idled d h w) (ap bit (ne-eqb (holderId d) (idOf (d .plan) k) (λ e. n (id-one (d .plan) P (holder d) k h b e))))))
+
+    tick-accounts : Accounts (d .plan) (l ++ (answer d ∷ [])) (usageAfter d)
+    tick-accounts =
+        elim (decLt (holder d) (d .plan .count)) [
+          | no n ↦ accounts-nobody (omega arith)
+          | yes h ↦
+              elim (decLt (worker d) (guestIn d (holder d) .tasks)) [
+                | yes w ↦ accounts-worked h w
+                | no w ↦ accounts-idled h (omega arith)
+              ]
+        ]
+
+-- ---- histories
+module _ (p : Plan) (P : PlanIn p) where
+  -- over a tick
+  kept-next : (l : List Answer) (d : Dispatcher) → Sound p d → Kept p l d → Kept p (l ++ (answer d ∷ [])) (next d)
+  unfolding next
+  kept-next l d D K = record {
+    long = usage-long d ∙ K .long;
+    accounts =
+        subst (λ (z : Plan). Accounts z (l ++ (answer d ∷ [])) (usageAfter d)) (D .plan)
+        (tick-accounts d (rw (D .plan) P) l (K .long) (rw (D .plan) (K .accounts)));
+  }
+
+  -- over a taken release
+  kept-taken : (l : List Answer) (d : Dispatcher) (k t : ℕ) → Kept p l d → Kept p l (taken d k t)
+  unfolding taken
+  kept-taken l d k t K = record { long = K .long; accounts = K .accounts }
+
+  -- at the fresh start
+  kept-idle : Kept p [] (idle p)
+  unfolding idle
+  kept-idle = record {
+    long = refl;
+    accounts = record {
+      ticks = λ k h. omega (arith, zeros k (omega (arith, P .few)), count-none (names (idOf p k)) [] 0);
+      idled = λ k h. omega (arith, zeros (8 + k) (omega (arith, P .few)), count-none (idles (idOf p k)) [] 0);
+      nobody = omega (arith, zeros 16 (omega arith), count-none unhad [] 0);
+      all = omega (arith, sum-zero (nth (replicate 17 0)) (p .count) (λ k h. zeros k (omega (arith, P .few))), zeros 16 (omega arith));
+    };
+  }
+    where
+      zeros : (k : ℕ) → k < 17 → nth (replicate 17 0) k ≡ 0
+      zeros k h = getD-replicate 17 k 0 0 h
+
+-- Where the ticks went: the numbers beside the state, after any history from the fresh start, count its ticks.
+pub usage-counts : (p : Plan) → planRefusal p .number ≡ 0 → (cs : List Call) → Accounts p (answers cs (start p)) (play cs (start p) .usage)
+usage-counts p order cs =
+    let P = plan-in p order in
+    play-keeps p (Kept p) Any (kept-next p P) (λ l d id task k t D a f K. kept-taken p P l d k t K) cs [] (start p) (any cs (start p))
+    record { sound = sound-start p order; holds = rw (fresh-idle p order) (kept-idle p P) }
+    .holds
+    .accounts
+
+-- All guests' ticks and nobody's are the ticks done.
+pub usage-adds-up :
+    (p : Plan)
+    → planRefusal p .number ≡ 0
+    → (cs : List Call)
+    → (sumTo (nth (play cs (start p) .usage)) (p .count) + nth (play cs (start p) .usage) nobodys) % wrap ≡ ticksIn cs (start p) % wrap
+usage-adds-up p order cs = usage-counts p order cs .all ∙ ap (λ (n : ℕ). n % wrap) (answers-length cs (start p) (sound-start p order))
+
+-- 14 does not look at them.
+pub usage-unseen : (d : Dispatcher) (u : List ℕ) → stateOk (record { plan = d .plan; left = d .left; position = d .position; rest = d .rest; wait = d .wait; age = d .age; usage = u }) ≡ stateOk d
+unfolding stateOk rowOk guestInRange taskInRange tasksIn
+usage-unseen d u = refl
