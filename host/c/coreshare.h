@@ -9,7 +9,7 @@
  * - A pointer must be good for its length, for the whole call, and not be NULL even where the length is 0.
  * - CsGuest has two bytes of padding after charge. The library neither reads nor promises them: compare
  *   records field by field, not by memcmp, and clear a record before its bytes are sent anywhere.
- * - CsDispatcher has four bytes of padding before usage, and CsTicked four before its dispatcher: the same holds
+ * - CsDispatcher has four bytes of padding before usage, and CsTicked four at its end: the same holds
  *   for them.
  * - A state is 3,440 bytes and crosses on the stack, there and back.
  * - Like any compiled C, the library may call memcpy, memmove, memset and memcmp, also where there is no C library.
@@ -80,12 +80,12 @@ typedef struct CsVerdict {
  * usage[0] to usage[count - 1] and usage[16] sum to the ticks done, modulo 2^64; places past the count stay 0. */
 typedef struct CsDispatcher {
     CsPlan plan;
+    uint64_t usage[17];   /* ticks of each guest, those of them that it idled away, ticks that no guest had */
     uint32_t left[8];     /* capacity left, 0 to the capacity */
     uint32_t position[8]; /* position in the period, 0 to the period less 1 */
     uint32_t rest[128];   /* run left, at most the charged run */
     uint32_t wait[128];   /* ticks until the next release may be taken, at most the task's period */
     uint32_t age[128];    /* age of the last job, at most 1,000,000 */
-    uint64_t usage[17];   /* ticks of each guest, those of them that it idled away, ticks that no guest had */
 } CsDispatcher;
 
 typedef struct CsStart {
@@ -110,9 +110,9 @@ typedef struct CsAnswer {
 } CsAnswer;
 
 typedef struct CsTicked {
+    CsDispatcher dispatcher; /* unchanged on a refusal */
     CsRefusal refusal;
     CsAnswer answer;         /* no answer on a refusal */
-    CsDispatcher dispatcher; /* unchanged on a refusal */
 } CsTicked;
 
 typedef struct CsRun {

@@ -37,12 +37,12 @@ static void records(void) {
 static void dispatcher(void) {
     STRUCT(CsDispatcher);
     FIELD(CsDispatcher, plan);
+    FIELD(CsDispatcher, usage);
     FIELD(CsDispatcher, left);
     FIELD(CsDispatcher, position);
     FIELD(CsDispatcher, rest);
     FIELD(CsDispatcher, wait);
     FIELD(CsDispatcher, age);
-    FIELD(CsDispatcher, usage);
     STRUCT(CsStart);
     FIELD(CsStart, refusal);
     FIELD(CsStart, dispatcher);
@@ -56,9 +56,9 @@ static void dispatcher(void) {
     FIELD(CsAnswer, age);
     FIELD(CsAnswer, margin);
     STRUCT(CsTicked);
+    FIELD(CsTicked, dispatcher);
     FIELD(CsTicked, refusal);
     FIELD(CsTicked, answer);
-    FIELD(CsTicked, dispatcher);
     STRUCT(CsRun);
     FIELD(CsRun, refusal);
     FIELD(CsRun, done);

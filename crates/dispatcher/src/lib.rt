@@ -16,12 +16,12 @@ use plan::Refusal;
 #[repr(C)]
 pub struct Dispatcher {
     pub plan: Plan,
+    pub usage: [u64; 17],
     pub left: [u32; 8],
     pub position: [u32; 8],
     pub rest: [u32; 128],
     pub wait: [u32; 128],
     pub age: [u32; 128],
-    pub usage: [u64; 17],
 }
 
 // Who had a tick: nobody; a guest that idled it away; a task; a task that finished, with its age and margin.
@@ -89,9 +89,9 @@ pub struct Released {
 }
 
 pub struct Ticked {
+    pub state: Dispatcher,
     pub refusal: Refusal,
     pub answer: Answer,
-    pub state: Dispatcher,
 }
 
 pub struct Ran {

@@ -28,9 +28,9 @@ pub struct Told {
 // One tick.
 #[repr(C)]
 pub struct Tick {
+    pub state: Dispatcher,
     pub refusal: Refusal,
     pub answer: Told,
-    pub state: Dispatcher,
 }
 
 // A run of ticks.

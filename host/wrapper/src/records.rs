@@ -71,6 +71,9 @@ pub struct Verdict {
 #[derive(Clone, Copy, Debug, PartialEq, Eq)]
 pub struct Dispatcher {
     pub plan: Plan,
+    /// The ticks of guest `g` at `g`, those of them that it idled away at `8 + g`, and at 16 the
+    /// ticks that no guest had; each goes on at 0 after `u64::MAX`.
+    pub usage: [u64; 17],
     /// Each guest's capacity left.
     pub left: [u32; 8],
     /// Each guest's position in its period.
@@ -81,9 +84,6 @@ pub struct Dispatcher {
     pub wait: [u32; 128],
     /// The age of each task's last job.
     pub age: [u32; 128],
-    /// The ticks of guest `g` at `g`, those of them that it idled away at `8 + g`, and at 16 the
-    /// ticks that no guest had; each goes on at 0 after `u64::MAX`.
-    pub usage: [u64; 17],
 }
 
 /// What had a tick: kind 0 no answer, 1 nobody, 2 a guest idled, 3 a task ran, 4 a job finished.
@@ -118,9 +118,9 @@ pub struct Released {
 #[repr(C)]
 #[derive(Clone, Copy, Debug, PartialEq, Eq)]
 pub struct Ticked {
+    pub dispatcher: Dispatcher,
     pub refusal: Refusal,
     pub answer: Answer,
-    pub dispatcher: Dispatcher,
 }
 
 /// What a run gives: the ticks done and the last tick's answer.

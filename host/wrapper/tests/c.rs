@@ -57,11 +57,11 @@ fn layout() -> String {
     lines!(to, "CsRefusal", Refusal, number place);
     lines!(to, "CsRead", Read, refusal plan);
     lines!(to, "CsVerdict", Verdict, number place verdict ticks);
-    lines!(to, "CsDispatcher", Dispatcher, plan left position rest wait age usage);
+    lines!(to, "CsDispatcher", Dispatcher, plan usage left position rest wait age);
     lines!(to, "CsStart", Start, refusal dispatcher);
     lines!(to, "CsReleased", Released, refusal dispatcher);
     lines!(to, "CsAnswer", Answer, kind guest task age margin);
-    lines!(to, "CsTicked", Ticked, refusal answer dispatcher);
+    lines!(to, "CsTicked", Ticked, dispatcher refusal answer);
     lines!(to, "CsRun", Run, refusal done answer dispatcher);
     to
 }

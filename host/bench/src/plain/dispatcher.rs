@@ -9,12 +9,12 @@ use crate::{Guest, Plan, Refusal};
 #[derive(Clone, Copy, Debug, PartialEq, Eq)]
 pub struct Dispatcher {
     pub plan: Plan,
+    pub usage: [u64; 17],
     pub left: [u32; 8],
     pub position: [u32; 8],
     pub rest: [u32; 128],
     pub wait: [u32; 128],
     pub age: [u32; 128],
-    pub usage: [u64; 17],
 }
 
 /// What had a tick: guests by their id, tasks by their number from 1.

@@ -38,9 +38,9 @@ pub struct Released {
 
 #[repr(C)]
 pub struct Ticked {
+    pub dispatcher: Dispatcher,
     pub refusal: Refusal,
     pub answer: Answer,
-    pub dispatcher: Dispatcher,
 }
 
 #[repr(C)]
