@@ -144,7 +144,8 @@ CsRefusal cs_find(const uint8_t *bytes, size_t length, uint32_t id);
  * Refusals: those of cs_check, then 7 no such guest. */
 CsVerdict cs_guest_verdict(CsPlan plan, uint32_t id);
 
-/* Verdict of a task, by its number from 1: 1 met, ticks is its response; 2 unmet; 3 unjudged.
+/* Verdict of a task, by its number from 1: 1 met, ticks is its response; 2 unmet, ticks is its response, or 0 if that is
+ * past the task's period; 3 unjudged.
  * Refusals: those of cs_check, then 7 no such guest, 8 no such task. */
 CsVerdict cs_task_verdict(CsPlan plan, uint32_t id, uint32_t task);
 

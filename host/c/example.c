@@ -46,6 +46,8 @@ static void print_guest(const CsPlan *plan, const CsGuest *guest) {
         CsVerdict of_task = cs_task_verdict(*plan, guest->id, task);
         if (of_task.verdict == 1) {
             printf("task %u met %u\n", task, of_task.ticks);
+        } else if (of_task.verdict == 2 && of_task.ticks > 0) {
+            printf("task %u unmet %u\n", task, of_task.ticks);
         } else {
             printf("task %u %s\n", task, of_task.verdict == 2 ? "unmet" : "unjudged");
         }

@@ -2,4 +2,5 @@
 pub mod Ids
 pub mod Guests
 pub mod Tasks
+pub mod Acceptances
 pub mod Capacities

@@ -1,3 +1,4 @@
 pub mod Guests
 pub mod Tasks
+pub mod Acceptances
 pub mod Capacities

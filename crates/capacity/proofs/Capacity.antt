@@ -13,13 +13,13 @@ use Rattle.lists.specs.declared.Found.the-variants.{At}
 use Rattle.plan.specs.Charge.{chargedRun, charged}
 use Rattle.plan.specs.Filled.{Filled, ColumnsOf}
 use Rattle.plan.specs.Order.{planRefusal}
-use Rattle.plan.specs.Records.{absent, guestAt, deadlineOf}
+use Rattle.plan.specs.Records.{absent, guestAt}
 use Rattle.plan.specs.declared.Columns.{Columns}
 use Rattle.plan.specs.declared.Guest.{Guest}
 use Rattle.plan.specs.declared.Plan.{Plan}
 use Rattle.response.specs.Interference.{interference}
 use Rattle.response.specs.Guest.{guestResponse, fitted, fittedTo}
-use Rattle.response.specs.Task.{taskResponse}
+use Rattle.response.specs.Task.{responseTo}
 use Rattle.response.specs.Met.{allMet}
 use Rattle.response.specs.Columns.{guestsTake, guestUnder, fittedAt, taskUnder, taskOf, acceptedUnder}
 use Rattle.capacity.specs.Capacity.{atCapacity, withCapacity, works, smallest}
@@ -74,8 +74,8 @@ module _ (p : Plan) (k : ℕ) (here : k < length (p .guests)) (c : ℕ) where
       ap isAt e
 
   -- its tasks respond by theirs
-  pub task-there : (i : ℕ) → taskResponse (withCapacity p k c) k i ≡ taskOf (interference p k) (atCapacity (guestAt (p .guests) k) c) i
-  task-there i = sym (task-response-is (withCapacity p k c) k i) ∙ rw (same-above k (omega arith), guest-there) refl
+  pub task-there : (i most : ℕ) → responseTo (withCapacity p k c) k i most ≡ taskOf (interference p k) (atCapacity (guestAt (p .guests) k) c) i most
+  task-there i most = sym (task-response-is (withCapacity p k c) k i most) ∙ rw (same-above k (omega arith), guest-there) refl
 
   -- it works where those above are fitted and the guest with it is accepted
   pub works-split : works p k c ≡ (allTo (fitted p) k && acceptedUnder (interference p k) (atCapacity (guestAt (p .guests) k) c))
@@ -106,19 +106,19 @@ module _ (p : Plan) (ok : planRefusal p .number ≡ 0) (k : ℕ) (h : k < p .cou
       fitted-there p k here c
       ∙ fits-down (interference p k) (interference-grows p k) (guestAt (p .guests) k .period) c c′ pos le (sym (fitted-there p k here c′) ∙ e)
 
-  -- met at a capacity, so met at each larger one that is fitted, with no larger response
-  pub met-below : (i : ℕ) → i < guestAt (p .guests) k .tasks → (c c′ r : ℕ) → 1 ≤ c → c ≤ c′ → fitted (withCapacity p k c′) k ≡ true
-      → taskResponse (withCapacity p k c) k i ≡ At r → (r′ : ℕ) × (taskResponse (withCapacity p k c′) k i ≡ At r′) × (r′ ≤ r)
+  -- a task that responds in time at a capacity does so at each larger one that is fitted, with no larger response
+  pub met-below : (i : ℕ) → i < guestAt (p .guests) k .tasks → (most c c′ r : ℕ) → 1 ≤ c → c ≤ c′ → fitted (withCapacity p k c′) k ≡ true
+      → responseTo (withCapacity p k c) k i most ≡ At r → (r′ : ℕ) × (responseTo (withCapacity p k c′) k i most ≡ At r′) × (r′ ≤ r)
   unfolding chargedRun
-  met-below i l c c′ r pos le fit e =
+  met-below i l most c c′ r pos le fit e =
       let g = guestAt (p .guests) k in
       let above = interference p k in
       let run = table (charged g) 16 in
       let o = plan-in p ok .guests k h in
       let filled : Filled run (charged g) 16 = record { long = table-length (charged g) 16; holds = λ j m. table-at (charged g) 0 16 j m } in
       let few : i < 16 = omega (arith, o .head .few) in
-      let column : (x : ℕ) → taskUnder above x (g .period) run (g .every) i (deadlineOf g i) ≡ taskResponse (withCapacity p k x) k i =
-      λ x. task-is above (atCapacity g x) run 16 i few record { long = filled .long; holds = filled .holds } ∙ sym (task-there p k here x i) in
-      let m = met-up above (interference-grows p k) (g .period) run (g .every) i (omega (arith, filled .holds i few, o .tasks i l .runs)) c c′ (deadlineOf g i) r pos le
+      let column : (x : ℕ) → taskUnder above x (g .period) run (g .every) i most ≡ responseTo (withCapacity p k x) k i most =
+      λ x. task-is above (atCapacity g x) run 16 i most few record { long = filled .long; holds = filled .holds } ∙ sym (task-there p k here x i most) in
+      let m = met-up above (interference-grows p k) (g .period) run (g .every) i (omega (arith, filled .holds i few, o .tasks i l .runs)) c c′ most r pos le
       (sym (fitted-there p k here c′) ∙ fit) (column c ∙ e) in
       (m .0, sym (column c′) ∙ m .1, m .2)

@@ -1,20 +1,16 @@
 -- Demand 3 for tasks: a quoted task's jobs are finished by R, and its due releases are taken, whatever is called. Assumes nothing.
 use mathlib.Core.Path.{_≡_, refl, ap, subst, _∙_}
-use mathlib.Core.Bool.{Bool, cond}
 use mathlib.Core.List.{List, []}
-use Prim.Native.Nat.{ℕ, zero, suc, _+_, _-_, _≤_, _<_}
+use Prim.Native.Nat.{ℕ, suc, _-_, _≤_, _<_}
 use native.Mathlib.Omega.{arith}
-use lib.IntN.{pos, negsuc}
 use lib.ListN.{length}
-use borrow.Author.Tests.{le-ltb}
 use Rattle.plan.specs.declared.Plan.{Plan}
 use Rattle.plan.specs.Place.{placeOf}
 use Rattle.dispatcher.specs.declared.Dispatcher.{Dispatcher}
 use Rattle.dispatcher.specs.declared.Answer.the-variants.{Finished}
 use Rattle.dispatcher.specs.Answer.{marginOf, finishes}
 use Rattle.dispatcher.specs.Release.{release}
-use Rattle.verdict.specs.declared.TaskVerdict.the-variants.{Met}
-use Rattle.verdict.specs.Verdict.{taskVerdict}
+use Rattle.verdict.specs.Quoted.{Quoted}
 use Rattle.windows.specs.Equation.{response}
 use Rattle.history.specs.Calls.{Call, releasing, start, released, play, ticksIn, answers}
 use Rattle.history.specs.Named.{deadlineBy, restBy, ageBy}
@@ -30,19 +26,14 @@ use Rattle.history.proofs.Quote.{KeptIn, bounded-of, kept-idle, kept-ne
 use Rattle.history.proofs.Finished.{finishedAt, Job, JobIn, job-next, job-release}
 use Rattle.history.proofs.Finished.Job.{pending, ended}
 use Rattle.history.proofs.Told.{finish-told}
-use Rattle.history.proofs.Verdict.{Judged, met-judged}
+use Rattle.history.proofs.Margin.{margin-falls}
+use Rattle.history.proofs.Verdict.{Judged, quoted-judged}
 use Rattle.history.proofs.Clocks.{sound-start, sound-reached, free-task, new-job}
 
--- the margin of a job that is not late
-pub margin-left : (deadline age : ℕ) → age ≤ deadline → marginOf deadline age ≡ pos (deadline - age)
-unfolding marginOf
-margin-left deadline zero h = ap pos (let e : deadline + 0 ≡ deadline - 0 = omega arith in e)
-margin-left deadline (suc age) h = ap (λ (b : Bool). cond b (negsuc (suc age - suc deadline)) (pos (deadline - suc age))) (le-ltb deadline (suc age) h)
-
-module _ (p : Plan) (id number R : ℕ) (met : taskVerdict p id number ≡ Met R) where
+module _ (p : Plan) (id number R : ℕ) (quoted : Quoted p id number R) where
   -- what the verdict says
   abbrev pub J : Judged p id number R
-  J = met-judged p id number R met
+  J = quoted-judged p id number R quoted
 
   -- the records are in order
   abbrev pub P : PlanIn p
@@ -99,7 +90,7 @@ module _ (p : Plan) (id number R : ℕ) (met : taskVerdict p id number ≡ Met R
       → KeptIn p (placeOf p id) (J .x) (number - 1) (J .w) (play ds (released p id number cs))
   kept-released cs t ds = job-then cs t ds .kept
 
-  -- a finish in time, as it is told
+  -- a finish by R, as it is told
   finish-by :
       (ds : List Call) (d : Dispatcher) (m : ℕ)
       → Sound p d
@@ -110,9 +101,10 @@ module _ (p : Plan) (id number R : ℕ) (met : taskVerdict p id number ≡ Met R
   unfolding finishes
   finish-by ds d m D h l e = record {
     age = suc m;
-    margin = deadlineBy p id number - suc m;
-    in-time = omega (arith, J .quotes);
-    spare = omega (arith, J .quotes, J .in-time);
+    margin = marginOf (deadlineBy p id number) (suc m);
+    by-R = omega (arith, J .quotes);
+    spare = refl;
+    least = margin-falls (deadlineBy p id number) (suc m) R (omega (arith, J .quotes));
     told =
         subst (Told ds d (suc m)) (e ∙ said)
         (finish-told ds d m D (omega (arith, answers-length ds d D)) (ap finishes e));
@@ -120,14 +112,11 @@ module _ (p : Plan) (id number R : ℕ) (met : taskVerdict p id number ≡ Met R
     where
       said :
           finishedAt p (placeOf p id) (number - 1) (suc m)
-          ≡ Finished id number (suc m) (pos (deadlineBy p id number - suc m))
-      said =
-          let named = J .task .there .named in
-          let spare = margin-left (deadlineBy p id number) (suc m) (omega (arith, J .quotes, J .in-time)) in
-          rw (named, ← J .task .from-1, spare) refl
+          ≡ Finished id number (suc m) (marginOf (deadlineBy p id number) (suc m))
+      said = rw (J .task .there .named, ← J .task .from-1) refl
 
   -- Finished by R: of a release that is taken and any calls after it that do at least R ticks, one hands back that the task is finished, at an
-  -- age of at most R; the age counts the ticks since the release, and the margin is what the deadline leaves.
+  -- age of at most R; the age counts the ticks since the release, and the margin is the deadline less it.
   pub finished-by-R :
       (cs : List Call)
       → release (play cs (start p)) id number .refusal .number ≡ 0

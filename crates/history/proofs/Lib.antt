@@ -29,6 +29,7 @@ pub mod Finished
 pub mod InTime
 pub mod Verdict
 -- The promises.
+pub mod Margin
 pub mod Sure
 pub mod FinishedBy
 pub mod NeverLate

@@ -11,6 +11,7 @@ use Rattle.dispatcher.specs.Answer.{marginOf, finishes}
 use Rattle.windows.specs.Equation.{response}
 use Rattle.verdict.specs.declared.TaskVerdict.the-variants.{Met}
 use Rattle.verdict.specs.Verdict.{taskVerdict}
+use Rattle.verdict.specs.Quoted.{Quoted}
 use Rattle.history.specs.Calls.{Call, start, after, play, singles, ticksOf, answerOf}
 use Rattle.history.specs.Named.{deadlineBy}
 use Rattle.plan.proofs.Order.{PlanIn}
@@ -20,13 +21,16 @@ use Rattle.analysis.proofs.Ids.{idOf}
 use Rattle.history.proofs.InTime.{TimelyIn, timely-next, timely-release}
 use Rattle.history.proofs.Told.{told-last}
 use Rattle.history.proofs.Clocks.{sound-reached}
-use Rattle.history.proofs.Verdict.{Judged, met-judged}
-use Rattle.history.proofs.FinishedBy.{margin-left, kept-reached}
+use Rattle.history.proofs.Verdict.{Judged, quoted-judged}
+use Rattle.verdict.proofs.Quoted.{met-quoted}
+use Rattle.analysis.proofs.Tasks.{judged-means}
+use Rattle.history.proofs.Margin.{margin-left}
+use Rattle.history.proofs.FinishedBy.{kept-reached}
 
-module _ (p : Plan) (id number R : ℕ) (met : taskVerdict p id number ≡ Met R) (cs : List Call) (c : Call) where
+module _ (p : Plan) (id number R : ℕ) (quoted : Quoted p id number R) (cs : List Call) (c : Call) where
   -- what the verdict says
   abbrev J : Judged p id number R
-  J = met-judged p id number R met
+  J = quoted-judged p id number R quoted
 
   -- the records are in order
   abbrev P : PlanIn p
@@ -41,7 +45,7 @@ module _ (p : Plan) (id number R : ℕ) (met : taskVerdict p id number ≡ Met R
       (λ L e id' task k t D a F I. timely-release p P (J .fits) L e id' task k t D F I) c [] (play cs (start p)) tt
       record {
         sound = sound-reached p (J .task .there .order) cs;
-        holds = record { kept = kept-reached p id number R met cs; timely = λ m age margin q. none age margin q };
+        holds = record { kept = kept-reached p id number R quoted cs; timely = λ m age margin q. none age margin q };
       }
       .holds
     where
@@ -50,18 +54,31 @@ module _ (p : Plan) (id number R : ℕ) (met : taskVerdict p id number ≡ Met R
           × (margin ≡ marginOf (deadlineBy p id number) age)
       none age margin q = (let z : _≡_ {A = ℕ} 0 1 = cc in absurd (omega arith))
 
-  -- An answer handed back that says finished: the age is at most R, and the margin what the deadline leaves.
+  -- An answer handed back that says finished: the age is at most R, and the margin the deadline less the age.
   pub never-late :
       (age : ℕ) (margin : ℤ)
       → answerOf c (play cs (start p)) ≡ Finished id number age margin
-      → (age ≤ R) × (margin ≡ pos (deadlineBy p id number - age))
+      → (age ≤ R) × (margin ≡ marginOf (deadlineBy p id number) age)
   unfolding finishes
   never-late age margin e =
       let (m, h, q) = told-last c (play cs (start p)) (sound-reached p (J .task .there .order) cs .ok) (ap finishes e) in
       let r = timely .timely m age margin (q ∙ e ∙ named) in (
         omega (arith, r .0, J .quotes),
-        r .1 ∙ margin-left (deadlineBy p id number) age (omega (arith, r .0, J .quotes, J .in-time)),
+        r .1,
       )
     where
       named : Finished id number age margin ≡ Finished (idOf p (placeOf p id)) (suc (number - 1)) age margin
       named = rw (J .task .there .named, ← J .task .from-1) refl
+
+-- A met task is never late: every answer that says it is finished has an age within the deadline, and what is left of it as the margin.
+pub met-not-late :
+    (p : Plan) (id number R : ℕ)
+    → taskVerdict p id number ≡ Met R
+    → (cs : List Call) (c : Call) (age : ℕ) (margin : ℤ)
+    → answerOf c (play cs (start p)) ≡ Finished id number age margin
+    → (age ≤ deadlineBy p id number) × (margin ≡ pos (deadlineBy p id number - age))
+met-not-late p id number R met cs c age margin e =
+    let (t, m) = judged-means p id number {v = Met R} (λ n k q. (let z : _≡_ {A = ℕ} 0 1 = cc in omega arith)) met in
+    let r = never-late p id number R (met-quoted p id number R met) cs c age margin e in
+    let in-time : age ≤ deadlineBy p id number = omega (arith, r .0, m .in-time) in
+    (in-time, r .1 ∙ margin-left (deadlineBy p id number) age in-time)

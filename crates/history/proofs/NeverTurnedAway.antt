@@ -9,8 +9,7 @@ use Rattle.plan.specs.declared.Plan.{Plan}
 use Rattle.plan.specs.Place.{placeOf}
 use Rattle.dispatcher.specs.declared.Dispatcher.{Dispatcher}
 use Rattle.dispatcher.specs.Release.{releaseNumber, release}
-use Rattle.verdict.specs.declared.TaskVerdict.the-variants.{Met}
-use Rattle.verdict.specs.Verdict.{taskVerdict}
+use Rattle.verdict.specs.Quoted.{Quoted}
 use Rattle.history.specs.Calls.{Call, releasing, start, released, play, ticksIn, NoneTaken}
 use Rattle.history.specs.Named.{everyBy, waitBy}
 use Rattle.plan.proofs.Order.{PlanIn}
@@ -19,13 +18,13 @@ use Rattle.history.proofs.Took.{release-number, free-number, waits-numb
 use Rattle.history.proofs.Play.{Sound, sound-after, sound-play}
 use Rattle.history.proofs.Quote.{KeptIn, bounded-of, in-plan, in-guest}
 use Rattle.history.proofs.Clocks.{sound-reached, since-then, before-any}
-use Rattle.history.proofs.Verdict.{Judged, met-judged}
+use Rattle.history.proofs.Verdict.{Judged, quoted-judged}
 use Rattle.history.proofs.FinishedBy.{kept-reached, kept-released}
 
-module _ (p : Plan) (id number R : ℕ) (met : taskVerdict p id number ≡ Met R) where
+module _ (p : Plan) (id number R : ℕ) (quoted : Quoted p id number R) where
   -- what the verdict says
   abbrev J : Judged p id number R
-  J = met-judged p id number R met
+  J = quoted-judged p id number R quoted
 
   -- the records are in order
   abbrev P : PlanIn p
@@ -68,12 +67,12 @@ module _ (p : Plan) (id number R : ℕ) (met : taskVerdict p id number ≡ Met R
 
   -- Refusal 10 is never given for a quoted task.
   pub never-10 : (cs : List Call) → release (play cs (start p)) id number .refusal .number ≡ 10 → ⊥
-  never-10 cs = not-10 (play cs (start p)) (sound-reached p (J .task .there .order) cs) (kept-reached p id number R met cs)
+  never-10 cs = not-10 (play cs (start p)) (sound-reached p (J .task .there .order) cs) (kept-reached p id number R quoted cs)
 
   -- Its release is taken if none was taken before.
   pub first-taken : (cs : List Call) → NoneTaken id number cs (start p) → release (play cs (start p)) id number .refusal .number ≡ 0
   first-taken cs none =
-      due-taken (play cs (start p)) (sound-reached p (J .task .there .order) cs) (kept-reached p id number R met cs)
+      due-taken (play cs (start p)) (sound-reached p (J .task .there .order) cs) (kept-reached p id number R quoted cs)
       (before-any p (J .task .there .order) id number (J .fits .in-plan) (J .fits .in-guest)
       (J .task .from-1) cs none .due)
 
@@ -89,4 +88,4 @@ module _ (p : Plan) (id number R : ℕ) (met : taskVerdict p id number ≡ Met R
       let D = sound-reached p (J .task .there .order) cs in
       let I = since-then p (play cs (start p)) D id number t ds none in
       due-taken (play ds (released p id number cs)) (sound-play ds (released p id number cs) (sound-after (releasing id number) (play cs (start p)) D))
-      (kept-released p id number R met cs t ds) (omega (arith, I .waits))
+      (kept-released p id number R quoted cs t ds) (omega (arith, I .waits))

@@ -32,10 +32,11 @@ guestTold (guest.Refused number place) = refusing number place
 guestTold (guest.Fitted x) = saying 1 x
 guestTold guest.Unfit = saying 2 0
 
--- a task: 1 met with its response, 2 unmet, 3 unjudged
+-- a task: 1 met with its response, 2 unmet with its response or with 0 where none is quoted (a response is at least 1), 3 unjudged
 unfoldable pub taskTold : TaskVerdict → Verdict
 taskTold (task.Refused number place) = refusing number place
 taskTold (task.Met r) = saying 1 r
+taskTold (task.UnmetAt r) = saying 2 r
 taskTold task.Unmet = saying 2 0
 taskTold task.Unjudged = saying 3 0
 

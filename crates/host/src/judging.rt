@@ -49,6 +49,7 @@ pub extern "C" fn cs_task_verdict(plan: Plan, id: u32, task: u32) -> Verdict
     match verdict::task_verdict(plan, id, task) {
         TaskVerdict::Refused(number, place) => refuse(number, place),
         TaskVerdict::Met(r) => say(1, r),
+        TaskVerdict::UnmetAt(r) => say(2, r),
         TaskVerdict::Unmet => say(2, 0),
         TaskVerdict::Unjudged => say(3, 0),
     }

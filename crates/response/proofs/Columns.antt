@@ -15,7 +15,7 @@ use Rattle.rounding.specs.Up.{up}
 use Rattle.rounding.specs.Asked.{asked}
 use Rattle.equation.specs.Solve.{solve}
 use Rattle.equation.specs.System.{rightAt, right}
-use Rattle.plan.specs.Records.{guestAt, everyOf, deadlineOf}
+use Rattle.plan.specs.Records.{guestAt, everyOf}
 use Rattle.plan.specs.Charge.{charged}
 use Rattle.plan.specs.Filled.{Filled, ColumnsOf}
 use Rattle.plan.specs.declared.Columns.{Columns}
@@ -23,8 +23,8 @@ use Rattle.plan.specs.declared.Guest.{Guest}
 use Rattle.plan.specs.declared.Plan.{Plan}
 use Rattle.response.specs.Interference.{jitter, interference}
 use Rattle.response.specs.Guest.{guestRight, guestResponse, fitted, fittedTo}
-use Rattle.response.specs.Task.{gap, load, periods, taskRight, limit, later, taskResponse}
-use Rattle.response.specs.Met.{allMet, accepted}
+use Rattle.response.specs.Task.{gap, load, periods, taskRight, later, responseTo}
+use Rattle.response.specs.Met.{met, allMet, accepted}
 use Rattle.response.specs.Columns.{guestsTake, guestUnder, fittedAt, loadIn, taskUnder, taskOf, acceptedUnder}
 use Rattle.rounding.proofs.Up.{up-mono}
 use Rattle.equation.proofs.Rise.{Grows}
@@ -54,9 +54,9 @@ unfolding guestUnder guestResponse guestRight
 guest-response-is p k = refl
 
 -- the task's response
-pub task-response-is : (p : Plan) (k i : ℕ) → taskOf (interference p k) (guestAt (p .guests) k) i ≡ taskResponse p k i
-unfolding taskOf taskResponse taskRight periods right rightAt
-task-response-is p k i = refl
+pub task-response-is : (p : Plan) (k i most : ℕ) → taskOf (interference p k) (guestAt (p .guests) k) i most ≡ responseTo p k i most
+unfolding taskOf responseTo taskRight periods right rightAt
+task-response-is p k i most = refl
 
 -- the load off the column of charged runs is the guest's
 load-is : (g : Guest) (run : List ℕ) (n i : ℕ) → i < n → Filled run (charged g) n → (w : ℕ) → loadIn run (g .every) i (w + (g .period - g .capacity)) ≡ load g i w
@@ -67,11 +67,11 @@ load-is g run n i h f w =
     omega (arith, f .holds i h)
 
 -- so is the response
-pub task-is : (above : ℕ → ℕ) (g : Guest) (run : List ℕ) (n i : ℕ) → i < n → Filled run (charged g) n
-    → taskUnder above (g .capacity) (g .period) run (g .every) i (deadlineOf g i) ≡ taskOf above g i
-unfolding taskUnder taskOf gap limit
-task-is above g run n i h f =
-    ap (λ (l : ℕ → ℕ). later (g .period - g .capacity) (solve (right (record { capacity = g .capacity; period = g .period; interference = above; load = l })) (deadlineOf g i - (g .period - g .capacity))))
+pub task-is : (above : ℕ → ℕ) (g : Guest) (run : List ℕ) (n i most : ℕ) → i < n → Filled run (charged g) n
+    → taskUnder above (g .capacity) (g .period) run (g .every) i most ≡ taskOf above g i most
+unfolding taskUnder taskOf gap
+task-is above g run n i most h f =
+    ap (λ (l : ℕ → ℕ). later (g .period - g .capacity) (solve (right (record { capacity = g .capacity; period = g .period; interference = above; load = l })) (most - (g .period - g .capacity))))
     (fun-ext (load-is g run n i h f))
 
 -- a test of an answer, as the code has it
@@ -80,10 +80,10 @@ test-is e q t = ap isAt (sym e) ∙ sym q ∙ t
 
 -- a guest is accepted where it is fitted and all its tasks are met
 pub accepted-is : (p : Plan) (k : ℕ) → acceptedUnder (interference p k) (guestAt (p .guests) k) ≡ (fitted p k && allMet p k)
-unfolding acceptedUnder fitted allMet
+unfolding acceptedUnder fitted allMet met
 accepted-is p k =
     rw (guest-response-is p k) (ap (λ (b : Bool). isAt (guestResponse p k) && b)
-    (all-ext _ _ (guestAt (p .guests) k .tasks) (λ i m. ap isAt (task-response-is p k i))))
+    (all-ext _ _ (guestAt (p .guests) k .tasks) (λ i m. ap isAt (task-response-is p k i _))))
 
 -- the columns of a plan
 module _ (p : Plan) (c : Columns) (f : ColumnsOf (p .guests) c) where

@@ -9,7 +9,7 @@ use Rattle.lists.specs.Places.{nth}
 use Rattle.lists.specs.Search.{isAt}
 use Rattle.plan.specs.Charge.{chargedRun, charged}
 use Rattle.plan.specs.Filled.{Filled, ColumnsOf}
-use Rattle.plan.specs.Records.{guestAt}
+use Rattle.plan.specs.Records.{guestAt, deadlineOf}
 use Rattle.plan.specs.declared.Columns.{Columns}
 use Rattle.plan.specs.declared.Guest.{Guest}
 use Rattle.plan.specs.declared.Plan.{Plan}
@@ -45,9 +45,9 @@ module _ (g : Guest) (capacities periods : List ℕ) (k : ℕ) (s : Sure g capac
 
 -- the tasks off the column of charged runs are the guest's
 pub met-is : (above : ℕ → ℕ) (g : Guest) (run : List ℕ) → Filled run (charged g) (g .tasks)
-    → metUnder above (g .capacity) (g .period) run (g .every) (g .deadline) (g .tasks) ≡ allTo (λ i. isAt (taskOf above g i)) (g .tasks)
+    → metUnder above (g .capacity) (g .period) run (g .every) (g .deadline) (g .tasks) ≡ allTo (λ i. isAt (taskOf above g i (deadlineOf g i))) (g .tasks)
 unfolding metUnder
-met-is above g run f = all-ext _ _ (g .tasks) (λ i h. ap isAt (task-is above g run (g .tasks) i h f))
+met-is above g run f = all-ext _ _ (g .tasks) (λ i h. ap isAt (task-is above g run (g .tasks) i (deadlineOf g i) h f))
 
 -- an unfit guest is not accepted
 pub accepted-unfit : (above : ℕ → ℕ) (g : Guest) → isAt (guestUnder above (g .capacity) (g .period)) ≡ false → false ≡ acceptedUnder above g
@@ -56,7 +56,7 @@ accepted-unfit above g e = sym (and-false-left _ e)
 
 -- a fitted one by its tasks
 pub accepted-fit : (above : ℕ → ℕ) (g : Guest) {r : Bool} → isAt (guestUnder above (g .capacity) (g .period)) ≡ true
-    → r ≡ allTo (λ i. isAt (taskOf above g i)) (g .tasks) → r ≡ acceptedUnder above g
+    → r ≡ allTo (λ i. isAt (taskOf above g i (deadlineOf g i))) (g .tasks) → r ≡ acceptedUnder above g
 unfolding acceptedUnder
 accepted-fit above g e q = rw e q
 

@@ -77,12 +77,12 @@ right-small above capacity period run every i w l r e h q =
     let k : loadIn run every i (w + (period - capacity)) ≡ l = omega arith in
     rw k q
 
--- the first gap is past the deadline
-pub task-late : (above : ℕ → ℕ) (capacity period : ℕ) (run every : List ℕ) (i deadline : ℕ) → deadline ≤ period - capacity
-    → Nothing ≡ taskUnder above capacity period run every i deadline
+-- the first gap leaves no window
+pub task-late : (above : ℕ → ℕ) (capacity period : ℕ) (run every : List ℕ) (i most : ℕ) → most ≤ period - capacity
+    → Nothing ≡ taskUnder above capacity period run every i most
 unfolding taskUnder
-task-late above capacity period run every i deadline h =
-    ap (later (period - capacity)) (solve-none (right (equationOf above capacity period run every i)) (deadline - (period - capacity)) 1 (omega arith) (λ z k q. k))
+task-late above capacity period run every i most h =
+    ap (later (period - capacity)) (solve-none (right (equationOf above capacity period run every i)) (most - (period - capacity)) 1 (omega arith) (λ z k q. k))
 
 -- the loop's invariant, with the facts that every turn uses; x is the guest's response
 pub record TaskInv (S : System) (limit w : ℕ) : Type 0 where

@@ -9,8 +9,9 @@ use Rattle.lists.specs.declared.Found.{Found}
 use Rattle.rounding.specs.Asked.{asked}
 use Rattle.equation.specs.Solve.{solve}
 use Rattle.equation.specs.System.{System, right}
+use Rattle.plan.specs.Records.{deadlineOf}
 use Rattle.plan.specs.declared.Guest.{Guest}
-use Rattle.response.specs.Task.{gap, load, limit, later}
+use Rattle.response.specs.Task.{gap, load, later}
 
 -- what the first n guests take from v ticks
 unfoldable pub guestsTake : (capacities periods : List ℕ) → ℕ → ℕ → ℕ
@@ -37,10 +38,10 @@ equationOf above capacity period run every i = record {
   load = λ w. loadIn run every i (w + (period - capacity));
 }
 
--- the response of task i, off columns
+-- the response of task i, off columns, of at most `most`
 unfoldable pub taskUnder : (above : ℕ → ℕ) → (capacity period : ℕ) → (run every : List ℕ) → ℕ → ℕ → Found
-taskUnder above capacity period run every i deadline =
-    later (period - capacity) (solve (right (equationOf above capacity period run every i)) (deadline - (period - capacity)))
+taskUnder above capacity period run every i most =
+    later (period - capacity) (solve (right (equationOf above capacity period run every i)) (most - (period - capacity)))
 
 -- whether the first n tasks are met, off columns
 unfoldable pub metUnder : (above : ℕ → ℕ) → (capacity period : ℕ) → (run every deadline : List ℕ) → ℕ → Bool
@@ -50,10 +51,10 @@ metUnder above capacity period run every deadline n = allTo (λ i. isAt (taskUnd
 abbrev pub systemOf : (above : ℕ → ℕ) → Guest → ℕ → System
 systemOf above g i = record { capacity = g .capacity; period = g .period; interference = above; load = load g i }
 
--- the response of task i of a guest
-unfoldable pub taskOf : (above : ℕ → ℕ) → Guest → ℕ → Found
-taskOf above g i = later (gap g i) (solve (right (systemOf above g i)) (limit g i - gap g i))
+-- the response of task i of a guest, of at most `most`
+unfoldable pub taskOf : (above : ℕ → ℕ) → Guest → ℕ → ℕ → Found
+taskOf above g i most = later (gap g i) (solve (right (systemOf above g i)) (most - gap g i))
 
 -- whether a guest is fitted and all its tasks are met
 unfoldable pub acceptedUnder : (above : ℕ → ℕ) → Guest → Bool
-acceptedUnder above g = isAt (guestUnder above (g .capacity) (g .period)) && allTo (λ i. isAt (taskOf above g i)) (g .tasks)
+acceptedUnder above g = isAt (guestUnder above (g .capacity) (g .period)) && allTo (λ i. isAt (taskOf above g i (deadlineOf g i))) (g .tasks)

@@ -5,7 +5,7 @@ use Rattle.lists.specs.declared.Found.{Found}
 use Rattle.lists.specs.declared.Found.the-variants.{At, Nothing}
 use Rattle.rounding.specs.Up.{up}
 use Rattle.equation.specs.Solve.{solve}
-use Rattle.plan.specs.Records.{guestAt, everyOf, deadlineOf}
+use Rattle.plan.specs.Records.{guestAt, everyOf}
 use Rattle.plan.specs.Charge.{charged}
 use Rattle.plan.specs.declared.Guest.{Guest}
 use Rattle.plan.specs.declared.Plan.{Plan}
@@ -30,15 +30,19 @@ taskRight p k i w =
     let n = periods g i w in
     load g i w + (n - 1) * (g .period - g .capacity) + interference p k (w - (n - 1) * g .period)
 
--- how late a response is looked for: to the deadline
-unfoldable pub limit : Guest → ℕ → ℕ
-limit g i = deadlineOf g i
-
 -- a window's response: J is added
 abbrev pub later : ℕ → Found → Found
 later J Nothing = Nothing
 later J (At w) = At (w + J)
 
--- the task's response: w + J for the least window w that is its own right side, where w + J is at most the limit
+-- w + J for the least window w that is its own right side, where w + J is at most `most`
+unfoldable pub responseTo : Plan → ℕ → ℕ → (most : ℕ) → Found
+responseTo p k i most = let g = guestAt (p .guests) k in later (gap g i) (solve (taskRight p k i) (most - gap g i))
+
+-- the response that is quoted is looked for up to the task's period
+unfoldable pub limit : Guest → ℕ → ℕ
+limit g i = everyOf g i
+
+-- the task's response
 unfoldable pub taskResponse : Plan → ℕ → ℕ → Found
-taskResponse p k i = let g = guestAt (p .guests) k in later (gap g i) (solve (taskRight p k i) (limit g i - gap g i))
+taskResponse p k i = responseTo p k i (limit (guestAt (p .guests) k) i)

@@ -85,7 +85,7 @@ fn right_of(
     right_at(capacities, periods, n, capacity, period, load as u32, w)
 }
 
-// The response of task i of a fitted guest: the recurrence, from 1 on.
+// The response of task i of a fitted guest, at most `most`: the recurrence, from 1 on.
 pub fn task_response(
     capacities: &[u32; 16],
     periods: &[u32; 16],
@@ -95,17 +95,17 @@ pub fn task_response(
     run: &[u32; 16],
     every: &[u32; 16],
     i: usize,
-    deadline: u32,
+    most: u32,
 ) -> Found
     requires { ⌜ (n ≤ 16) × (i < 16) ⌝ }
     requires { ⌜ Ready (guestsTake (now capacities) (now periods) n) capacity period (now run) i ⌝ }
-    ensures { λ r. ⌜ r ≡ taskUnder (guestsTake (now (capacities .entry)) (now (periods .entry)) n) capacity period (now (run .entry)) (now (every .entry)) i deadline ⌝ }
+    ensures { λ r. ⌜ r ≡ taskUnder (guestsTake (now (capacities .entry)) (now (periods .entry)) n) capacity period (now (run .entry)) (now (every .entry)) i most ⌝ }
 {
     let gap = period - capacity;
-    if deadline <= gap {
+    if most <= gap {
         return Found::Nothing;
     }
-    let limit = deadline - gap;
+    let limit = most - gap;
     let mut w: u32 = 1;
     loop {
         let next = right_of(capacities, periods, n, capacity, period, run, every, i, w);

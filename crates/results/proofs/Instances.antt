@@ -7,11 +7,13 @@ use Rattle.plan.specs.First.{orElse, firstRefused}
 use Rattle.plan.specs.Order.{newId, numberOf, guestNumber, countedBy, planRefusal}
 use Rattle.plan.specs.Ranges.{headOk, taskOk, tasksOk}
 use Rattle.analysis.specs.Guests.{There, Responds, NoneFits}
-use Rattle.analysis.specs.Tasks.{TaskMet, TaskUnmet, TaskUnjudged, AllGood}
+use Rattle.analysis.specs.Tasks.{TaskMet, TaskUnmetAt, TaskUnmet, TaskUnjudged}
+use Rattle.analysis.specs.Acceptances.{AllGood}
 use Rattle.analysis.specs.Capacities.{CapacitySmallest, NoCapacity}
-use Rattle.plans.specs.Plans.{planA, planB}
+use Rattle.plans.specs.Plans.{planA, planB, planD}
 use Rattle.analysis.proofs.Guests.{guest-verdict-means}
-use Rattle.analysis.proofs.Tasks.{task-verdict-means, acceptance-means}
+use Rattle.analysis.proofs.Tasks.{task-verdict-means}
+use Rattle.analysis.proofs.Acceptances.{acceptance-means}
 use Rattle.analysis.proofs.Capacities.{capacity-answer-means}
 use Rattle.results.proofs.Numbers.{numbers}
 
@@ -39,6 +41,11 @@ there-none : There (planB 3) 9 1
 unfolding allTo unless refusal orElse firstRefused newId numberOf guestNumber countedBy planRefusal headOk taskOk tasksOk
 there-none = record { order = refl; place = omega arith; named = refl }
 
+-- the guest 1/1000 of case 7
+there-gap : There planD 7 0
+unfolding allTo unless refusal orElse firstRefused newId numberOf guestNumber countedBy planRefusal headOk taskOk tasksOk
+there-gap = record { order = refl; place = omega arith; named = refl }
+
 -- 14 is the least solution of guest 9's equation
 pub fitted-14 : Responds (planA 0 50 100) 1 14
 fitted-14 = rw (numbers .second) at (guest-verdict-means (planA 0 50 100) 9 1 there-A)
@@ -51,9 +58,13 @@ unfit-4-6 = rw (numbers .unfit) at (guest-verdict-means (planB 4) 9 1 there-unfi
 pub met-36 : TaskMet (planA 0 50 100) 1 0 36
 met-36 = rw (numbers .first-task) at (task-verdict-means (planA 0 50 100) 9 1 0 there-A (omega arith))
 
--- and unmet with deadline 35
-pub unmet-35 : TaskUnmet (planA 0 35 100) 1 0
-unmet-35 = rw (numbers .first-late) at (task-verdict-means (planA 0 35 100) 9 1 0 there-late (omega arith))
+-- and with deadline 35 unmet with 36
+pub unmet-36 : TaskUnmetAt (planA 0 35 100) 1 0 36
+unmet-36 = rw (numbers .first-late) at (task-verdict-means (planA 0 35 100) 9 1 0 there-late (omega arith))
+
+-- case 7: no response is quoted, the first gap being past the period
+pub unmet-plain : TaskUnmet planD 0 0
+unmet-plain = rw (numbers .gap-past-period) at (task-verdict-means planD 7 0 0 there-gap (omega arith))
 
 -- a task two places below the unfit guest is unjudged
 pub unjudged-below : TaskUnjudged (planB 4) 3

@@ -13,9 +13,9 @@ use Rattle.plan.specs.Place.{placeOf}
 use Rattle.plan.specs.Ranges.{headOk, taskOk, tasksOk}
 use Rattle.response.specs.Interference.{jitter, interference}
 use Rattle.response.specs.Guest.{guestRight, guestResponse, fitted, fittedTo}
-use Rattle.response.specs.Task.{gap, load, periods, taskRight, limit, taskResponse}
-use Rattle.response.specs.Met.{allMet, accepted}
-use Rattle.verdict.specs.Verdict.{hasGuest, hasTask, recordsThen, refusedBy, guestVerdict, taskSays, taskVerdict, acceptSays, acceptance}
+use Rattle.response.specs.Task.{gap, load, periods, taskRight, responseTo, limit, taskResponse}
+use Rattle.response.specs.Met.{met, allMet, accepted}
+use Rattle.verdict.specs.Verdict.{hasGuest, hasTask, recordsThen, refusedBy, guestVerdict, quotedBy, taskSays, taskVerdict, acceptSays, acceptance}
 use Rattle.capacity.specs.Capacity.{withCapacity, works, smallest}
 use Rattle.capacity.specs.Answer.{smallestCapacity}
 use Rattle.dispatcher.specs.Valid.{tasksIn, guestInRange, taskInRange, rowOk, stateOk}
@@ -30,7 +30,7 @@ use Rattle.results.specs.Numbers.{Numbers}
 
 -- case by case
 pub numbers : Numbers
-unfolding allTo unless refusal least firstFrom sumTo up solve chargedRun orElse firstRefused newId numberOf guestNumber countedBy planRefusal placeOf headOk taskOk tasksOk jitter interference guestRight guestResponse fitted fittedTo gap load periods taskRight limit taskResponse hasGuest hasTask recordsThen refusedBy guestVerdict taskSays taskVerdict allMet accepted acceptSays acceptance withCapacity works smallest smallestCapacity upTo tasksIn guestInRange taskInRange rowOk stateOk idle startedBy fresh taken releaseNumber releasedBy release lessAt refilled holder isHeld leftAfter worker isWorked restAfter ageAfter waitAfter positionAfter next marginOf answerBy answer finishes runFrom runFor ranBy run
+unfolding allTo unless refusal least firstFrom sumTo up solve chargedRun orElse firstRefused newId numberOf guestNumber countedBy planRefusal placeOf headOk taskOk tasksOk jitter interference guestRight guestResponse fitted fittedTo gap load periods taskRight responseTo limit taskResponse hasGuest hasTask recordsThen refusedBy guestVerdict quotedBy taskSays taskVerdict met allMet accepted acceptSays acceptance withCapacity works smallest smallestCapacity upTo tasksIn guestInRange taskInRange rowOk stateOk idle startedBy fresh taken releaseNumber releasedBy release lessAt refilled holder isHeld leftAfter worker isWorked restAfter ageAfter waitAfter positionAfter next marginOf answerBy answer finishes runFrom runFor ranBy run
 numbers = record {
   alone = refl;
   second = refl;
@@ -56,7 +56,7 @@ numbers = record {
   second-at-7 = refl;
   second-at-6 = refl;
   none-works = refl;
-  gap-past-deadline = refl;
+  gap-past-period = refl;
   released-at-0 = refl;
   released-at-14 = refl;
 }

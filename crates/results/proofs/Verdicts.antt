@@ -6,14 +6,18 @@ use Rattle.plan.specs.Order.{planRefusal}
 use Rattle.plan.specs.Records.{guestAt}
 use Rattle.plan.specs.declared.Plan.{Plan}
 use Rattle.verdict.specs.declared.Acceptance.{Acceptance}
+use Rattle.verdict.specs.declared.Acceptance.the-variants.{Accepted}
 use Rattle.verdict.specs.declared.GuestVerdict.{GuestVerdict}
 use Rattle.verdict.specs.declared.TaskVerdict.{TaskVerdict}
 use Rattle.verdict.specs.Verdict.{guestVerdict, taskVerdict, acceptance}
+use Rattle.verdict.specs.Quoted.{Quoted}
 use Rattle.capacity.specs.declared.CapacityAnswer.{CapacityAnswer}
 use Rattle.capacity.specs.Answer.{smallestCapacity}
 use Rattle.analysis.specs.Capacities.{CapacityMeans}
-use Rattle.analysis.specs.Guests.{There, GuestMeans}
-use Rattle.analysis.specs.Tasks.{TaskMeans, AcceptMeans}
+use Rattle.analysis.specs.Guests.{There, AllFit, GuestMeans}
+use Rattle.analysis.specs.Tasks.{TaskSolves, InPeriod, TaskQuoted, TaskMeans}
+use Rattle.analysis.specs.Acceptances.{AcceptMeans, AllSaidMet}
+use Rattle.analysis.proofs.Acceptances as acceptances
 use Rattle.analysis.proofs.Capacities as capacities
 use Rattle.analysis.proofs.Guests as guests
 use Rattle.analysis.proofs.Tasks as tasks
@@ -27,14 +31,29 @@ module _ (p : Plan) (id k : ℕ) (there : There p id k) where
   pub guest-only : (v : GuestVerdict) → GuestMeans p k v → v ≡ guestVerdict p id
   guest-only = guests.guest-verdict-only p id k there
 
-  -- Met R: the guest and all above are fitted, and R is w + J for the least solution w, within the deadline. Unmet: fitted, and no solution has w + J
-  -- within the deadline. Unjudged: the guest or one above is unfit. So R is withheld exactly if no solution meets the deadline, and quoted nowhere else.
+  -- Met R: the guest and all above are fitted, R is w + J for the least solution w, at most the period, and at most the deadline. Unmet R: the same, and R
+  -- is past the deadline. Unmet: fitted, and no solution has w + J at most the period. Unjudged: the guest or one above is unfit.
   pub task-means : (i : ℕ) → i < guestAt (p .guests) k .tasks → TaskMeans p k i (taskVerdict p id (suc i))
   task-means i = tasks.task-verdict-means p id k i there
 
   -- and no other verdict means what holds
   pub task-only : (i : ℕ) → i < guestAt (p .guests) k .tasks → (v : TaskVerdict) → TaskMeans p k i v → v ≡ taskVerdict p id (suc i)
   task-only i = tasks.task-verdict-only p id k i there
+
+  -- A response that is quoted, by met R or unmet R, is the least solution's, and at most the period;
+  pub quoted-means : (i : ℕ) → i < guestAt (p .guests) k .tasks → (R : ℕ) → Quoted p id (suc i) R → TaskQuoted p k i R
+  quoted-means i h R q = tasks.quotes-mean p k i R (taskVerdict p id (suc i)) q (task-means i h)
+
+  -- and under fitted guests one is quoted wherever a solution has its response at most the period: so it is withheld exactly if none has.
+  pub quoted-where :
+      (i : ℕ)
+      → i < guestAt (p .guests) k .tasks
+      → AllFit p k
+      → (w : ℕ)
+      → TaskSolves p k i w
+      → InPeriod p k i w
+      → (R : ℕ) × Quoted p id (suc i) R
+  quoted-where i = tasks.quoted-where p id k i there
 
   -- The capacity proposed works, and none below it does; refusal 11 exactly if none from 1 to the period works.
   pub capacity-means : CapacityMeans p k (smallestCapacity p id)
@@ -46,8 +65,15 @@ module _ (p : Plan) (id k : ℕ) (there : There p id k) where
 
 -- Accepted: all guests are fitted and all tasks met. Not accepted: they are not.
 pub acceptance-means : (p : Plan) → planRefusal p .number ≡ 0 → AcceptMeans p (acceptance p)
-acceptance-means = tasks.acceptance-means
+acceptance-means = acceptances.acceptance-means
 
 -- and no other answer means what holds
 pub acceptance-only : (p : Plan) → planRefusal p .number ≡ 0 → (v : Acceptance) → AcceptMeans p v → v ≡ acceptance p
-acceptance-only = tasks.acceptance-only
+acceptance-only = acceptances.acceptance-only
+
+-- A plan is accepted exactly if the verdict of each task is met: unmet R is not met.
+pub accepted-said : (p : Plan) → planRefusal p .number ≡ 0 → acceptance p ≡ Accepted → AllSaidMet p
+accepted-said = acceptances.accepted-said
+
+pub said-accepted : (p : Plan) → planRefusal p .number ≡ 0 → AllSaidMet p → acceptance p ≡ Accepted
+said-accepted = acceptances.said-accepted

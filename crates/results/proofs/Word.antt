@@ -8,7 +8,9 @@ use Rattle.plan.specs.declared.Plan.{Plan}
 use Rattle.verdict.specs.declared.GuestVerdict.the-variants.{Fitted}
 use Rattle.verdict.specs.declared.TaskVerdict.the-variants.{Met}
 use Rattle.verdict.specs.Verdict.{guestVerdict, taskVerdict}
+use Rattle.verdict.specs.Quoted.{Quoted}
 use Rattle.dispatcher.specs.declared.Answer.the-variants.{Finished}
+use Rattle.dispatcher.specs.Answer.{marginOf}
 use Rattle.dispatcher.specs.Release.{release}
 use Rattle.history.specs.Calls.{Call, releasing, start, after, play, ticksIn, answers, answerOf, NoneTaken}
 use Rattle.history.specs.Finished.{FinishedBy}
@@ -28,9 +30,10 @@ pub sure-of-capacity :
     → share id (answers cs (start p)) (k * guestBy p id .period) (guestBy p id .period) ≡ guestBy p id .capacity
 sure-of-capacity = sure.sure-of-capacity
 
-module _ (p : Plan) (id number R : ℕ) (quoted : taskVerdict p id number ≡ Met R) where
+-- A task is quoted R if its verdict is met R or unmet R.
+module _ (p : Plan) (id number R : ℕ) (quoted : Quoted p id number R) where
   -- 2. Finished by R. After a taken release, calls that do R ticks or more hand back the task finished, at an age of at most R: the ticks since
-  -- the release, with what the deadline leaves as the margin.
+  -- the release, with the deadline less the age as the margin. It is at least the deadline less R, which may be negative.
   pub finished-by-R :
       (cs : List Call)
       → release (play cs (start p)) id number .refusal .number ≡ 0
@@ -43,11 +46,11 @@ module _ (p : Plan) (id number R : ℕ) (quoted : taskVerdict p id number ≡ Me
   pub younger : (cs : List Call) → 0 < restBy p id number (play cs (start p)) → ageBy p id number (play cs (start p)) < R
   younger = finished.younger p id number R quoted
 
-  -- Said of the answers: no call hands back the task finished at an age past R, or with another margin than what the deadline leaves.
+  -- Said of the answers: no call hands back the task finished at an age past R, or with another margin than the deadline less the age.
   pub never-late :
       (cs : List Call) (c : Call) (age : ℕ) (margin : ℤ)
       → answerOf c (play cs (start p)) ≡ Finished id number age margin
-      → (age ≤ R) × (margin ≡ pos (deadlineBy p id number - age))
+      → (age ≤ R) × (margin ≡ marginOf (deadlineBy p id number) age)
   never-late = late.never-late p id number R quoted
 
   -- 3. Never turned away. A release is taken if none was taken before,
@@ -67,3 +70,12 @@ module _ (p : Plan) (id number R : ℕ) (quoted : taskVerdict p id number ≡ Me
   -- In particular 10 is never given.
   pub never-10 : (cs : List Call) → release (play cs (start p)) id number .refusal .number ≡ 10 → ⊥
   never-10 = turned.never-10 p id number R quoted
+
+-- A task that is met is never late: every answer that says it is finished has an age within the deadline, and what is left of it as the margin.
+pub met-not-late :
+    (p : Plan) (id number R : ℕ)
+    → taskVerdict p id number ≡ Met R
+    → (cs : List Call) (c : Call) (age : ℕ) (margin : ℤ)
+    → answerOf c (play cs (start p)) ≡ Finished id number age margin
+    → (age ≤ deadlineBy p id number) × (margin ≡ pos (deadlineBy p id number - age))
+met-not-late = late.met-not-late

@@ -6,7 +6,7 @@ use Rattle.verdict.specs.declared.GuestVerdict.{GuestVerdict}
 use Rattle.verdict.specs.declared.TaskVerdict.{TaskVerdict}
 use Rattle.verdict.specs.declared.Acceptance.{Acceptance}
 use Rattle.show.specs.declared.Line.{Line}
-use Rattle.show.specs.declared.Line.the-variants.{Refused, Fitted, Unfit, Met, Unmet, Unjudged, Accepted, NotAccepted}
+use Rattle.show.specs.declared.Line.the-variants.{Refused, Fitted, Unfit, Met, UnmetAt, Unmet, Unjudged, Accepted, NotAccepted}
 use Rattle.verdict.specs.declared.GuestVerdict.the-variants as guest
 use Rattle.verdict.specs.declared.TaskVerdict.the-variants as task
 use Rattle.verdict.specs.declared.Acceptance.the-variants as plan
@@ -17,10 +17,11 @@ guestShown id (guest.Refused number place) = Refused number place
 guestShown id (guest.Fitted x) = Fitted id x
 guestShown id guest.Unfit = Unfit id
 
--- task N met R, task N unmet, or task N unjudged
+-- task N met R, task N unmet R, task N unmet, or task N unjudged
 abbrev pub taskShown : (number : ℕ) → TaskVerdict → Line
 taskShown n (task.Refused number place) = Refused number place
 taskShown n (task.Met r) = Met n r
+taskShown n (task.UnmetAt r) = UnmetAt n r
 taskShown n task.Unmet = Unmet n
 taskShown n task.Unjudged = Unjudged n
 

@@ -15,6 +15,7 @@ pub enum Line {
     Fitted(u32, u32),
     Unfit(u32),
     Met(u32, u32),
+    UnmetAt(u32, u32),
     Unmet(u32),
     Unjudged(u32),
     Accepted,
@@ -39,6 +40,7 @@ pub fn task_line(plan: Plan, id: u32, task: u32) -> Line
     match verdict::task_verdict(plan, id, task) {
         TaskVerdict::Refused(number, place) => Line::Refused(number, place),
         TaskVerdict::Met(r) => Line::Met(task, r),
+        TaskVerdict::UnmetAt(r) => Line::UnmetAt(task, r),
         TaskVerdict::Unmet => Line::Unmet(task),
         TaskVerdict::Unjudged => Line::Unjudged(task),
     }

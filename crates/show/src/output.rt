@@ -31,6 +31,7 @@ pub fn print(line: Line) {
         Line::Fitted(id, x) => twice(b"guest ", id, b" fitted ", x),
         Line::Unfit(id) => once(b"guest ", id, b" unfit\n"),
         Line::Met(task, r) => twice(b"task ", task, b" met ", r),
+        Line::UnmetAt(task, r) => twice(b"task ", task, b" unmet ", r),
         Line::Unmet(task) => once(b"task ", task, b" unmet\n"),
         Line::Unjudged(task) => once(b"task ", task, b" unjudged\n"),
         Line::Accepted => {

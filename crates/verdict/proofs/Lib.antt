@@ -1,4 +1,5 @@
 -- Laws, each file named after the definition that it is about.
 pub mod Verdict
 pub mod NoRefusal
+pub mod Quoted
 pub mod Promises

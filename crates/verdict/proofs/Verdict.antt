@@ -13,7 +13,7 @@ use Rattle.lists.specs.Refusals.{Test, refusal, _orRefuse_}
 use Rattle.lists.specs.declared.Found.{Found}
 use Rattle.plan.specs.First.{refused, orElse}
 use Rattle.plan.specs.Order.{planRefusal}
-use Rattle.plan.specs.Records.{guestAt}
+use Rattle.plan.specs.Records.{guestAt, deadlineOf}
 use Rattle.plan.specs.Place.{placeOf}
 use Rattle.plan.specs.Filled.{ColumnsOf}
 use Rattle.plan.specs.Ranges.{within}
@@ -24,7 +24,7 @@ use Rattle.verdict.specs.declared.GuestVerdict.{GuestVerdict}
 use Rattle.verdict.specs.declared.TaskVerdict.{TaskVerdict}
 use Rattle.verdict.specs.declared.TaskVerdict.the-variants.{Unjudged}
 use Rattle.response.specs.Guest.{guestResponse, fittedTo}
-use Rattle.response.specs.Task.{taskResponse}
+use Rattle.response.specs.Task.{limit, taskResponse}
 use Rattle.verdict.specs.Verdict.{hasGuest, hasTask, recordsThen, refusedBy, refuseOr, guestSays, guestVerdict, taskSays, taskVerdict, acceptSays, acceptance}
 use Rattle.response.specs.Columns.{guestsTake, guestUnder, fittedAt, taskOf, acceptedUnder}
 use Rattle.lists.proofs.Refusals.{none-left, go-on, stop}
@@ -86,13 +86,13 @@ pub within-right : (high x : ℕ) → 1 ≤ x → x ≤ high → within 1 high x
 within-right high x l h = rw (le-leb 1 x l, le-leb x high h) refl
 
 -- a guest or one above is unfit
-pub says-unjudged : {b : Bool} (f : Found) → b ≡ false → Unjudged ≡ taskSays b f
+pub says-unjudged : {b : Bool} (deadline : ℕ) (f : Found) → b ≡ false → Unjudged ≡ taskSays b deadline f
 unfolding taskSays
-says-unjudged f e = rw e refl
+says-unjudged deadline f e = rw e refl
 
 -- all are fitted
-pub says-judged : {b : Bool} {f a : Found} {v : TaskVerdict} → b ≡ true → v ≡ taskSays true f → f ≡ a → v ≡ taskSays b a
-says-judged e q t = rw (e, ← t) q
+pub says-judged : {b : Bool} (deadline : ℕ) {f a : Found} {v : TaskVerdict} → b ≡ true → v ≡ taskSays true deadline f → f ≡ a → v ≡ taskSays b deadline a
+says-judged deadline e q t = rw (e, ← t) q
 
 -- records that the check passes
 module _ (p : Plan) {r : Refusal} (e : r ≡ planRefusal p) (h : r .number ≤ 0) where
@@ -137,16 +137,19 @@ module _ (p : Plan) {r : Refusal} (e : r ≡ planRefusal p) (h : r .number ≤ 0
     -- the task's
     pub task-judged : {v : TaskVerdict} (number : ℕ) → k < p .count
         → v ≡ refusedBy task.Refused (refusal (within 1 (guestAt (p .guests) k .tasks) number orRefuse 8 ∷ [])) 0
-        (taskSays (allTo (fittedAt (c .capacities) (c .periods)) (k + 1)) (taskOf (guestsTake (c .capacities) (c .periods) k) (guestAt (p .guests) k) (number - 1)))
+        (taskSays (allTo (fittedAt (c .capacities) (c .periods)) (k + 1)) (deadlineOf (guestAt (p .guests) k) (number - 1)) (taskOf (guestsTake (c .capacities) (c .periods) k) (guestAt (p .guests) k) (number - 1) (limit (guestAt (p .guests) k) (number - 1))))
         → v ≡ taskVerdict p id number
-    unfolding taskVerdict hasTask
+    unfolding taskVerdict hasTask taskResponse
     task-judged number l q =
         let few : k < 8 = omega (arith, in-order .few) in
+        let i = number - 1 in
+        let g = guestAt (p .guests) k in
+        let tests = within 1 (g .tasks) number orRefuse 8 ∷ [] in
         q
-        ∙ ap (λ (b : Bool). refusedBy task.Refused (refusal (within 1 (guestAt (p .guests) k .tasks) number orRefuse 8 ∷ [])) 0 (taskSays b (taskOf (guestsTake (c .capacities) (c .periods) k) (guestAt (p .guests) k) (number - 1)))) (columns-fit-to p c f k few)
-        ∙ ap (λ (above : ℕ → ℕ). refusedBy task.Refused (refusal (within 1 (guestAt (p .guests) k .tasks) number orRefuse 8 ∷ [])) 0 (taskSays (fittedTo p k) (taskOf above (guestAt (p .guests) k) (number - 1)))) (columns-take p c f k (omega arith))
-        ∙ ap (λ (x : Found). refusedBy task.Refused (refusal (within 1 (guestAt (p .guests) k .tasks) number orRefuse 8 ∷ [])) 0 (taskSays (fittedTo p k) x)) (task-response-is p k (number - 1))
-        ∙ ap (λ (j : ℕ). refusedBy task.Refused (refusal (within 1 (guestAt (p .guests) j .tasks) number orRefuse 8 ∷ [])) 0 (taskSays (fittedTo p j) (taskResponse p j (number - 1)))) place-found
+        ∙ ap (λ (b : Bool). refusedBy task.Refused (refusal tests) 0 (taskSays b (deadlineOf g i) (taskOf (guestsTake (c .capacities) (c .periods) k) g i (limit g i)))) (columns-fit-to p c f k few)
+        ∙ ap (λ (above : ℕ → ℕ). refusedBy task.Refused (refusal tests) 0 (taskSays (fittedTo p k) (deadlineOf g i) (taskOf above g i (limit g i)))) (columns-take p c f k (omega arith))
+        ∙ ap (λ (x : Found). refusedBy task.Refused (refusal tests) 0 (taskSays (fittedTo p k) (deadlineOf g i) x)) (task-response-is p k i (limit g i))
+        ∙ ap (λ (j : ℕ). refusedBy task.Refused (refusal (within 1 (guestAt (p .guests) j .tasks) number orRefuse 8 ∷ [])) 0 (taskSays (fittedTo p j) (deadlineOf (guestAt (p .guests) j) i) (taskResponse p j i))) place-found
         ∙ guest-there task.Refused (hasTask p id number orRefuse 8 ∷ []) _ l
 
   -- the plan's acceptance, by the test of all guests

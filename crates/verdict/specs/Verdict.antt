@@ -2,11 +2,11 @@
 use mathlib.Core.Bool.{Bool, true, false}
 use mathlib.Core.List.{List, [], _∷_}
 use Prim.Native.Nat.{ℕ, zero, suc, _-_}
-use lib.Dec.{ltb}
+use lib.Dec.{ltb, leb}
 use Rattle.lists.specs.Refusals.{Test, refusal, _orRefuse_}
 use Rattle.lists.specs.declared.Found.{Found}
 use Rattle.lists.specs.declared.Found.the-variants.{At, Nothing}
-use Rattle.plan.specs.Records.{guestAt}
+use Rattle.plan.specs.Records.{guestAt, deadlineOf}
 use Rattle.plan.specs.Ranges.{within}
 use Rattle.plan.specs.First.{refused, orElse}
 use Rattle.plan.specs.Order.{planRefusal}
@@ -16,7 +16,7 @@ use Rattle.plan.specs.declared.Refusal.{Refusal}
 use Rattle.verdict.specs.declared.GuestVerdict.{GuestVerdict}
 use Rattle.verdict.specs.declared.GuestVerdict.the-variants.{Fitted, Unfit}
 use Rattle.verdict.specs.declared.TaskVerdict.{TaskVerdict}
-use Rattle.verdict.specs.declared.TaskVerdict.the-variants.{Met, Unmet, Unjudged}
+use Rattle.verdict.specs.declared.TaskVerdict.the-variants.{Met, UnmetAt, Unmet, Unjudged}
 use Rattle.verdict.specs.declared.Acceptance.{Acceptance}
 use Rattle.verdict.specs.declared.Acceptance.the-variants.{Accepted, NotAccepted}
 use Rattle.response.specs.Guest.{guestResponse, fittedTo}
@@ -57,17 +57,22 @@ unfoldable pub guestVerdict : Plan → ℕ → GuestVerdict
 guestVerdict p id =
     refuseOr guest.Refused (recordsThen p (hasGuest p id orRefuse 7 ∷ [])) (guestSays (guestResponse p (placeOf p id)))
 
--- met with its response or unmet; unjudged where its own guest or one above is unfit
-unfoldable pub taskSays : Bool → Found → TaskVerdict
-taskSays false f = Unjudged
-taskSays true (At r) = Met r
-taskSays true Nothing = Unmet
+-- a response is quoted: met if it is at most the deadline, else unmet
+unfoldable pub quotedBy : Bool → ℕ → TaskVerdict
+quotedBy true r = Met r
+quotedBy false r = UnmetAt r
+
+-- met or unmet with its response, unmet where there is none up to the period; unjudged where its own guest or one above is unfit
+unfoldable pub taskSays : Bool → (deadline : ℕ) → Found → TaskVerdict
+taskSays false deadline f = Unjudged
+taskSays true deadline (At r) = quotedBy (leb r deadline) r
+taskSays true deadline Nothing = Unmet
 
 -- the verdict of a task: the records' order, then 7, then 8
 unfoldable pub taskVerdict : Plan → ℕ → ℕ → TaskVerdict
 taskVerdict p id number =
     refuseOr task.Refused (recordsThen p (hasGuest p id orRefuse 7 ∷ hasTask p id number orRefuse 8 ∷ []))
-    (taskSays (fittedTo p (placeOf p id)) (taskResponse p (placeOf p id) (number - 1)))
+    (taskSays (fittedTo p (placeOf p id)) (deadlineOf (guestAt (p .guests) (placeOf p id)) (number - 1)) (taskResponse p (placeOf p id) (number - 1)))
 
 -- accepted or not
 unfoldable pub acceptSays : Bool → Acceptance

@@ -3,11 +3,13 @@ ghost use mathlib.Core.Path.{_≡_};
 ghost use mathlib.Core.Bool.{true};
 ghost use mathlib.Core.List.{[], _∷_};
 ghost use Prim.Native.Nat.{ℕ, _+_, _-_, _≤_, _<_};
+ghost use lib.Dec.{leb};
 ghost use Rattle.lists.specs.All.{allTo};
 ghost use Rattle.lists.specs.Refusals.{refusal, _orRefuse_};
-ghost use Rattle.plan.specs.Records.{guestAt};
+ghost use Rattle.plan.specs.Records.{guestAt, deadlineOf};
 ghost use Rattle.plan.specs.Ranges.{within};
-ghost use Rattle.verdict.specs.Verdict.{refusedBy, guestSays, taskSays};
+ghost use Rattle.verdict.specs.Verdict.{refusedBy, guestSays, quotedBy, taskSays};
+ghost use Rattle.response.specs.Task.{limit};
 ghost use Rattle.response.specs.Columns.{guestsTake, fittedAt, taskOf, acceptedUnder};
 ghost use Rattle.response.specs.Ready.{Sure};
 use crate::GuestVerdict;
@@ -32,12 +34,23 @@ pub fn guest_says(f: Found) -> GuestVerdict
     }
 }
 
+// The verdict that quotes a response.
+fn quoted_by(response: u32, deadline: u32) -> TaskVerdict
+    ensures { λ r. ⌜ r ≡ quotedBy (leb response deadline) response ⌝ }
+{
+    if response <= deadline {
+        TaskVerdict::Met(response)
+    } else {
+        TaskVerdict::UnmetAt(response)
+    }
+}
+
 // The verdict of a task's response under fitted guests.
-fn met_or_not(f: Found) -> TaskVerdict
-    ensures { λ r. ⌜ r ≡ taskSays true f ⌝ }
+fn met_or_not(f: Found, deadline: u32) -> TaskVerdict
+    ensures { λ r. ⌜ r ≡ taskSays true deadline f ⌝ }
 {
     match f {
-        Found::At(r) => TaskVerdict::Met(r),
+        Found::At(r) => quoted_by(r, deadline),
         Found::Nothing => TaskVerdict::Unmet,
     }
 }
@@ -51,7 +64,7 @@ fn judge_task(
     i: usize,
 ) -> TaskVerdict
     requires { ⌜ Sure g (now capacities) (now periods) k × (i < g .tasks) ⌝ }
-    ensures { λ r. ⌜ r ≡ taskSays (allTo (fittedAt (now (capacities .entry)) (now (periods .entry))) (k + 1)) (taskOf (guestsTake (now (capacities .entry)) (now (periods .entry)) k) g i) ⌝ }
+    ensures { λ r. ⌜ r ≡ taskSays (allTo (fittedAt (now (capacities .entry)) (now (periods .entry))) (k + 1)) (deadlineOf g i) (taskOf (guestsTake (now (capacities .entry)) (now (periods .entry)) k) g i (limit g i)) ⌝ }
 {
     let every = g.every;
     let deadline = g.deadline;
@@ -59,7 +72,8 @@ fn judge_task(
         return TaskVerdict::Unjudged;
     }
     let run = charged_of(g);
-    met_or_not(task_response(
+    let most = every[i];
+    let f = task_response(
         capacities,
         periods,
         k,
@@ -68,8 +82,9 @@ fn judge_task(
         &run,
         &every,
         i,
-        deadline[i],
-    ))
+        most,
+    );
+    met_or_not(f, deadline[i])
 }
 
 // The verdict of task number `task`, from 1, of the guest g at place k.
@@ -81,7 +96,7 @@ pub fn number_task(
     task: u32,
 ) -> TaskVerdict
     requires { ⌜ Sure g (now capacities) (now periods) k ⌝ }
-    ensures { λ r. ⌜ r ≡ refusedBy TaskVerdict.Refused (refusal (within 1 (g .tasks) task orRefuse 8 ∷ [])) 0 (taskSays (allTo (fittedAt (now (capacities .entry)) (now (periods .entry))) (k + 1)) (taskOf (guestsTake (now (capacities .entry)) (now (periods .entry)) k) g (task - 1))) ⌝ }
+    ensures { λ r. ⌜ r ≡ refusedBy TaskVerdict.Refused (refusal (within 1 (g .tasks) task orRefuse 8 ∷ [])) 0 (taskSays (allTo (fittedAt (now (capacities .entry)) (now (periods .entry))) (k + 1)) (deadlineOf g (task - 1)) (taskOf (guestsTake (now (capacities .entry)) (now (periods .entry)) k) g (task - 1) (limit g (task - 1)))) ⌝ }
 {
     if task < 1 {
         return TaskVerdict::Refused(8, 0);

@@ -16,10 +16,11 @@ pub enum GuestVerdict {
     Unfit,
 }
 
-// Met with its response.
+// Met with its response; unmet with its response, or with none up to the task's period.
 pub enum TaskVerdict {
     Refused(u32, u32),
     Met(u32),
+    UnmetAt(u32),
     Unmet,
     Unjudged,
 }

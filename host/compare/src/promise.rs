@@ -9,7 +9,6 @@ use crate::show;
 use crate::side::Side;
 use play::{Quoted, Script, Seen, play};
 use reference::plan::{Guest, Plan};
-use reference::verdict::YES;
 
 /// One plan with quoted tasks, and some histories against it.
 pub fn histories(session: &mut Session) {
@@ -28,12 +27,13 @@ pub fn histories(session: &mut Session) {
     }
 }
 
+/// The tasks that are quoted a response: met R or unmet R.
 fn quoted(side: &Side, plan: &Plan) -> Vec<Quoted> {
     let mut all = Vec::new();
     for (guest, own) in plan.listed().iter().enumerate() {
         for task in own.places() {
             let verdict = (side.task_verdict)(plan, own.id, task as u32 + 1);
-            if verdict.verdict == YES {
+            if verdict.ticks > 0 {
                 all.push(Quoted {
                     guest,
                     task,

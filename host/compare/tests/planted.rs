@@ -39,6 +39,40 @@ fn an_analysis_that_quotes_one_response_for_all_plans() {
     }));
 }
 
+#[test]
+fn a_search_that_still_stops_at_the_deadline() {
+    assert!(!passes(Side {
+        task_verdict: |plan, id, task| {
+            let right = verdict::task_verdict(plan, id, task);
+            let ticks = if right.verdict == YES { right.ticks } else { 0 };
+            Verdict { ticks, ..right }
+        },
+        ..REFERENCE
+    }));
+}
+
+#[test]
+fn an_acceptance_that_takes_unmet_with_a_response_for_met() {
+    assert!(!passes(Side {
+        accept: |plan| {
+            let right = verdict::accept(plan);
+            let quoted = right.verdict == NO && all_quoted(plan);
+            let verdict = if quoted { YES } else { right.verdict };
+            Verdict { verdict, ..right }
+        },
+        ..REFERENCE
+    }));
+}
+
+/// Whether every task of the plan is quoted a response.
+fn all_quoted(plan: &Plan) -> bool {
+    plan.listed().iter().all(|guest| {
+        guest
+            .places()
+            .all(|task| verdict::task_verdict(plan, guest.id, task as u32 + 1).ticks > 0)
+    })
+}
+
 /// The reference's verdict, but another where that is met.
 fn instead_of_met(plan: &Plan, id: u32, task: u32, verdict: u32, ticks: u32) -> Verdict {
     let right = verdict::task_verdict(plan, id, task);

@@ -42,10 +42,11 @@ fn guest_line(plan: &Plan, id: u32) -> String {
 
 fn task_line(plan: &Plan, id: u32, task: u32) -> String {
     let verdict = task_verdict(plan, id, task);
-    match verdict.verdict {
-        YES => format!("task {task} met {}\n", verdict.ticks),
-        UNJUDGED => format!("task {task} unjudged\n"),
-        _ => format!("task {task} unmet\n"),
+    match (verdict.verdict, verdict.ticks) {
+        (YES, r) => format!("task {task} met {r}\n"),
+        (UNJUDGED, _) => format!("task {task} unjudged\n"),
+        (_, 0) => format!("task {task} unmet\n"),
+        (_, r) => format!("task {task} unmet {r}\n"),
     }
 }
 

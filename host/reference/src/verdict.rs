@@ -8,7 +8,7 @@ use crate::plan::{Guest, Plan, Refusal, task_place, well_formed};
 /// A guest is fitted, with its response; or a task is met; or the plan is accepted; or a capacity works.
 pub const YES: u32 = 1;
 
-/// A guest is unfit; or a task is unmet; or the plan is not accepted.
+/// A guest is unfit; or a task is unmet, with its response if that is at most its period; or the plan is not accepted.
 pub const NO: u32 = 2;
 
 /// A task is unjudged.
@@ -79,7 +79,8 @@ fn judge_task(plan: &Plan, id: u32, task: u32) -> Result<Verdict, Refusal> {
         return Ok(Verdict::new(UNJUDGED, 0));
     }
     Ok(match task_response(plan, guest, task) {
-        Some(r) => Verdict::new(YES, r),
+        Some(r) if r <= plan.guests[guest].deadline[task] => Verdict::new(YES, r),
+        Some(r) => Verdict::new(NO, r),
         None => Verdict::new(NO, 0),
     })
 }
@@ -110,8 +111,9 @@ pub fn works(plan: &Plan, guest: usize, capacity: u32) -> bool {
 
 /// Whether all tasks of a guest that is judged are met.
 fn all_met(plan: &Plan, guest: usize) -> bool {
-    let mut tasks = plan.guests[guest].places();
-    tasks.all(|task| task_response(plan, guest, task).is_some())
+    let own = &plan.guests[guest];
+    own.places()
+        .all(|task| task_response(plan, guest, task).is_some_and(|r| r <= own.deadline[task]))
 }
 
 /// A task is unjudged if its own guest or any guest above is unfit.
@@ -133,13 +135,13 @@ pub fn guest_response(plan: &Plan, guest: usize) -> Option<u32> {
     (1..=period).find(|x| u128::from(*x) == u128::from(capacity) + taken_above(above, (*x).into()))
 }
 
-/// The least w of at least 1 that solves the equation with w + J at most the deadline, as w + J.
+/// The least w of at least 1 that solves the equation with w + J at most the task's period, as w + J.
 pub fn task_response(plan: &Plan, guest: usize, task: usize) -> Option<u32> {
     let above = &plan.guests[..guest];
     let own = &plan.guests[guest];
     let jitter = own.period - own.capacity;
     (1..)
-        .take_while(|w| w + jitter <= own.deadline[task])
+        .take_while(|w| w + jitter <= own.every[task])
         .find(|w| u128::from(*w) == right_side(above, own, task, u128::from(*w)))
         .map(|w| w + jitter)
 }

@@ -18,6 +18,9 @@ pub enum GuestVerdict {
 pub enum TaskVerdict {
     /// Met, with its response in ticks.
     Met(u32),
+    /// Unmet, with its response in ticks: past the deadline, and at most its period.
+    UnmetAt(u32),
+    /// Unmet, and no response is at most its period.
     Unmet,
     /// Its own guest or a guest above is unfit.
     Unjudged,
@@ -154,14 +157,15 @@ impl Plan {
     ///     Guest::new(9, 8, 20, &[[10, 50, 50], [8, 100, 79]]),
     /// ]);
     /// assert_eq!(plan.task_verdict(9, 1), Ok(TaskVerdict::Met(36)));
-    /// assert_eq!(plan.task_verdict(9, 2), Ok(TaskVerdict::Unmet));
+    /// assert_eq!(plan.task_verdict(9, 2), Ok(TaskVerdict::UnmetAt(80)));
     /// assert_eq!(plan.task_verdict(9, 3).unwrap_err().number, 8);
     /// ```
     pub fn task_verdict(&self, id: u32, task: u32) -> Result<TaskVerdict, Refusal> {
         let verdict = exports::task_verdict(self, id, task).taken()?;
-        Ok(match verdict.verdict {
-            1 => TaskVerdict::Met(verdict.ticks),
-            2 => TaskVerdict::Unmet,
+        Ok(match (verdict.verdict, verdict.ticks) {
+            (1, response) => TaskVerdict::Met(response),
+            (2, 0) => TaskVerdict::Unmet,
+            (2, response) => TaskVerdict::UnmetAt(response),
             _ => TaskVerdict::Unjudged,
         })
     }

@@ -14,6 +14,9 @@ enum-known-number c = search needs
 enum-known-r : tie.Need-enum-known-r
 enum-known-r c = search needs
 
+enum-known-r-2 : tie.Need-enum-known-r-2
+enum-known-r-2 c = search needs
+
 enum-told : tie.Need-enum-told
 enum-told c = search needs
 
@@ -32,11 +35,16 @@ returns-2 c =
 
 returns-3 : tie.Need-returns-3
 returns-3 c =
-    let judged = c .before .before in
-    ap (taskShown (judged .before .args .task)) (sym (c .enum-told .given .1) ∙ judged .task-verdict .ensures)
+    let judged = c .before .before .before in
+    ap (taskShown (judged .before .args .task)) (sym (c .before .r2 .given .1) ∙ judged .task-verdict .ensures)
 
 returns-4 : tie.Need-returns-4
 returns-4 c =
+    let judged = c .before .before in
+    ap (taskShown (judged .before .args .task)) (sym (c .enum-told .given .1) ∙ judged .task-verdict .ensures)
+
+returns-5 : tie.Need-returns-5
+returns-5 c =
     let judged = c .before .before in
     ap (taskShown (judged .before .args .task)) (sym (c .enum-told2 .given .1) ∙ judged .task-verdict .ensures)
 
@@ -47,9 +55,11 @@ task-line-spec =
     task-verdict-requires
     enum-known-number
     enum-known-r
+    enum-known-r-2
     enum-told
     enum-told-2
     returns
     returns-2
     returns-3
-    returns-4)
+    returns-4
+    returns-5)

@@ -85,6 +85,7 @@ pub extern "C" fn guest_verdict(plan: Plan, id: u32) -> Verdict {
 pub extern "C" fn task_verdict(plan: Plan, id: u32, task: u32) -> Verdict {
     verdict(plan.task_verdict(id, task).map(|found| match found {
         TaskVerdict::Met(ticks) => (1, ticks),
+        TaskVerdict::UnmetAt(ticks) => (2, ticks),
         TaskVerdict::Unmet => (2, 0),
         TaskVerdict::Unjudged => (3, 0),
     }))

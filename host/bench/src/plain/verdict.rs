@@ -5,6 +5,7 @@ use crate::{Guest, Plan, Refusal};
 #[derive(Clone, Copy, Debug, PartialEq, Eq)]
 pub enum TaskVerdict {
     Met(u32),
+    UnmetAt(u32),
     Unmet,
     Unjudged,
 }
@@ -24,8 +25,10 @@ impl Plan {
             return Ok(TaskVerdict::Unjudged);
         }
         let (above, own) = (&self.guests[..guest], &self.guests[guest]);
-        Ok(match task_response(above, own, own.capacity, task) {
-            Some(response) => TaskVerdict::Met(response),
+        let found = task_response(above, own, own.capacity, task, own.every[task]);
+        Ok(match found {
+            Some(response) if response <= own.deadline[task] => TaskVerdict::Met(response),
+            Some(response) => TaskVerdict::UnmetAt(response),
             None => TaskVerdict::Unmet,
         })
     }
@@ -70,15 +73,22 @@ pub fn guest_response(above: &[Guest], capacity: u32, period: u32) -> Option<u32
 
 /// Whether all tasks of a judged guest are met at this capacity.
 pub fn all_met(above: &[Guest], own: &Guest, capacity: u32) -> bool {
-    (0..own.tasks as usize).all(|task| task_response(above, own, capacity, task).is_some())
+    (0..own.tasks as usize)
+        .all(|task| task_response(above, own, capacity, task, own.deadline[task]).is_some())
 }
 
-/// The response of a task of a judged guest at this capacity: the recurrence from 1 on, cut off where
-/// no solution can be within the deadline.
-fn task_response(above: &[Guest], own: &Guest, capacity: u32, task: usize) -> Option<u32> {
+/// The response of a task of a judged guest at this capacity, at most `most`: the recurrence from 1 on,
+/// cut off where no solution can be within it.
+fn task_response(
+    above: &[Guest],
+    own: &Guest,
+    capacity: u32,
+    task: usize,
+    most: u32,
+) -> Option<u32> {
     let period = own.period;
     let gap = period - capacity;
-    let limit = own.deadline[task].checked_sub(gap)?;
+    let limit = most.checked_sub(gap)?;
     let mut w = 1;
     while w <= limit {
         let load = load(own, task, w + gap);

@@ -15,7 +15,7 @@ fn an_unfit_guest() {
         Guest::new(2, 4, 6, &[[1, 100, 100]]),
     ]);
     let lines =
-        "guest 1 fitted 2\ntask 1 unmet\nguest 2 unfit\ntask 1 unjudged\nplan not accepted\n";
+        "guest 1 fitted 2\ntask 1 unmet 4\nguest 2 unfit\ntask 1 unjudged\nplan not accepted\n";
     assert_eq!(text(&blocks_of(&plan)), lines);
 }
 

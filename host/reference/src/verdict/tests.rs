@@ -13,6 +13,10 @@ fn met_with(r: u32) -> Verdict {
     Verdict::new(YES, r)
 }
 
+fn unmet_with(r: u32) -> Verdict {
+    Verdict::new(NO, r)
+}
+
 fn refused(number: u32, place: u32) -> Verdict {
     Verdict::of(Err(Refusal::new(number, place)))
 }
@@ -70,8 +74,8 @@ fn case_2_plan_a() {
     assert_eq!(task_verdict(&exact, 9, 1), met_with(36));
     assert_eq!(task_verdict(&exact, 9, 2), met_with(80));
     let short = plan_a_with([35, 79]);
-    assert_eq!(task_verdict(&short, 9, 1), UNMET);
-    assert_eq!(task_verdict(&short, 9, 2), UNMET);
+    assert_eq!(task_verdict(&short, 9, 1), unmet_with(36));
+    assert_eq!(task_verdict(&short, 9, 2), unmet_with(80));
     assert_eq!(accept(&short), Verdict::new(NO, 0));
 }
 
@@ -82,7 +86,17 @@ fn case_3_the_right_side_falls() {
     let right = |w| right_side(&plan.guests[..1], &plan.guests[1], 1, w);
     assert_eq!((right(20), right(21), right(22)), (20, 28, 23));
     plan.guests[1].deadline[1] = 29;
-    assert_eq!(task_verdict(&plan, 2, 2), UNMET);
+    assert_eq!(task_verdict(&plan, 2, 2), unmet_with(30));
+}
+
+#[test]
+fn a_response_past_the_period_is_not_quoted() {
+    let of = |every, deadline| Plan::new(&[Guest::new(1, 2, 5, &[[3, every, deadline]])]);
+    assert_eq!(task_verdict(&of(9, 9), 1, 1), met_with(9));
+    assert_eq!(task_verdict(&of(9, 8), 1, 1), unmet_with(9));
+    assert_eq!(task_verdict(&of(8, 8), 1, 1), UNMET);
+    assert_eq!(accept(&of(9, 9)), Verdict::new(YES, 0));
+    assert_eq!(accept(&of(9, 8)), Verdict::new(NO, 0));
 }
 
 #[test]

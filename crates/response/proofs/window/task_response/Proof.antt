@@ -11,11 +11,11 @@ use Rattle.response.proofs.window.task_response.Statement.{statement}
 use Rattle.response.proofs.window.task_response.Tie as tie
 
 abbrev Inv-loop : tie.InvT-loop
-Inv-loop capacities periods n capacity period run every i deadline gap limit w₀ w =
+Inv-loop capacities periods n capacity period run every i most gap limit w₀ w =
     TaskInv (equationOf (guestsTake capacities periods n) capacity period run every i) limit w
 
 abbrev μ-loop : tie.MeasureT-loop
-μ-loop capacities periods n capacity period run every i deadline gap limit w₀ w = limit - w
+μ-loop capacities periods n capacity period run every i most gap limit w₀ w = limit - w
 
 sub-gap : tie.Need-sub-gap Inv-loop μ-loop
 sub-gap c = search needs
