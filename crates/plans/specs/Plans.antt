@@ -6,7 +6,7 @@ use Rattle.plan.specs.Records.{blank}
 use Rattle.plan.specs.declared.Guest.{Guest}
 use Rattle.plan.specs.declared.Plan.{Plan}
 
--- a padded of 16, zeros past its entries
+-- a column of 16, zeros past its entries
 abbrev pub padded : List ℕ → List ℕ
 padded l = take 16 (l ++ replicate 16 0)
 
