@@ -33,7 +33,7 @@ typedef struct CsGuest {
     uint32_t capacity;     /* 1 to the period */
     uint32_t period;       /* 1 to 1,000,000 ticks */
     uint32_t tasks;        /* number of tasks, 1 to 16 */
-    uint16_t charge;       /* added once to every task's run */
+    uint16_t charge;       /* added twice to every task's run: the switch in and the switch out */
     uint32_t run[16];      /* 1 to 1,000,000 */
     uint32_t every[16];    /* the task's period, 1 to 1,000,000 */
     uint32_t deadline[16]; /* 1 to the task's period */

@@ -55,9 +55,9 @@ pub fn new_id(ids: &[u32; 16], k: usize) -> bool
     ok
 }
 
-// The charge is added once.
+// The charge is added for both switches.
 pub fn charged_run(run: u32, charge: u16) -> u64
     ensures { λ r. ⌜ r ≡ chargedRun run charge ⌝ }
 {
-    (run as u64) + (charge as u64)
+    (run as u64) + 2 * (charge as u64)
 }

@@ -39,8 +39,8 @@ pub record Numbers : Type 0 where
   pub right-20 : taskRight (planC 31) 1 1 20 ≡ 20
   pub right-21 : taskRight (planC 31) 1 1 21 ≡ 28
   pub right-22 : taskRight (planC 31) 1 1 22 ≡ 23
-  -- 4: a charge of 1
-  pub charged : taskVerdict (planA 1 50 100) 9 1 ≡ Met 37
+  -- 4: a charge of 1, for both switches
+  pub charged : taskVerdict (planA 1 50 100) 9 1 ≡ Met 40
   -- 5: the smallest capacity, and the one below it
   pub smallest : smallestCapacity (planA 0 50 100) 9 ≡ Smallest 7
   pub first-at-7 : taskVerdict (withCapacity (planA 0 50 100) 1 7) 9 1 ≡ Met 38

@@ -71,7 +71,7 @@ fn damage(random: &mut Random, state: &mut Dispatcher) {
     let task = random.below(16);
     let any = random.below(PLACES);
     let place = random.pick(&[place_of(at, task), any]);
-    let charged = guest.run[task].wrapping_add(guest.charge.into());
+    let charged = guest.run[task].wrapping_add(2 * u32::from(guest.charge));
     let value = random.edge();
     let over = |most: u32, random: &mut Random| random.pick(&[most.wrapping_add(1), most, value]);
     match random.below(9) {

@@ -78,9 +78,9 @@ impl Guest {
         guest
     }
 
-    /// The charge is added once to every task's run.
+    /// The charge is added twice to every task's run, the lowest's too: the switch in and the switch out.
     pub fn charged_run(&self, task: usize) -> u32 {
-        self.run[task] + u32::from(self.charge)
+        self.run[task] + 2 * u32::from(self.charge)
     }
 
     /// The tasks' places in the record, from 0.

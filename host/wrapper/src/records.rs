@@ -17,7 +17,7 @@ pub struct Guest {
     pub period: u32,
     /// The number of tasks, 1 to 16.
     pub tasks: u32,
-    /// Added once to every task's run.
+    /// Added twice to every task's run: the switch in and the switch out.
     pub charge: u16,
     /// Each task's run, 1 to 1,000,000.
     pub run: [u32; 16],

@@ -39,7 +39,7 @@ impl Refusal {
 
 impl Guest {
     pub fn charged_run(&self, task: usize) -> u32 {
-        self.run[task] + u32::from(self.charge)
+        self.run[task] + 2 * u32::from(self.charge)
     }
 
     pub fn head_in_range(&self) -> bool {

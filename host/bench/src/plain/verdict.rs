@@ -111,9 +111,9 @@ fn task_response(
 
 fn load(own: &Guest, task: usize, window: u32) -> u64 {
     let above = own.run[..task].iter().zip(&own.every[..task]);
+    let charge = 2 * u32::from(own.charge);
     above.fold(u64::from(own.charged_run(task)), |sum, (run, every)| {
-        let charged = u64::from(run + u32::from(own.charge));
-        sum + u64::from(window.div_ceil(*every)) * charged
+        sum + u64::from(window.div_ceil(*every)) * u64::from(run + charge)
     })
 }
 

@@ -214,7 +214,11 @@ fn each_range_of_a_state() {
     assert!(refused_with(|state| state.rest[task] = 9));
     assert!(!refused_with(|state| {
         state.plan.guests[1].charge = 1;
-        state.rest[task] = 9;
+        state.rest[task] = 10;
+    }));
+    assert!(refused_with(|state| {
+        state.plan.guests[1].charge = 1;
+        state.rest[task] = 11;
     }));
     assert!(!refused_with(|state| state.wait[task] = 100));
     assert!(refused_with(|state| state.wait[task] = 101));

@@ -103,7 +103,7 @@ fn a_response_past_the_period_is_not_quoted() {
 fn case_4_a_charge() {
     let mut plan = plan_a();
     plan.guests[1].charge = 1;
-    assert_eq!(task_verdict(&plan, 9, 1), met_with(37));
+    assert_eq!(task_verdict(&plan, 9, 1), met_with(40));
 }
 
 #[test]
@@ -173,9 +173,9 @@ fn more_cases_where_the_right_side_falls() {
 fn nothing_wraps_at_the_largest_numbers() {
     let mut lowest = Guest::new(1, 1, 1_000_000, &[[1_000_000, 1, 1]; 16]);
     lowest.charge = 65_535;
-    let load_of_15 = 15 * 1_065_535u128 * 1_999_998;
-    assert_eq!(load(&lowest, 15, 999_999), 1_065_535 + load_of_15);
-    let n = 1_065_535 + load_of_15;
+    let load_of_15 = 15 * 1_131_070u128 * 1_999_998;
+    assert_eq!(load(&lowest, 15, 999_999), 1_131_070 + load_of_15);
+    let n = 1_131_070 + load_of_15;
     assert_eq!(right_side(&[], &lowest, 15, 999_999), n + (n - 1) * 999_999);
     lowest.every[15] = 1_000_000;
     lowest.deadline[15] = 1_000_000;

@@ -4,6 +4,9 @@ use Rattle.plan.specs.Charge.{chargedRun}
 use Rattle.plan.proofs.tests.charged_run.Statement.{statement}
 use Rattle.plan.proofs.tests.charged_run.Tie as tie
 
+mul-result : tie.Need-mul-result
+mul-result c = search needs
+
 add-result : tie.Need-add-result
 add-result c = search needs
 
@@ -12,4 +15,4 @@ unfolding chargedRun
 returns c = search needs
 
 pub charged-run-spec : {M : Type 1} → statement M
-charged-run-spec = tie.close (tie.spec add-result returns)
+charged-run-spec = tie.close (tie.spec mul-result add-result returns)
