@@ -125,6 +125,19 @@ unfolding firstFrom
 first-found f zero k h = absurd (omega arith)
 first-found f (suc m) k h = found-by f m k (firstFrom f m (suc k)) (f k) refl (first-found f m (suc k)) h
 
+-- it is no further than the places go
+le-by : (b : Bool) (k m r : ℕ) → r ≤ suc k + m → pick b k r ≤ k + suc m
+le-by true k m r h = omega arith
+le-by false k m r h = omega arith
+
+first-le-add : (f : ℕ → Bool) (m k : ℕ) → firstFrom f m k ≤ k + m
+unfolding firstFrom
+first-le-add f zero k = omega arith
+first-le-add f (suc m) k = le-by (f k) k m (firstFrom f m (suc k)) (first-le-add f m (suc k))
+
+pub first-le : (f : ℕ → Bool) (n : ℕ) → firstFrom f n 0 ≤ n
+first-le f n = omega (arith, first-le-add f n 0)
+
 -- tests that agree find the same place
 pub first-ext : (f g : ℕ → Bool) (m k : ℕ) → ((z : ℕ) → z < k + m → f z ≡ g z) → firstFrom f m k ≡ firstFrom g m k
 unfolding firstFrom
