@@ -1,29 +1,71 @@
 -- Laws of the quotient rounded up. Assumes nothing.
-use mathlib.Core.Path.{_≡_, refl}
-use Prim.Native.Nat.{ℕ, zero, suc, _+_, _-_, _*_, _≤_, _<_}
-use native.Mathlib.Nat.{le-of-suc-le-suc, div-lt-iff-lt-mul, lt-div-mul-add, div-zero, le-mul-of-pos-right, le-div-iff-mul-le}
+use mathlib.Core.Path.{_≡_, refl, sym, _∙_}
+use mathlib.Core.Bool.{Bool, false≢true}
+use Prim.Native.Nat.{ℕ, zero, suc, _+_, _-_, _*_, _/_, _%_, _≤_, _<_}
+use native.Mathlib.Nat.{lt-div-mul-add, div-mul-le-self, div-zero, le-mul-of-pos-right, lt-of-mul-lt-mul-right, div-add-mod', mod-lt}
+use native.Mathlib.Decide.{decLt}
 use native.Mathlib.Omega.{arith}
+use lib.Dec.{leb}
+use borrow.Author.Tests.{leb-true, le-leb}
+use Rattle.lists.specs.Search.{firstFrom}
 use Rattle.rounding.specs.Up.{up}
+use Rattle.lists.proofs.Search.{first-found, first-le, first-before}
+
+-- whether q blocks of b hold a
+abbrev Hold : ℕ → ℕ → ℕ → Bool
+Hold a b q = leb a (q * b)
 
 -- it is the least: k blocks of b that hold a are no fewer
 pub up-least : (a b k : ℕ) → 0 < b → a ≤ k * b → up a b ≤ k
 unfolding up
-up-least a b k pos h = le-of-suc-le-suc (div-lt-iff-lt-mul pos .1 (omega arith))
+up-least a zero k pos h = absurd (omega arith)
+up-least a (suc b) k pos h =
+    elim (decLt k (firstFrom (Hold a (suc b)) a 0)) [
+      | yes l ↦ absurd (false≢true (sym (first-before (Hold a (suc b)) a 0 k (omega arith) l) ∙ le-leb a (k * suc b) h))
+      | no n ↦ omega arith
+    ]
 
 -- that many blocks hold a
 pub up-holds : (a b : ℕ) → 0 < b → a ≤ up a b * b
 unfolding up
-up-holds a b pos = omega (arith, lt-div-mul-add {a = a + (b - 1)} {b = b} pos)
+up-holds a zero pos = absurd (omega arith)
+up-holds a (suc b) pos =
+    elim (decLt (firstFrom (Hold a (suc b)) a 0) a) [
+      | yes l ↦ leb-true _ _ (first-found (Hold a (suc b)) a 0 (omega arith))
+      | no n ↦
+          let e : firstFrom (Hold a (suc b)) a 0 ≡ a = omega (arith, first-le (Hold a (suc b)) a) in
+          rw e (le-mul-of-pos-right a (omega arith))
+    ]
 
 -- a count whose last block begins before a's end
 pub le-up : (m a b : ℕ) → 0 < b → m * b < a + b → m ≤ up a b
-unfolding up
-le-up m a b pos h = le-div-iff-mul-le {k = b} {x = m} {y = a + (b - 1)} pos .1 (omega arith)
+le-up m a b pos h =
+    let l : m < suc (up a b) = lt-of-mul-lt-mul-right b (omega (arith, up-holds a b pos)) in
+    omega arith
 
 -- by a divisor 0 it is 0
 pub up-zero : (a : ℕ) → up a 0 ≡ 0
 unfolding up
-up-zero a = div-zero (a + (0 - 1))
+up-zero a = refl
+
+-- q blocks that hold a, of which the last begins before a's end, are as many
+up-is : (a b q : ℕ) → 0 < b → a ≤ q * b → q * b < a + b → up a b ≡ q
+up-is a b q pos h l = omega (arith, up-least a b q pos h, le-up q a b pos l)
+
+-- it is what the sum with the divisor less one gives
+pub up-by-sum : (a b : ℕ) → up a b ≡ (a + (b - 1)) / b
+up-by-sum a zero = up-zero a ∙ sym (div-zero (a + (0 - 1)))
+up-by-sum a (suc b) =
+    let s = a + (suc b - 1) in
+    up-is a (suc b) (s / suc b) (omega arith) (omega (arith, lt-div-mul-add {a = s} {b = suc b} (omega arith))) (omega (arith, div-mul-le-self s (suc b)))
+
+-- where nothing is left over it is the quotient,
+pub up-whole : (a b : ℕ) → 0 < b → a % b ≡ 0 → up a b ≡ a / b
+up-whole a b pos e = up-is a b (a / b) pos (omega (arith, div-add-mod' a b)) (omega (arith, div-add-mod' a b))
+
+-- and otherwise one more
+pub up-more : (a b : ℕ) → 0 < b → 0 < a % b → up a b ≡ a / b + 1
+up-more a b pos r = up-is a b (a / b + 1) pos (omega (arith, div-add-mod' a b, mod-lt a pos)) (omega (arith, div-add-mod' a b))
 
 -- it grows with a, for every divisor
 pub up-mono : (b : ℕ) {a a′ : ℕ} → a ≤ a′ → up a b ≤ up a′ b

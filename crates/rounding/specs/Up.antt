@@ -1,6 +1,9 @@
--- The quotient rounded up: the least whole number not below it.
-use Prim.Native.Nat.{ℕ, _+_, _-_, _/_}
+-- The quotient rounded up.
+use Prim.Native.Nat.{ℕ, zero, suc, _*_}
+use lib.Dec.{leb}
+use Rattle.lists.specs.Search.{firstFrom}
 
--- a / b rounded up, by adding the divisor less one; 0 for a divisor 0
+-- a / b rounded up: the least whole number q that is not below it, that is, with a at most q times b; 0 for a divisor 0
 unfoldable pub up : ℕ → ℕ → ℕ
-up a b = (a + (b - 1)) / b
+up a zero = 0
+up a (suc b) = firstFrom (λ q. leb a (q * suc b)) a 0

@@ -19,14 +19,19 @@ pub fn capped(x: u64) -> u64
     if x < 4294967296 { x } else { 4294967296 }
 }
 
-// a / b rounded up: the divisor less one is added.
+// a / b rounded up: the quotient, and one more if a remainder is left.
 pub fn quotient(a: u32, b: u32) -> u64
     ensures { λ r. ⌜ r ≡ up a b ⌝ }
 {
     if b < 1 {
         return 0;
     }
-    (wide(a) + (wide(b) - 1)) / wide(b)
+    let q = a / b;
+    let r = a % b;
+    if r < 1 {
+        return wide(q);
+    }
+    wide(q) + 1
 }
 
 // What one asks of a window of v ticks.
