@@ -84,5 +84,20 @@ pub fn check(plan: Plan) -> Refusal
     }
     let c = columns_of(plan);
     let ids = c.ids;
-    guests::first_refused(plan, &ids, n as usize)
+    let many = n as usize;
+    let mut k: usize = 0;
+    while k < many {
+        let number = guests::guest_number(plan.guests[k], tests::new_id(&ids, k));
+        if 0 < number {
+            return Refusal {
+                number,
+                place: k as u32,
+            };
+        }
+        k += 1;
+    }
+    Refusal {
+        number: 0,
+        place: 0,
+    }
 }
