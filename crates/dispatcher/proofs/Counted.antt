@@ -21,7 +21,7 @@ counted-by true true d h w = rw (h, h, w, lt-ltb 0 (restAt d (holder d) (worker 
 counted-by true false d h w = rw (h, h, w) refl
 
 -- the tick is counted as the rule says
-pub counted : (d : Dispatcher) {n : ℕ} {t : Turn} → t ≡ turn d → d .plan .count ≡ n
+pub tick-counted : (d : Dispatcher) {n : ℕ} {t : Turn} → t ≡ turn d → d .plan .count ≡ n
     → tallied (ltb (t .guest) n) (ltb 0 (t .had)) (t .guest) (d .usage) ≡ usageAfter d
 unfolding usageAfter
-counted d e c = rw (e, ← c) (counted-by (isHeld d) (isWorked d) d refl refl)
+tick-counted d e c = rw (e, ← c) (counted-by (isHeld d) (isWorked d) d refl refl)

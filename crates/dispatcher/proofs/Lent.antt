@@ -30,7 +30,7 @@ use Rattle.lists.proofs.Places.{upTo-get, upTo-ext, upTo-short}
 use Rattle.lists.proofs.Search.{first-found}
 use Rattle.plan.proofs.Order.{plan-in}
 use Rattle.dispatcher.proofs.Pass.{past-task-is}
-use Rattle.dispatcher.proofs.Counted.{counted}
+use Rattle.dispatcher.proofs.Counted.{tick-counted}
 
 -- the guest that was found has capacity left
 pub has-left : (left : List ℕ) (n k : ℕ) → k ≡ firstFrom (hasLeft left) n 0 → k < n → 1 ≤ nth left k
@@ -142,7 +142,7 @@ module _ {p : Plan} {n : ℕ} {capacities periods tasks : List ℕ} (u : Columne
   stepped e f g h few z serves i =
       let s = serves (stateOf p left position rest wait age usage) record { count = u .count; many = u .many; filled = e ∙ refilled-is; runs = refl } in
       record {
-        state = rw (s .lefts, f, onward-is, s .runs, g, h, fallen-short few z, grown-short few z age, i, counted _ (s .had) (u .count)) refl;
+        state = rw (s .lefts, f, onward-is, s .runs, g, h, fallen-short few z, grown-short few z age, i, tick-counted _ (s .had) (u .count)) refl;
         had = s .had;
       }
 

@@ -1,8 +1,8 @@
 -- How one pass over the records comes to refusal 14's test and to the columns. Assumes nothing.
-use mathlib.Core.Path.{_≡_, refl, sym, _∙_}
+use mathlib.Core.Path.{_≡_, refl, ap, sym, _∙_}
 use mathlib.Core.Bool.{Bool, true, false, false≢true, _&&_}
 use mathlib.Core.List.{List, []}
-use Prim.Native.Nat.{ℕ, zero, suc, _+_, _≤_, _<_}
+use Prim.Native.Nat.{ℕ, _+_, _≤_, _<_}
 use native.Mathlib.Decide.{decLt}
 use native.Mathlib.Omega.{arith}
 use lib.Dec.{ltb, eqb}
@@ -12,9 +12,10 @@ use Rattle.lists.specs.Choice.{pick}
 use Rattle.lists.specs.Places.{nth}
 use Rattle.lists.specs.All.{allTo}
 use Rattle.plan.specs.declared.Plan.{Plan}
+use Rattle.plan.specs.declared.Refusal.{Refusal}
 use Rattle.plan.specs.Records.{guestAt}
 use Rattle.plan.specs.Ranges.{tasksOk}
-use Rattle.plan.specs.First.{refused, orElse, firstRefused}
+use Rattle.plan.specs.First.{refused}
 use Rattle.plan.specs.Order.{newId, numberOf, guestNumber, planRefusal}
 use Rattle.plan.specs.Filled.{Filled}
 use Rattle.dispatcher.specs.declared.Dispatcher.{Dispatcher}
@@ -26,7 +27,7 @@ use Rattle.arrays.specs.Rows.{jobIn, blankAt, guestIsOk, rowIsBlank}
 use Rattle.dispatcher.specs.Lent.{Examines, guestGoes, ColumnsIn}
 use Rattle.lists.proofs.All.{and-left, and-right, and-true, all-turn, all-by, all-at, all-ext}
 use Rattle.lists.proofs.Refusals.{passed}
-use Rattle.plan.proofs.First.{none-refused}
+use Rattle.plan.proofs.First.{none-refused, first-fine}
 use Rattle.plan.proofs.Order.{none, counted}
 use Rattle.plan.proofs.Filled.{filled-next, filled-done}
 use Rattle.plan.specs.Ranges as ranges
@@ -128,16 +129,10 @@ same true b f g = sym (f refl)
 same false true f g = g refl
 same false false f g = refl
 
--- no place has a number, so there is no refusal
-first-zero : (f : ℕ → ℕ) (m k : ℕ) → ((z : ℕ) → k ≤ z → z < k + m → f z ≡ 0) → firstRefused f m k .number ≡ 0
-unfolding firstRefused orElse
-first-zero f zero k h = refl
-first-zero f (suc m) k h = rw (h k (omega arith) (omega arith)) (first-zero f m (suc k) (λ z l b. h z (omega arith) (omega arith)))
-
 module _ (d : Dispatcher) (some : 1 ≤ d .plan .count) (few : d .plan .count ≤ 8) where
   -- no guest is refused: the plan is not
   numbers-none : ((k : ℕ) → k < d .plan .count → guestNumber (d .plan .guests) k ≡ 0) → planRefusal (d .plan) .number ≡ 0
-  numbers-none h = rw (← counted (d .plan) some few) (first-zero _ (d .plan .count) 0 (λ z l b. h z (omega arith)))
+  numbers-none h = rw (← counted (d .plan) some few) (ap (λ (r : Refusal). r .number) (first-fine _ (d .plan .count) 0 (λ z l b. h z (omega arith))))
 
   -- the plan is not refused: no guest is
   number-zero : planRefusal (d .plan) .number ≡ 0 → (k : ℕ) → k < d .plan .count → guestNumber (d .plan .guests) k ≡ 0

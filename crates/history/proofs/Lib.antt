@@ -22,6 +22,7 @@ pub mod Since
 pub mod Clocks
 -- The invariants that are kept.
 pub mod Share
+pub mod Accounts
 pub mod Usage
 pub mod Capacity
 pub mod Quote

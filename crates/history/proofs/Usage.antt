@@ -1,10 +1,10 @@
 -- The numbers beside a state count the ticks of its history. Strategy: a tick adds one where its answer is counted, modulo 2 to the 64. Assumes nothing.
-use mathlib.Core.Path.{_≡_, refl, ap, sym, subst, _∙_}
+use mathlib.Core.Path.{_≡_, refl, ap, subst, _∙_}
 use mathlib.Core.List.{List, [], _∷_, _++_}
-use Prim.Native.Nat.{ℕ, suc, _+_, _%_, _≤_, _<_}
-use native.Mathlib.Decide.{decLt, ℕ-discrete}
+use Prim.Native.Nat.{ℕ, _+_, _%_, _≤_, _<_}
+use native.Mathlib.Decide.{decLt}
 use native.Mathlib.Omega.{arith}
-use lib.ListN.{length, length-append, replicate, getD-replicate}
+use lib.ListN.{length, replicate, getD-replicate}
 use borrow.Author.Tests.{eq-eqb, ne-eqb}
 use Rattle.lists.specs.Places.{nth}
 use Rattle.lists.specs.Sum.{sumTo}
@@ -20,121 +20,24 @@ use Rattle.dispatcher.specs.Answer.{holderId, answer}
 use Rattle.dispatcher.specs.Release.{taken}
 use Rattle.dispatcher.specs.Fresh.{idle}
 use Rattle.history.specs.Calls.{Call, start, play, ticksIn, answers}
-use Rattle.history.specs.Share.{bit, names, countOf}
-use Rattle.history.specs.Usage.{idles, unhad, inAll, Accounts}
-use Rattle.lists.proofs.Sum.{sum-same, sum-change, sum-zero}
+use Rattle.history.specs.Share.{bit, names}
+use Rattle.history.specs.Usage.{idles, unhad, Accounts}
+use Rattle.lists.proofs.Sum.{sum-zero}
 use Rattle.plan.proofs.Order.{PlanIn, plan-in}
-use Rattle.arrays.proofs.Tallies.{more-long, more-here, more-else}
+use Rattle.arrays.proofs.Tallies.{more-long}
 use Rattle.analysis.proofs.Ids.{idOf, id-one}
 use Rattle.history.proofs.Next.{is-held, not-held, is-worked, not-worked}
 use Rattle.history.proofs.Answered.{answer-nobody, answer-idled, answer-worked, answer-finished, names-mine, names-else}
 use Rattle.history.proofs.Play.{Sound, Any, any, play-keeps, answers-length}
 use Rattle.history.proofs.Fresh.{fresh-idle}
-use Rattle.history.proofs.Share.{count-none, count-next}
+use Rattle.history.proofs.Share.{count-none}
 use Rattle.history.proofs.Clocks.{sound-start}
-
--- what one answer more adds to a count
-all-next : (f : Answer → ℕ) (l : List Answer) (a : Answer) → inAll f (l ++ (a ∷ [])) ≡ inAll f l + f a
-all-next f l a =
-    let e : length (l ++ (a ∷ [])) ≡ suc (length l) = simp length-append (omega arith) in
-    ap (λ (n : ℕ). countOf f (l ++ (a ∷ [])) 0 n) e ∙ count-next f l a 0 (length l) (omega arith)
-
-module _ (f : Answer → ℕ) (l : List Answer) (a : Answer) {x y : ℕ} (e : x ≡ inAll f l % wrap) where
-  -- the answer is counted, and its place has one more
-  goes-up : f a ≡ 1 → y ≡ (x + 1) % wrap → y ≡ inAll f (l ++ (a ∷ [])) % wrap
-  goes-up h g = omega (arith, all-next f l a)
-
-  -- it is not, and the place is as it was
-  stays-put : f a ≡ 0 → y ≡ x → y ≡ inAll f (l ++ (a ∷ [])) % wrap
-  stays-put h g = omega (arith, all-next f l a)
-
--- a sum that one place adds to, whatever it wraps to
-sum-more : (u : List ℕ) (n k : ℕ) → k < n → k < length u → sumTo (nth (oneMore u k)) n + nth u k ≡ sumTo (nth u) n + (nth u k + 1) % wrap
-sum-more u n k h l = omega (arith, sum-change (nth (oneMore u k)) (nth u) n k h (λ j b q. more-else u k j q), more-here u k l)
-
--- or that none of its places do
-sum-still : (u : List ℕ) (n k : ℕ) → n ≤ k → sumTo (nth (oneMore u k)) n ≡ sumTo (nth u) n
-sum-still u n k h = sum-same (nth (oneMore u k)) (nth u) n (λ j b. more-else u k j (λ q. omega arith))
+use Rattle.history.proofs.Accounts.{by-nobody, by-worked, by-idled}
 
 -- After the answers l, what the numbers of a state are.
 record Kept (p : Plan) (l : List Answer) (d : Dispatcher) : Type 0 where
   long : length (d .usage) ≡ 17
   accounts : Accounts p l (d .usage)
-
--- by the answer of a tick: who is named, who idled, and whether nobody had it
-module _ (p : Plan) (P : PlanIn p) (l : List Answer) (a : Answer) (u : List ℕ) (long : length u ≡ 17) (A : Accounts p l u) where
-  -- nobody's
-  by-nobody : ((id : ℕ) → names id a ≡ 0) → ((id : ℕ) → idles id a ≡ 0) → unhad a ≡ 1 → Accounts p (l ++ (a ∷ [])) (oneMore u nobodys)
-  by-nobody m i z = record {
-    ticks = λ k h. stays-put (names (idOf p k)) l a (A .ticks k h) (m (idOf p k)) (more-else u 16 k (λ q. omega (arith, P .few)));
-    idled = λ k h. stays-put (idles (idOf p k)) l a (A .idled k h) (i (idOf p k)) (more-else u 16 (8 + k) (λ q. omega (arith, P .few)));
-    nobody = goes-up unhad l a (A .nobody) z (more-here u 16 (omega arith));
-    all =
-        let e : length (l ++ (a ∷ [])) ≡ suc (length l) = simp length-append (omega arith) in
-        omega (arith, A .all, sum-still u (p .count) 16 (omega (arith, P .few)), more-here u 16 (omega arith));
-  }
-
-  -- guest h's
-  module _ (h : ℕ) (in-plan : h < p .count) (mine : names (idOf p h) a ≡ 1) (others : (k : ℕ) → k < p .count → (h ≡ k → ⊥) → names (idOf p k) a ≡ 0) (z : unhad a ≡ 0) where
-    -- the ticks of each guest
-    ticks-by : (v : List ℕ) → ((k : ℕ) → k < 8 → nth v k ≡ nth (oneMore u h) k) → (k : ℕ) → k < p .count → nth v k ≡ inAll (names (idOf p k)) (l ++ (a ∷ [])) % wrap
-    ticks-by v s k b =
-        elim (ℕ-discrete h k) [
-          | yes e ↦
-              goes-up (names (idOf p k)) l a (A .ticks k b) (subst (λ (x : ℕ). names (idOf p x) a ≡ 1) e mine)
-              (s k (omega (arith, P .few)) ∙ subst (λ (x : ℕ). nth (oneMore u h) x ≡ (nth u x + 1) % wrap) e (more-here u h (omega (arith, P .few))))
-          | no n ↦
-              stays-put (names (idOf p k)) l a (A .ticks k b) (others k b n) (s k (omega (arith, P .few)) ∙ more-else u h k (λ q. n (sym q)))
-        ]
-
-    -- all of them
-    all-by : (v : List ℕ) → ((k : ℕ) → k < 8 → nth v k ≡ nth (oneMore u h) k) → nth v nobodys ≡ nth u nobodys
-        → (sumTo (nth v) (p .count) + nth v nobodys) % wrap ≡ length (l ++ (a ∷ [])) % wrap
-    all-by v s q =
-        let e : length (l ++ (a ∷ [])) ≡ suc (length l) = simp length-append (omega arith) in
-        omega (
-          arith,
-          A .all,
-          sum-same (nth v) (nth (oneMore u h)) (p .count) (λ k b. s k (omega (arith, P .few))),
-          sum-more u (p .count) h in-plan (omega (arith, P .few)),
-        )
-
-    -- where a task works
-    by-worked : ((k : ℕ) → idles (idOf p k) a ≡ 0) → Accounts p (l ++ (a ∷ [])) (oneMore u h)
-    by-worked i = record {
-      ticks = ticks-by (oneMore u h) (λ k b. refl);
-      idled = λ k b. stays-put (idles (idOf p k)) l a (A .idled k b) (i k) (more-else u h (8 + k) (λ q. omega (arith, P .few)));
-      nobody = stays-put unhad l a (A .nobody) z (more-else u h 16 (λ q. omega (arith, P .few)));
-      all = all-by (oneMore u h) (λ k b. refl) (more-else u h 16 (λ q. omega (arith, P .few)));
-    }
-
-    -- where none does
-    by-idled : idles (idOf p h) a ≡ 1 → ((k : ℕ) → k < p .count → (h ≡ k → ⊥) → idles (idOf p k) a ≡ 0) → Accounts p (l ++ (a ∷ [])) (oneMore (oneMore u h) (idledAt h))
-    by-idled one rest = record {
-      ticks = ticks-by v low;
-      idled =
-          λ k b.
-          elim (ℕ-discrete h k) [
-            | yes e ↦
-                goes-up (idles (idOf p k)) l a (A .idled k b) (subst (λ (x : ℕ). idles (idOf p x) a ≡ 1) e one)
-                (subst (λ (x : ℕ). nth v (8 + x) ≡ (nth u (8 + x) + 1) % wrap) e
-                (omega (arith, more-here (oneMore u h) (8 + h) (omega (arith, P .few, more-long u h)), more-else u h (8 + h) (λ q. omega arith))))
-            | no n ↦
-                stays-put (idles (idOf p k)) l a (A .idled k b) (rest k b n)
-                (more-else (oneMore u h) (8 + h) (8 + k) (λ q. n (omega arith)) ∙ more-else u h (8 + k) (λ q. omega (arith, P .few)))
-          ];
-      nobody = stays-put unhad l a (A .nobody) z last;
-      all = all-by v low last;
-    }
-      where
-        v : List ℕ
-        v = oneMore (oneMore u h) (idledAt h)
-
-        low : (k : ℕ) → k < 8 → nth v k ≡ nth (oneMore u h) k
-        low k b = more-else (oneMore u h) (8 + h) k (λ q. omega arith)
-
-        last : nth v nobodys ≡ nth u nobodys
-        last = more-else (oneMore u h) (8 + h) 16 (λ q. omega (arith, P .few)) ∙ more-else u h 16 (λ q. omega (arith, P .few))
 
 -- ---- a tick
 module _ (d : Dispatcher) where

@@ -28,7 +28,7 @@ unfolding firstRefused
 first-end f n k h = let q : n - k ≡ 0 = omega arith in rw q refl
 
 -- no number here, so what comes after has none
-after-zero : (x k : ℕ) (r : Refusal) → orElse x k r .number ≡ 0 → (x ≡ 0) × (r .number ≡ 0)
+pub after-zero : (x k : ℕ) (r : Refusal) → orElse x k r .number ≡ 0 → (x ≡ 0) × (r .number ≡ 0)
 unfolding orElse
 after-zero zero k r e = (refl, e)
 after-zero (suc n) k r e = absurd (omega arith)

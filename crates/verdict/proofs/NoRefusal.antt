@@ -2,19 +2,12 @@
 use mathlib.Core.Path.{_≡_, refl}
 use mathlib.Core.List.{List}
 use Prim.Native.Nat.{ℕ, zero, suc}
-use native.Mathlib.Omega.{arith}
 use Rattle.lists.specs.Refusals.{Test, refusal}
-use Rattle.plan.specs.First.{refused, orElse}
+use Rattle.plan.specs.First.{refused}
 use Rattle.plan.specs.Order.{planRefusal}
 use Rattle.plan.specs.declared.Plan.{Plan}
-use Rattle.plan.specs.declared.Refusal.{Refusal}
 use Rattle.verdict.specs.Verdict.{recordsThen, refusedBy, refuseOr}
-
--- no number, neither here nor after
-neither : (n k : ℕ) (r : Refusal) → orElse n k r .number ≡ 0 → (n ≡ 0) × (r .number ≡ 0)
-unfolding orElse
-neither zero k r e = (refl, e)
-neither (suc n) k r e = absurd (omega arith)
+use Rattle.plan.proofs.First.{after-zero}
 
 module _ {A : Type 0} (refuse : ℕ → ℕ → A) {a : A} (none : (n k : ℕ) → refuse n k ≡ a → ⊥) where
   -- the number is 0, so the answer is the verdict's
@@ -28,5 +21,5 @@ module _ {A : Type 0} (refuse : ℕ → ℕ → A) {a : A} (none : (n k : ℕ) �
   unfolding recordsThen
   by-records p tests v e =
       let r = by-number (recordsThen p tests .number) (recordsThen p tests .place) v e in
-      let o = neither (planRefusal p .number) (planRefusal p .place) (refused (refusal tests) 0) (r .0) in
+      let o = after-zero (planRefusal p .number) (planRefusal p .place) (refused (refusal tests) 0) (r .0) in
       (o .0, (o .1, r .1))
