@@ -36,13 +36,27 @@ pub fn quotient(a: u32, b: u32) -> u64
 
 // What one asks of a window of v ticks.
 pub fn share(v: u32, every: u32, cost: u32) -> u64
-    ensures { λ r. ⌜ (r ≡ up v every * cost) × (r ≤ 18446744065119617025) ⌝ }
+    ensures { λ r. ⌜ (r ≡ up v every * cost) × (r ≤ v * 4294967295) ⌝ }
 {
     quotient(v, every) * wide(cost)
 }
 
-// What the first n ask of a window of v ticks, cut off.
-pub fn asked_of(cost: &[u32; 16], every: &[u32; 16], n: usize, v: u32) -> u64
+// What the first n ask of a window that is so short that no sum of 16 leaves 64 bits.
+fn asked_of_short(cost: &[u32; 16], every: &[u32; 16], n: usize, v: u32) -> u64
+    requires { ⌜ (n ≤ 16) × (v < 134217728) ⌝ }
+    ensures { λ r. ⌜ r ≡ asked (nth (now (cost .entry))) (nth (now (every .entry))) n v ⌝ }
+{
+    let mut sum: u64 = 0;
+    let mut k: usize = 0;
+    while k < n {
+        sum += share(v, every[k], cost[k]);
+        k += 1;
+    }
+    sum
+}
+
+// What the first n ask of any window, cut off at each turn.
+fn asked_of_long(cost: &[u32; 16], every: &[u32; 16], n: usize, v: u32) -> u64
     requires { ⌜ n ≤ 16 ⌝ }
     ensures { λ r. ⌜ r ≡ cut (asked (nth (now (cost .entry))) (nth (now (every .entry))) n v) ⌝ }
 {
@@ -53,4 +67,15 @@ pub fn asked_of(cost: &[u32; 16], every: &[u32; 16], n: usize, v: u32) -> u64
         k += 1;
     }
     sum
+}
+
+// What the first n ask of a window of v ticks, cut off: once, where the window allows it.
+pub fn asked_of(cost: &[u32; 16], every: &[u32; 16], n: usize, v: u32) -> u64
+    requires { ⌜ n ≤ 16 ⌝ }
+    ensures { λ r. ⌜ r ≡ cut (asked (nth (now (cost .entry))) (nth (now (every .entry))) n v) ⌝ }
+{
+    if v < 134217728 {
+        return capped(asked_of_short(cost, every, n, v));
+    }
+    asked_of_long(cost, every, n, v)
 }

@@ -15,10 +15,10 @@ wide-requires : tie.Need-wide-requires
 wide-requires c κs = search needs
 
 mul-result : tie.Need-mul-result
-mul-result c = let h : c .before .quotient .result ≤ 4294967295 = omega (arith, up-le (c .before .before .args .v) (c .before .before .args .every)) in let k : c .wide .result ≤ 4294967295 = omega arith in omega (arith, mul-le-mul h k)
+mul-result c = let h : c .before .quotient .result ≤ c .before .before .args .v = omega (arith, up-le (c .before .before .args .v) (c .before .before .args .every)) in let k : c .wide .result ≤ 4294967295 = omega arith in omega (arith, mul-le-mul h k)
 
 returns : tie.Need-returns
-returns c = (rw (c .before .quotient .ensures, c .wide .ensures .0) refl, let h : c .before .quotient .result ≤ 4294967295 = omega (arith, up-le (c .before .before .args .v) (c .before .before .args .every)) in let k : c .wide .result ≤ 4294967295 = omega arith in omega (arith, mul-le-mul h k))
+returns c = (rw (c .before .quotient .ensures, c .wide .ensures .0) refl, let h : c .before .quotient .result ≤ c .before .before .args .v = omega (arith, up-le (c .before .before .args .v) (c .before .before .args .every)) in let k : c .wide .result ≤ 4294967295 = omega arith in omega (arith, mul-le-mul h k))
 
 pub share-spec : {M : Type 1} → statement M
 share-spec = tie.close (tie.spec quotient-requires wide-requires mul-result returns)

@@ -1,4 +1,4 @@
--- `rounding::asked_of` meets its contract. Assumes nothing.
+-- `rounding::asked_of_long` meets its contract. Assumes nothing.
 use mathlib.Core.Path.{_≡_}
 use Prim.Native.Nat.{_≤_, _-_}
 use native.Mathlib.Omega.{arith}
@@ -6,8 +6,8 @@ use borrow.Author.Needs.{needs}
 use Rattle.lists.specs.Places.{nth}
 use Rattle.rounding.specs.Asked.{asked, cut}
 use Rattle.rounding.proofs.Asked.{asked-none, cut-next}
-use Rattle.rounding.proofs.asked_of.Statement.{statement}
-use Rattle.rounding.proofs.asked_of.Tie as tie
+use Rattle.rounding.proofs.asked_of_long.Statement.{statement}
+use Rattle.rounding.proofs.asked_of_long.Tie as tie
 
 abbrev Inv-loop : tie.InvT-loop
 Inv-loop cost every n v sum₀ k₀ sum k = (k ≤ n) × (sum ≡ cut (asked (nth cost) (nth every) k v))
@@ -51,8 +51,8 @@ loop-again c = let l = c .before .before .before .before .before in (search need
 returns : tie.Need-returns Inv-loop μ-loop
 returns c = let h : c .before .loop .k ≡ c .before .before .args .n = omega arith in rw (← h) (c .before .loop .inv .1)
 
-pub asked-of-spec : {M : Type 1} → statement M
-asked-of-spec =
+pub asked-of-long-spec : {M : Type 1} → statement M
+asked-of-long-spec =
     tie.close
     (tie.spec
     Inv-loop
