@@ -15,6 +15,7 @@ use Rattle.plan.specs.Charge.{chargedRun}
 use Rattle.arrays.specs.Ranges.{serverOk, noServer, jobOk, noJob}
 use Rattle.arrays.specs.Rows.{jobIn, blankAt, guestIsOk, rowIsBlank}
 use Rattle.lists.proofs.All.{all-at, all-end}
+use Rattle.plan.proofs.Charge.{charged-most}
 use Rattle.plan.proofs.Ranges.{task-says}
 
 -- a limit of 0 is a test for 0
@@ -24,9 +25,8 @@ leb-zero (suc x) = lt-leb (suc x) 0 (omega arith) ∙ sym (ne-eqb (suc x) 0 (λ 
 
 -- the charged run that the code takes as a limit is small
 pub charged-small : (used : Bool) (run charge : ℕ) → (used ≡ true → run ≤ 1000000) → charge < 65536 → {x : ℕ} → x ≡ pick used run 0 → chargedRun x charge < 4294967296
-unfolding chargedRun
-charged-small true run charge h c e = omega (arith, h refl)
-charged-small false run charge h c e = omega arith
+charged-small true run charge h c {x} e = charged-most x charge (omega (arith, h refl)) c
+charged-small false run charge h c {x} e = charged-most x charge (omega arith) c
 
 -- and is the task's
 pub full-is : (used : Bool) (run charge : ℕ) {x y r : ℕ} → x ≡ pick used run 0 → y ≡ chargedRun x charge → r ≡ pick used y 0 → r ≡ pick used (chargedRun run charge) 0

@@ -10,10 +10,10 @@ use Rattle.lists.specs.All.{allTo}
 use Rattle.lists.specs.Search.{least, isAt}
 use Rattle.lists.specs.Table.{table}
 use Rattle.lists.specs.declared.Found.the-variants.{At}
-use Rattle.plan.specs.Charge.{chargedRun, charged}
+use Rattle.plan.specs.Charge.{charged}
 use Rattle.plan.specs.Filled.{Filled, ColumnsOf}
 use Rattle.plan.specs.Order.{planRefusal}
-use Rattle.plan.specs.Records.{absent, guestAt}
+use Rattle.plan.specs.Records.{absent, guestAt, runOf}
 use Rattle.plan.specs.declared.Columns.{Columns}
 use Rattle.plan.specs.declared.Guest.{Guest}
 use Rattle.plan.specs.declared.Plan.{Plan}
@@ -27,6 +27,7 @@ use Rattle.capacity.specs.Trial.{fitsAt}
 use Rattle.lists.proofs.All.{and-assoc, all-ext}
 use Rattle.lists.proofs.Sum.{sum-same}
 use Rattle.lists.proofs.Table.{table-length, table-at}
+use Rattle.plan.proofs.Charge.{charged-least}
 use Rattle.plan.proofs.Order.{PlanIn, plan-in}
 use Rattle.response.proofs.Columns.{interference-grows, guest-response-is, task-response-is, task-is, accepted-is, columns-take, columns-fit}
 use Rattle.capacity.proofs.Trial.{fits-down, met-up}
@@ -109,7 +110,6 @@ module _ (p : Plan) (ok : planRefusal p .number ≡ 0) (k : ℕ) (h : k < p .cou
   -- a task that responds in time at a capacity does so at each larger one that is fitted, with no larger response
   pub met-below : (i : ℕ) → i < guestAt (p .guests) k .tasks → (most c c′ r : ℕ) → 1 ≤ c → c ≤ c′ → fitted (withCapacity p k c′) k ≡ true
       → responseTo (withCapacity p k c) k i most ≡ At r → (r′ : ℕ) × (responseTo (withCapacity p k c′) k i most ≡ At r′) × (r′ ≤ r)
-  unfolding chargedRun
   met-below i l most c c′ r pos le fit e =
       let g = guestAt (p .guests) k in
       let above = interference p k in
@@ -119,6 +119,6 @@ module _ (p : Plan) (ok : planRefusal p .number ≡ 0) (k : ℕ) (h : k < p .cou
       let few : i < 16 = omega (arith, o .head .few) in
       let column : (x : ℕ) → taskUnder above x (g .period) run (g .every) i most ≡ responseTo (withCapacity p k x) k i most =
       λ x. task-is above (atCapacity g x) run 16 i most few record { long = filled .long; holds = filled .holds } ∙ sym (task-there p k here x i most) in
-      let m = met-up above (interference-grows p k) (g .period) run (g .every) i (omega (arith, filled .holds i few, o .tasks i l .runs)) c c′ most r pos le
+      let m = met-up above (interference-grows p k) (g .period) run (g .every) i (omega (arith, filled .holds i few, o .tasks i l .runs, charged-least (runOf g i) (g .charge))) c c′ most r pos le
       (sym (fitted-there p k here c′) ∙ fit) (column c ∙ e) in
       (m .0, sym (column c′) ∙ m .1, m .2)

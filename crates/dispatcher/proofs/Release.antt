@@ -12,9 +12,9 @@ use Rattle.lists.specs.Search.{firstFrom}
 use Rattle.lists.specs.Refusals.{refusal}
 use Rattle.plan.specs.declared.Guest.{Guest}
 use Rattle.plan.specs.declared.Plan.{Plan}
-use Rattle.plan.specs.Records.{guestAt}
+use Rattle.plan.specs.Records.{guestAt, runOf}
 use Rattle.plan.specs.Ranges.{within, guestOk, tasksOk}
-use Rattle.plan.specs.Charge.{chargedRun, charged}
+use Rattle.plan.specs.Charge.{charged}
 use Rattle.plan.specs.First.{refused}
 use Rattle.plan.specs.Order.{newId, numberOf, guestNumber, planRefusal}
 use Rattle.plan.specs.Place.{placeOf}
@@ -33,6 +33,7 @@ use Rattle.lists.proofs.Search.{first-ext}
 use Rattle.plan.proofs.First.{none-refused}
 use Rattle.plan.proofs.Order.{counted, plan-in}
 use Rattle.arrays.proofs.Rows.{runs-small}
+use Rattle.plan.proofs.Charge.{charged-most}
 use Rattle.plan.proofs.Ranges.{head-says}
 
 -- a guest in its ranges has at most 16 tasks
@@ -155,5 +156,4 @@ records-in p e k h =
 
 -- the charged run of a task in its ranges fits
 pub charged-fits : (g : Guest) (i : ℕ) → tasksOk g ≡ true → i < g .tasks → g .charge < 65536 → charged g i < 4294967296
-unfolding chargedRun
-charged-fits g i e h c = omega (arith, runs-small g e i h)
+charged-fits g i e h c = charged-most (runOf g i) (g .charge) (runs-small g e i h) c

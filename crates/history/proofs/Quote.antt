@@ -8,7 +8,6 @@ use Rattle.rounding.specs.Up.{up}
 use Rattle.rounding.specs.Asked.{asked}
 use Rattle.plan.specs.declared.Plan.{Plan}
 use Rattle.plan.specs.Records.{guestAt, runOf}
-use Rattle.plan.specs.Charge.{chargedRun}
 use Rattle.response.specs.Interference.{jitter, interference}
 use Rattle.response.specs.Guest.{guestRight}
 use Rattle.response.specs.Task.{gap, load, periods, taskRight}
@@ -25,6 +24,7 @@ use Rattle.windows.specs.Equation.{loadAfter, systemAt, response}
 use Rattle.equation.specs.System.{rightAt, right}
 use Rattle.windows.specs.Kept.{Bounded, Kept}
 use Rattle.lists.proofs.Sum.{sum-same}
+use Rattle.plan.proofs.Charge.{charged-least}
 use Rattle.plan.proofs.Order.{PlanIn}
 use Rattle.windows.proofs.Kept.{kept-tick, kept-taken, kept-same, kept-fresh}
 use Rattle.history.proofs.Seen.{capOf, perOf, runIn, everyIn, posAt, leftAt, heldAt, tasksAt}
@@ -67,11 +67,6 @@ pub record TaskFits (p : Plan) (g x i w : ℕ) : Type 0 where
   pub solves : TaskSolves p g i w
   pub in-period : response (capOf p) (perOf p) g w ≤ everyIn p g i
 
--- a charged run is at least 1
-charged-some : (run charge : ℕ) → 1 ≤ run → 0 < chargedRun run charge
-unfolding chargedRun
-charged-some run charge h = omega arith
-
 -- What is kept of a state, seen from task i of guest g.
 abbrev pub KeptIn : Plan → (g x i w : ℕ) → Dispatcher → Type 0
 KeptIn p g x i w d = Kept (capOf p) (perOf p) g x (runIn p g) (everyIn p g) i w (heldAt d) (posAt d) (tasksAt d g)
@@ -85,7 +80,7 @@ module _ (p : Plan) (P : PlanIn p) {g x i w : ℕ} (T : TaskFits p g x i w) wher
         fitted = fitted-of p P (T .in-plan) (T .fits);
         solves = record {
           some = T .solves .low;
-          works = charged-some (runOf (guestAt (p .guests) g) i) (guestAt (p .guests) g .charge) (G .tasks i (T .in-guest) .runs);
+          works = omega (arith, charged-least (runOf (guestAt (p .guests) g) i) (guestAt (p .guests) g .charge), G .tasks i (T .in-guest) .runs);
           equal = T .solves .solves ∙ right-is p g i w;
           periods = λ j h. G .tasks j (omega (arith, T .in-guest)) .some;
         };

@@ -1,5 +1,6 @@
 -- Laws, each file named after the definition that it is about.
 pub mod Filled
+pub mod Charge
 pub mod First
 pub mod Ranges
 pub mod Order

@@ -7,15 +7,16 @@ use native.Mathlib.Omega.{arith}
 use Rattle.lists.specs.All.{allTo}
 use Rattle.lists.specs.Places.{nth}
 use Rattle.lists.specs.Search.{isAt}
-use Rattle.plan.specs.Charge.{chargedRun, charged}
+use Rattle.plan.specs.Charge.{charged}
 use Rattle.plan.specs.Filled.{Filled, ColumnsOf}
-use Rattle.plan.specs.Records.{guestAt, deadlineOf}
+use Rattle.plan.specs.Records.{guestAt, runOf, deadlineOf}
 use Rattle.plan.specs.declared.Columns.{Columns}
 use Rattle.plan.specs.declared.Guest.{Guest}
 use Rattle.plan.specs.declared.Plan.{Plan}
 use Rattle.response.specs.Columns.{guestsTake, guestUnder, fittedAt, metUnder, taskOf, acceptedUnder}
 use Rattle.response.specs.Ready.{Ready, Sure}
 use Rattle.lists.proofs.All.{all-at, all-ext, and-false-left}
+use Rattle.plan.proofs.Charge.{charged-least}
 use Rattle.plan.proofs.Order.{PlanIn}
 use Rattle.response.proofs.Columns.{task-is}
 
@@ -35,12 +36,11 @@ module _ (g : Guest) (capacities periods : List ℕ) (k : ℕ) (s : Sure g capac
   -- a fitted one is ready for its tasks' recurrences
   pub sure-ready : isAt (guestUnder (guestsTake capacities periods k) (g .capacity) (g .period)) ≡ true
       → (run : List ℕ) → Filled run (charged g) (g .tasks) → (i : ℕ) → i < g .tasks → Ready (guestsTake capacities periods k) (g .capacity) (g .period) run i
-  unfolding chargedRun
   sure-ready fits run f i h = record {
     some = sure-ranged .0;
     within = sure-ranged .1;
     fits = fits;
-    runs = omega (arith, f .holds i h, s .runs .some i h);
+    runs = omega (arith, f .holds i h, s .runs .some i h, charged-least (runOf g i) (g .charge));
   }
 
 -- the tasks off the column of charged runs are the guest's

@@ -3,7 +3,8 @@ use mathlib.Core.Path.{sym, _∙_}
 use native.Mathlib.Omega.{arith}
 use borrow.Author.Needs.{needs}
 use borrow.Author.Tests.{not-true, not-false}
-use Rattle.plan.specs.Charge.{chargedRun}
+use Rattle.plan.specs.Records.{runOf}
+use Rattle.plan.proofs.Charge.{charged-least}
 use Rattle.response.specs.Columns.{guestsTake}
 use Rattle.capacity.proofs.Trial.{works-is, above-unfit, above-fitted}
 use Rattle.capacity.proofs.search.smallest_at.Statement.{statement}
@@ -25,11 +26,11 @@ add-smallest-in : tie.Need-add-smallest-in
 add-smallest-in c = search needs
 
 smallest-in-requires : tie.Need-smallest-in-requires
-unfolding chargedRun
 smallest-in-requires c κs =
     let filled = c .before .before .before in
     let s = filled .before .before .before .before .before .before .pre .0 in
-    (((omega (arith, s .place), s .runs .few), (omega arith, omega arith)), λ i h. omega (arith, filled .charged-of .ensures .holds i h, s .runs .some i h))
+    let g = filled .before .before .before .before .before .before .args .g in
+    (((omega (arith, s .place), s .runs .few), (omega arith, omega arith)), λ i h. omega (arith, filled .charged-of .ensures .holds i h, s .runs .some i h, charged-least (runOf g i) (g .charge)))
 
 returns-2 : tie.Need-returns-2
 returns-2 c =

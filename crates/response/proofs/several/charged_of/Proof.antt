@@ -6,6 +6,8 @@ use borrow.Author.Needs.{needs}
 use Rattle.lists.specs.Places.{nth}
 use Rattle.plan.specs.Charge.{chargedRun}
 use Rattle.plan.specs.Filled.{Filled}
+use Rattle.plan.specs.Records.{runOf}
+use Rattle.plan.proofs.Charge.{charged-most}
 use Rattle.plan.proofs.Filled.{filled-next, filled-done}
 use Rattle.response.proofs.several.charged_of.Statement.{statement}
 use Rattle.response.proofs.several.charged_of.Tie as tie
@@ -32,11 +34,10 @@ charged-run-requires : tie.Need-charged-run-requires Inv-loop μ-loop
 charged-run-requires c κs = search needs
 
 cast-r : tie.Need-cast-r Inv-loop μ-loop
-unfolding chargedRun
 cast-r c =
     let l = c .before .before in
     let s = l .before .before .before in
-    omega (arith, c .charged-run .ensures, s .pre .short (l .loop .i) (omega arith))
+    omega (arith, c .charged-run .ensures, charged-most (runOf (s .args .g) (l .loop .i)) (s .args .g .charge) (s .pre .short (l .loop .i) (omega arith)) (omega arith))
 
 mul-r : tie.Need-mul-r Inv-loop μ-loop
 mul-r c = search needs

@@ -1,0 +1,14 @@
+-- Laws of the charged run. Assumes nothing.
+use Prim.Native.Nat.{ℕ, _≤_, _<_}
+use native.Mathlib.Omega.{arith}
+use Rattle.plan.specs.Charge.{chargedRun}
+
+-- it is no less than the run
+pub charged-least : (run charge : ℕ) → run ≤ chargedRun run charge
+unfolding chargedRun
+charged-least run charge = omega arith
+
+-- in the ranges it fits 32 bits
+pub charged-most : (run charge : ℕ) → run ≤ 1000000 → charge < 65536 → chargedRun run charge < 4294967296
+unfolding chargedRun
+charged-most run charge h c = omega arith
