@@ -35,7 +35,11 @@ use Rattle.analysis.proofs.Guests.{there-place, there-has, has-there, f
 use Rattle.verdict.specs.declared.TaskVerdict.the-variants as task
 
 -- the verdict of task number i + 1 is that of task i's response
-pub task-verdict-is : (p : Plan) (id k i : ℕ) → There p id k → i < guestAt (p .guests) k .tasks → taskVerdict p id (suc i) ≡ taskSays (fittedTo p k) (deadlineOf (guestAt (p .guests) k) i) (taskResponse p k i)
+pub task-verdict-is :
+    (p : Plan) (id k i : ℕ)
+    → There p id k
+    → i < guestAt (p .guests) k .tasks
+    → taskVerdict p id (suc i) ≡ taskSays (fittedTo p k) (deadlineOf (guestAt (p .guests) k) i) (taskResponse p k i)
 unfolding taskVerdict hasTask
 task-verdict-is p id k i t h =
     let place = there-place p id k t in

@@ -46,7 +46,9 @@ fn jobs_ok(
     many: usize,
 ) -> bool
     requires { ⌜ (k < 8) × ((t : ℕ) → t < many → nth (now run) t ≤ longest) ⌝ }
-    ensures { λ r. ⌜ r ≡ allTo (jobIn (now (rest .entry)) (now (wait .entry)) (now (age .entry)) (now (run .entry)) (now (every .entry)) charge k many) mostTasks ⌝ }
+    ensures { λ r. ⌜
+        r ≡ allTo (jobIn (now (rest .entry)) (now (wait .entry)) (now (age .entry)) (now (run .entry)) (now (every .entry)) charge k many) mostTasks
+        ⌝ }
 {
     let base = k * 16;
     let mut ok = true;

@@ -58,7 +58,9 @@ fn put_head(g: Guest, place: u32, buf: &mut [u8])
 // Entry i put in.
 fn put_entry(buf: &mut [u8], i: usize, run: u32, every: u32, deadline: u32)
     requires { ⌜ (blockSize ≤ length (now buf)) × (i < mostTasks) ⌝ }
-    ensures { λ _. ⌜ now (buf .exit) ≡ withU32 (withU32 (withU32 (now (buf .entry)) (4 * runWord i) run) (4 * everyWord i) every) (4 * deadlineWord i) deadline ⌝ }
+    ensures { λ _. ⌜
+        now (buf .exit) ≡ withU32 (withU32 (withU32 (now (buf .entry)) (4 * runWord i) run) (4 * everyWord i) every) (4 * deadlineWord i) deadline
+        ⌝ }
 {
     words::put_u32(buf, 4 * (layout::RUN + 3 * i), run);
     words::put_u32(buf, 4 * (layout::EVERY + 3 * i), every);

@@ -102,9 +102,24 @@ record Tells (fit met : Bool) : Type 0 where
 -- by cases
 tells : (fit met : Bool) → Tells fit met
 unfolding trialBy
-tells false met = record { unfit = λ e. refl; unmet = λ e. absurd (let z : _≡_ {A = ℕ} 0 1 = cc in omega arith); works = λ e. absurd (let z : _≡_ {A = ℕ} 0 1 = cc in omega arith) }
-tells true false = record { unfit = λ e. absurd (let z : _≡_ {A = ℕ} 0 1 = cc in omega arith); unmet = λ e. (refl, refl); works = λ e. absurd (let z : _≡_ {A = ℕ} 0 1 = cc in omega arith) }
-tells true true = record { unfit = λ e. absurd (let z : _≡_ {A = ℕ} 0 1 = cc in omega arith); unmet = λ e. absurd (let z : _≡_ {A = ℕ} 0 1 = cc in omega arith); works = λ e. refl }
+tells false met =
+    record {
+      unfit = λ e. refl;
+      unmet = λ e. absurd (let z : _≡_ {A = ℕ} 0 1 = cc in omega arith);
+      works = λ e. absurd (let z : _≡_ {A = ℕ} 0 1 = cc in omega arith);
+    }
+tells true false =
+    record {
+      unfit = λ e. absurd (let z : _≡_ {A = ℕ} 0 1 = cc in omega arith);
+      unmet = λ e. (refl, refl);
+      works = λ e. absurd (let z : _≡_ {A = ℕ} 0 1 = cc in omega arith);
+    }
+tells true true =
+    record {
+      unfit = λ e. absurd (let z : _≡_ {A = ℕ} 0 1 = cc in omega arith);
+      unmet = λ e. absurd (let z : _≡_ {A = ℕ} 0 1 = cc in omega arith);
+      works = λ e. refl;
+    }
 
 -- a halving's three turns, by the trial of the middle
 module _ (above : ℕ → ℕ) (g : Grows above) (period : ℕ) (run every deadline : List ℕ) (tasks : ℕ) (runs : Run run tasks)
@@ -118,21 +133,39 @@ module _ (above : ℕ → ℕ) (g : Grows above) (period : ℕ) (run every deadl
   said = tells (fitsAt above period mid) (metUnder above mid period run every deadline tasks)
 
   -- unfit: to the left
-  pub turn-left : t ≡ Unfit → {r : Found} → r ≡ least (worksAt above period run every deadline tasks) (mid - lo) lo → r ≡ least (worksAt above period run every deadline tasks) (hi - lo) lo
+  pub turn-left :
+      t ≡ Unfit
+      → {r : Found}
+      → r ≡ least (worksAt above period run every deadline tasks) (mid - lo) lo
+      → r ≡ least (worksAt above period run every deadline tasks) (hi - lo) lo
   unfolding trialOf
   turn-left q k = k ∙ halve-left (fitsAt above period) (worksAt above period run every deadline tasks) good lo mid hi pos l h (said .unfit (sym e ∙ q))
 
   -- fitted and not all met: to the right
-  pub turn-right : t ≡ Unmet → {r : Found} → r ≡ least (worksAt above period run every deadline tasks) (hi - (mid + 1)) (mid + 1) → r ≡ least (worksAt above period run every deadline tasks) (hi - lo) lo
+  pub turn-right :
+      t ≡ Unmet
+      → {r : Found}
+      → r ≡ least (worksAt above period run every deadline tasks) (hi - (mid + 1)) (mid + 1)
+      → r ≡ least (worksAt above period run every deadline tasks) (hi - lo) lo
   unfolding trialOf worksAt
-  turn-right q k = let s = said .unmet (sym e ∙ q) in k ∙ halve-right (fitsAt above period) (worksAt above period run every deadline tasks) good lo mid hi pos l h (s .0) (s .1)
+  turn-right q k =
+      let s = said .unmet (sym e ∙ q) in
+      k ∙ halve-right (fitsAt above period) (worksAt above period run every deadline tasks) good lo mid hi pos l h (s .0) (s .1)
 
   -- it works: to the left, or else here
-  pub turn-here : t ≡ Works → {r s : Found} → r ≡ least (worksAt above period run every deadline tasks) (mid - lo) lo → s ≡ orAt r mid → s ≡ least (worksAt above period run every deadline tasks) (hi - lo) lo
+  pub turn-here :
+      t ≡ Works
+      → {r s : Found}
+      → r ≡ least (worksAt above period run every deadline tasks) (mid - lo) lo
+      → s ≡ orAt r mid
+      → s ≡ least (worksAt above period run every deadline tasks) (hi - lo) lo
   unfolding trialOf worksAt
   turn-here q {r} {s} k o = o ∙ ap (λ (f : Found). orAt f mid) k ∙ go (least (worksAt above period run every deadline tasks) (mid - lo) lo) refl
     where
-      go : (f : Found) → least (worksAt above period run every deadline tasks) (mid - lo) lo ≡ f → orAt f mid ≡ least (worksAt above period run every deadline tasks) (hi - lo) lo
+      go :
+          (f : Found)
+          → least (worksAt above period run every deadline tasks) (mid - lo) lo ≡ f
+          → orAt f mid ≡ least (worksAt above period run every deadline tasks) (hi - lo) lo
       go Nothing a = halve-here (fitsAt above period) (worksAt above period run every deadline tasks) good lo mid hi pos l h (said .works (sym e ∙ q)) a
       go (At y) a = halve-lower (fitsAt above period) (worksAt above period run every deadline tasks) good lo mid hi pos l h a
 

@@ -59,7 +59,9 @@ fn try_at(
 ) -> Trial
     requires { ⌜ ((k ≤ 16) × (n ≤ 16)) × ((1 ≤ c) × (c ≤ period)) ⌝ }
     requires { ⌜ Run (now run) n ⌝ }
-    ensures { λ r. ⌜ r ≡ trialOf (guestsTake (now (caps .entry)) (now (periods .entry)) k) period (now (run .entry)) (now (every .entry)) (now (deadline .entry)) n c ⌝ }
+    ensures { λ r. ⌜
+        r ≡ trialOf (guestsTake (now (caps .entry)) (now (periods .entry)) k) period (now (run .entry)) (now (every .entry)) (now (deadline .entry)) n c
+        ⌝ }
 {
     if !is_at(guest_response(caps, periods, k, c, period)) {
         return Trial::Unfit;
@@ -85,7 +87,12 @@ fn smallest_in(
 ) -> Found
     requires { ⌜ ((k ≤ 16) × (n ≤ 16)) × ((1 ≤ lo) × (hi ≤ period + 1)) ⌝ }
     requires { ⌜ Run (now run) n ⌝ }
-    ensures { λ r. ⌜ r ≡ least (worksAt (guestsTake (now (caps .entry)) (now (periods .entry)) k) period (now (run .entry)) (now (every .entry)) (now (deadline .entry)) n) (hi - lo) lo ⌝ }
+    ensures { λ r. ⌜
+        r
+        ≡ least
+        (worksAt (guestsTake (now (caps .entry)) (now (periods .entry)) k) period (now (run .entry)) (now (every .entry)) (now (deadline .entry)) n)
+        (hi - lo) lo
+        ⌝ }
 {
     if hi <= lo {
         return Found::Nothing;
@@ -106,7 +113,13 @@ fn smallest_in(
 // The smallest capacity of the guest g at place k; none works under an unfit guest.
 pub fn smallest_at(g: Guest, capacities: &[u32; 16], periods: &[u32; 16], k: usize) -> Found
     requires { ⌜ Sure g (now capacities) (now periods) k × (g .period < 4294967295) ⌝ }
-    ensures { λ r. ⌜ r ≡ least (λ c. allTo (fittedAt (now (capacities .entry)) (now (periods .entry))) k && acceptedUnder (guestsTake (now (capacities .entry)) (now (periods .entry)) k) (atCapacity g c)) (g .period) 1 ⌝ }
+    ensures { λ r. ⌜
+        r
+        ≡ least
+        (λ c. allTo (fittedAt (now (capacities .entry)) (now (periods .entry))) k
+        && acceptedUnder (guestsTake (now (capacities .entry)) (now (periods .entry)) k) (atCapacity g c))
+        (g .period) 1
+        ⌝ }
 {
     let every = g.every;
     let deadline = g.deadline;

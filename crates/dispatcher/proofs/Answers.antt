@@ -123,7 +123,12 @@ module _ (d : Dispatcher) {t : Turn} (e : t ≡ turn d) where
       tell-works q m = rw (q, held, busy, ← run-is, lt-ltb 1 (t .had) m, guest-is, task-is) refl
 
       -- a task has it, and finishes
-      tell-done : {age : List ℕ} → age ≡ ageAfter d → t .had ≤ 1 → (z : ℤ) → z ≡ marginOf (deadlineOf (guestIn d (t .guest)) (t .task)) (nth age (placeAt (t .guest) (t .task)))
+      tell-done :
+          {age : List ℕ}
+          → age ≡ ageAfter d
+          → t .had ≤ 1
+          → (z : ℤ)
+          → z ≡ marginOf (deadlineOf (guestIn d (t .guest)) (t .task)) (nth age (placeAt (t .guest) (t .task)))
           → Finished (guestIn d (t .guest) .id) (t .task + 1) (nth age (placeAt (t .guest) (t .task))) z ≡ answer d
       unfolding answer answerBy
       tell-done q m z f = rw (f, held, busy, ← run-is, le-ltb 1 (t .had) m, q, guest-is, task-is) refl

@@ -229,6 +229,14 @@ module _ (d : Dispatcher) (e : stateOk d ≡ true) where
   -- so no job runs or waits there
   pub quiet : Quiet (d .plan .count) (d .rest) (d .wait)
   quiet = record {
-    runs = λ k a b. eqb-true (nth (d .rest) k) 0 (and-left (eqb (nth (d .rest) k) 0) (eqb (nth (d .wait) k) 0) (and-left (eqb (nth (d .rest) k) 0 && eqb (nth (d .wait) k) 0) _ (blank-place k a b)));
-    waits = λ k a b. eqb-true (nth (d .wait) k) 0 (and-right (eqb (nth (d .rest) k) 0) (eqb (nth (d .wait) k) 0) (and-left (eqb (nth (d .rest) k) 0 && eqb (nth (d .wait) k) 0) _ (blank-place k a b)));
+    runs =
+        λ k a b.
+        eqb-true (nth (d .rest) k) 0
+        (and-left (eqb (nth (d .rest) k) 0) (eqb (nth (d .wait) k) 0)
+        (and-left (eqb (nth (d .rest) k) 0 && eqb (nth (d .wait) k) 0) _ (blank-place k a b)));
+    waits =
+        λ k a b.
+        eqb-true (nth (d .wait) k) 0
+        (and-right (eqb (nth (d .rest) k) 0) (eqb (nth (d .wait) k) 0)
+        (and-left (eqb (nth (d .rest) k) 0 && eqb (nth (d .wait) k) 0) _ (blank-place k a b)));
   }

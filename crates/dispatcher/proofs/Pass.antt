@@ -94,7 +94,10 @@ module _ (n : ℕ) (left position rest wait age : List ℕ) where
 
 module _ (d : Dispatcher) (k : ℕ) where
   -- a task's test, or that of a place past the tasks of a guest
-  task-is : k < d .plan .count → (t : ℕ) → jobIn (d .rest) (d .wait) (d .age) (guestIn d k .run) (guestIn d k .every) (guestIn d k .charge) k (guestIn d k .tasks) t ≡ taskInRange d k t
+  task-is :
+      k < d .plan .count
+      → (t : ℕ)
+      → jobIn (d .rest) (d .wait) (d .age) (guestIn d k .run) (guestIn d k .every) (guestIn d k .charge) k (guestIn d k .tasks) t ≡ taskInRange d k t
   unfolding taskInRange tasksIn
   task-is h t = rw (lt-ltb k (d .plan .count) h) refl
 

@@ -25,7 +25,13 @@ fn guests_ok(
     age: &[u32; 128],
 ) -> Checked
     requires { ⌜ plan .count ≤ 8 ⌝ }
-    ensures { λ r. ⌜ (r .ok ≡ allTo (guestGoes (stateOf plan (now (left .entry)) (now (position .entry)) (now (rest .entry)) (now (wait .entry)) (now (age .entry)) [])) (plan .count)) × ColumnsIn plan r ⌝ }
+    ensures { λ r. ⌜
+        (r .ok
+        ≡ allTo
+        (guestGoes (stateOf plan (now (left .entry)) (now (position .entry)) (now (rest .entry)) (now (wait .entry)) (now (age .entry)) []))
+        (plan .count))
+        × ColumnsIn plan r
+        ⌝ }
 {
     let n = plan.count as usize;
     let mut ids = [0u32; 16];
@@ -63,7 +69,13 @@ fn blanks_ok(
     age: &[u32; 128],
 ) -> bool
     requires { ⌜ n ≤ 8 ⌝ }
-    ensures { λ r. ⌜ r ≡ allTo (λ k. pick (ltb k n) true (rowIsBlank k (nth (now (left .entry)) k) (nth (now (position .entry)) k) (now (rest .entry)) (now (wait .entry)) (now (age .entry)))) mostGuests ⌝ }
+    ensures { λ r. ⌜
+        r
+        ≡ allTo
+        (λ k. pick (ltb k n) true
+        (rowIsBlank k (nth (now (left .entry)) k) (nth (now (position .entry)) k) (now (rest .entry)) (now (wait .entry)) (now (age .entry))))
+        mostGuests
+        ⌝ }
 {
     let mut ok = true;
     let mut k = n;
@@ -96,7 +108,10 @@ pub fn examine(
     wait: &[u32; 128],
     age: &[u32; 128],
 ) -> Checked
-    ensures { λ r. ⌜ ((usage : List ℕ) → Examines (stateOf plan (now (left .entry)) (now (position .entry)) (now (rest .entry)) (now (wait .entry)) (now (age .entry)) usage) r) ⌝ }
+    ensures { λ r. ⌜
+        ((usage : List ℕ)
+        → Examines (stateOf plan (now (left .entry)) (now (position .entry)) (now (rest .entry)) (now (wait .entry)) (now (age .entry)) usage) r)
+        ⌝ }
 {
     let n = plan.count as usize;
     if n < 1 {

@@ -34,7 +34,14 @@ fn steps(
     ticks: u32,
 ) -> Went
     requires { ⌜ Small n (now tasks) ⌝ }
-    ensures { λ r. ⌜ ((p : declared.Plan) → Columned p n (now (capacities .entry)) (now (periods .entry)) (now (tasks .entry)) → Quiet n (now (rest .entry)) (now (wait .entry)) → Gone (stateOf p (now (left .entry)) (now (position .entry)) (now (rest .entry)) (now (wait .entry)) (now (age .entry)) (now (usage .entry))) ticks (r .done) (r .turn) (stateOf p (now (left .exit)) (now (position .exit)) (now (rest .exit)) (now (wait .exit)) (now (age .exit)) (now (usage .exit)))) ⌝ }
+    ensures { λ r. ⌜
+        ((p : declared.Plan)
+        → Columned p n (now (capacities .entry)) (now (periods .entry)) (now (tasks .entry))
+        → Quiet n (now (rest .entry)) (now (wait .entry))
+        → Gone (stateOf p (now (left .entry)) (now (position .entry)) (now (rest .entry)) (now (wait .entry)) (now (age .entry)) (now (usage .entry)))
+        ticks (r .done) (r .turn)
+        (stateOf p (now (left .exit)) (now (position .exit)) (now (rest .exit)) (now (wait .exit)) (now (age .exit)) (now (usage .exit))))
+        ⌝ }
 {
     let mut turn = Turn {
         guest: 0,
@@ -87,7 +94,16 @@ pub fn ran(
     ticks: u32,
 ) -> RunOutcome
     requires { ⌜ Examines (stateOf plan (now left) (now position) (now rest) (now wait) (now age) (now usage)) found ⌝ }
-    ensures { λ r. ⌜ Runs (stateOf plan (now (left .entry)) (now (position .entry)) (now (rest .entry)) (now (wait .entry)) (now (age .entry)) (now (usage .entry))) ticks (record { refusal = refused (r .number) 0; done = r .done; answer = r .answer; state = stateOf plan (now (left .exit)) (now (position .exit)) (now (rest .exit)) (now (wait .exit)) (now (age .exit)) (now (usage .exit)) }) ⌝ }
+    ensures { λ r. ⌜
+        Runs (stateOf plan (now (left .entry)) (now (position .entry)) (now (rest .entry)) (now (wait .entry)) (now (age .entry)) (now (usage .entry)))
+        ticks
+        (record {
+          refusal = refused (r .number) 0;
+          done = r .done;
+          answer = r .answer;
+          state = stateOf plan (now (left .exit)) (now (position .exit)) (now (rest .exit)) (now (wait .exit)) (now (age .exit)) (now (usage .exit));
+        })
+        ⌝ }
 {
     if !found.ok {
         return unmoved(14);

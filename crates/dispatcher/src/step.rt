@@ -17,7 +17,9 @@ use arrays::worker;
 // The first guest with capacity left has the tick, inside it the first task with run left: each loses one.
 fn serve(left: &mut [u32; 8], rest: &mut [u32; 128], tasks: &[u32; 16], n: usize) -> Turn
     requires { ⌜ Small n (now tasks) ⌝ }
-    ensures { λ r. ⌜ ((d : Dispatcher) → Refilled d n (now (tasks .entry)) (now (left .entry)) (now (rest .entry)) → Served d (now (left .exit)) (now (rest .exit)) r) ⌝ }
+    ensures { λ r. ⌜
+        ((d : Dispatcher) → Refilled d n (now (tasks .entry)) (now (left .entry)) (now (rest .entry)) → Served d (now (left .exit)) (now (rest .exit)) r)
+        ⌝ }
 {
     let k = holder(left, n);
     if n <= k {
@@ -61,7 +63,13 @@ pub fn step(
     n: usize,
 ) -> Turn
     requires { ⌜ Small n (now tasks) ⌝ }
-    ensures { λ r. ⌜ ((p : Plan) → Columned p n (now (capacities .entry)) (now (periods .entry)) (now (tasks .entry)) → Quiet n (now (rest .entry)) (now (wait .entry)) → Stepped (stateOf p (now (left .entry)) (now (position .entry)) (now (rest .entry)) (now (wait .entry)) (now (age .entry)) (now (usage .entry))) (stateOf p (now (left .exit)) (now (position .exit)) (now (rest .exit)) (now (wait .exit)) (now (age .exit)) (now (usage .exit))) r) ⌝ }
+    ensures { λ r. ⌜
+        ((p : Plan)
+        → Columned p n (now (capacities .entry)) (now (periods .entry)) (now (tasks .entry))
+        → Quiet n (now (rest .entry)) (now (wait .entry))
+        → Stepped (stateOf p (now (left .entry)) (now (position .entry)) (now (rest .entry)) (now (wait .entry)) (now (age .entry)) (now (usage .entry)))
+        (stateOf p (now (left .exit)) (now (position .exit)) (now (rest .exit)) (now (wait .exit)) (now (age .exit)) (now (usage .exit))) r)
+        ⌝ }
 {
     refill(left, position, capacities, n);
     grow(age, rest, n);

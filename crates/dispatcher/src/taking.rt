@@ -64,7 +64,10 @@ fn aim(
     guest: u32,
     task: u32,
 ) -> Aim
-    ensures { λ r. ⌜ ((usage : List ℕ) → Aims (stateOf plan (now (left .entry)) (now (position .entry)) (now (rest .entry)) (now (wait .entry)) (now (age .entry)) usage) guest task r) ⌝ }
+    ensures { λ r. ⌜
+        ((usage : List ℕ)
+        → Aims (stateOf plan (now (left .entry)) (now (position .entry)) (now (rest .entry)) (now (wait .entry)) (now (age .entry)) usage) guest task r)
+        ⌝ }
 {
     let found = examine(plan, left, position, rest, wait, age);
     if !found.ok {

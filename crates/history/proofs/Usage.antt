@@ -166,6 +166,8 @@ pub usage-adds-up :
 usage-adds-up p order cs = usage-counts p order cs .all ∙ ap (λ (n : ℕ). n % wrap) (answers-length cs (start p) (sound-start p order))
 
 -- 14 does not look at them.
-pub usage-unseen : (d : Dispatcher) (u : List ℕ) → stateOk (record { plan = d .plan; left = d .left; position = d .position; rest = d .rest; wait = d .wait; age = d .age; usage = u }) ≡ stateOk d
+pub usage-unseen :
+    (d : Dispatcher) (u : List ℕ)
+    → stateOk (record { plan = d .plan; left = d .left; position = d .position; rest = d .rest; wait = d .wait; age = d .age; usage = u }) ≡ stateOk d
 unfolding stateOk rowOk guestInRange taskInRange tasksIn
 usage-unseen d u = refl

@@ -65,7 +65,10 @@ module _ (g : Guest) (p : ℕ) (fits : GuestInTypes g) (low : p ≤ 7) (head : g
       and-true (eq-eqb (word (blockOf g p) 0 % 65536) 1 (omega arith)) (eq-eqb (word (blockOf g p) 0 / 65536) p (omega arith))
 
   -- one number of an entry, or zero past the tasks
-  column-is : (at-word : ℕ → ℕ) (xs : List ℕ) → ((i : ℕ) → i < 16 → word (blockOf g p) (at-word i) ≡ pick (ltb i (g .tasks)) (nth xs i) 0) → column (blockOf g p) at-word ≡ firstTasks (g .tasks) xs
+  column-is :
+      (at-word : ℕ → ℕ) (xs : List ℕ)
+      → ((i : ℕ) → i < 16 → word (blockOf g p) (at-word i) ≡ pick (ltb i (g .tasks)) (nth xs i) 0)
+      → column (blockOf g p) at-word ≡ firstTasks (g .tasks) xs
   unfolding column firstTasks
   column-is at-word xs h = table-ext _ _ 16 h
 

@@ -37,7 +37,13 @@ planA charge first second = planOf (top ∷ guest 9 8 20 charge (10 ∷ 8 ∷ []
 
 -- a guest of period 6 under 2/5 with a task 4/6/6, and two guests below
 abbrev pub planB : (capacity : ℕ) → Plan
-planB capacity = planOf (top ∷ guest 9 capacity 6 0 (4 ∷ []) (6 ∷ []) (6 ∷ []) ∷ guest 11 1 90 0 (1 ∷ []) (900 ∷ []) (900 ∷ []) ∷ guest 12 1 90 0 (1 ∷ []) (900 ∷ []) (900 ∷ []) ∷ [])
+planB capacity =
+    planOf
+    (top
+    ∷ guest 9 capacity 6 0 (4 ∷ []) (6 ∷ []) (6 ∷ [])
+    ∷ guest 11 1 90 0 (1 ∷ []) (900 ∷ []) (900 ∷ [])
+    ∷ guest 12 1 90 0 (1 ∷ []) (900 ∷ []) (900 ∷ [])
+    ∷ [])
 
 -- 8/9 above 1/11, whose second task has this deadline
 abbrev pub planC : (deadline : ℕ) → Plan

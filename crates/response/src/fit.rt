@@ -43,7 +43,9 @@ pub fn guest_response(
 // The response of the guest at place k of the columns.
 pub fn response_at(capacities: &[u32; 16], periods: &[u32; 16], k: usize) -> Found
     requires { ⌜ (k < 16) × ((1 ≤ nth (now capacities) k) × (nth (now capacities) k ≤ nth (now periods) k)) ⌝ }
-    ensures { λ r. ⌜ r ≡ guestUnder (guestsTake (now (capacities .entry)) (now (periods .entry)) k) (nth (now (capacities .entry)) k) (nth (now (periods .entry)) k) ⌝ }
+    ensures { λ r. ⌜
+        r ≡ guestUnder (guestsTake (now (capacities .entry)) (now (periods .entry)) k) (nth (now (capacities .entry)) k) (nth (now (periods .entry)) k)
+        ⌝ }
 {
     guest_response(capacities, periods, k, capacities[k], periods[k])
 }

@@ -58,7 +58,11 @@ pub fn all_met(
 ) -> bool
     requires { ⌜ (k ≤ 16) × (tasks ≤ 16) ⌝ }
     requires { ⌜ ((i : ℕ) → i < tasks → Ready (guestsTake (now capacities) (now periods) k) capacity period (now run) i) ⌝ }
-    ensures { λ r. ⌜ r ≡ metUnder (guestsTake (now (capacities .entry)) (now (periods .entry)) k) capacity period (now (run .entry)) (now (every .entry)) (now (deadline .entry)) tasks ⌝ }
+    ensures { λ r. ⌜
+        r
+        ≡ metUnder (guestsTake (now (capacities .entry)) (now (periods .entry)) k) capacity period (now (run .entry)) (now (every .entry))
+        (now (deadline .entry)) tasks
+        ⌝ }
 {
     let mut i: usize = 0;
     while i < tasks {

@@ -76,7 +76,10 @@ fn right_of(
 ) -> u64
     requires { ⌜ ((n ≤ 16) × (i < 16)) × ((1 ≤ capacity) × ((capacity ≤ period) × (1 ≤ nth (now run) i))) ⌝ }
     requires { ⌜ w + (period - capacity) < 4294967296 ⌝ }
-    ensures { λ r. ⌜ r ≡ cut (right (equationOf (guestsTake (now (capacities .entry)) (now (periods .entry)) n) capacity period (now (run .entry)) (now (every .entry)) i) w) ⌝ }
+    ensures { λ r. ⌜
+        r
+        ≡ cut (right (equationOf (guestsTake (now (capacities .entry)) (now (periods .entry)) n) capacity period (now (run .entry)) (now (every .entry)) i) w)
+        ⌝ }
 {
     let load = load_in(run, every, i, w + (period - capacity));
     if 4294967295 < load {
@@ -99,7 +102,9 @@ pub fn task_response(
 ) -> Found
     requires { ⌜ (n ≤ 16) × (i < 16) ⌝ }
     requires { ⌜ Ready (guestsTake (now capacities) (now periods) n) capacity period (now run) i ⌝ }
-    ensures { λ r. ⌜ r ≡ taskUnder (guestsTake (now (capacities .entry)) (now (periods .entry)) n) capacity period (now (run .entry)) (now (every .entry)) i most ⌝ }
+    ensures { λ r. ⌜
+        r ≡ taskUnder (guestsTake (now (capacities .entry)) (now (periods .entry)) n) capacity period (now (run .entry)) (now (every .entry)) i most
+        ⌝ }
 {
     let gap = period - capacity;
     if most <= gap {

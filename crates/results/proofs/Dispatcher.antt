@@ -60,5 +60,7 @@ pub usage-adds-up :
 usage-adds-up = usage.usage-adds-up
 
 -- 14 does not look at them.
-pub usage-unseen : (d : Dispatcher) (u : List ℕ) → stateOk (record { plan = d .plan; left = d .left; position = d .position; rest = d .rest; wait = d .wait; age = d .age; usage = u }) ≡ stateOk d
+pub usage-unseen :
+    (d : Dispatcher) (u : List ℕ)
+    → stateOk (record { plan = d .plan; left = d .left; position = d .position; rest = d .rest; wait = d .wait; age = d .age; usage = u }) ≡ stateOk d
 usage-unseen = usage.usage-unseen

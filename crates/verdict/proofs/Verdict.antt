@@ -49,7 +49,11 @@ module _ {A : Type 0} (refuse : ℕ → ℕ → A) where
   number-refuses-alone (suc x) place v h = refl
 
   -- the records' refusal comes first
-  pub records-refuse : (p : Plan) (tests : List Test) (v : A) {r : Refusal} → r ≡ planRefusal p → 0 < r .number → refuse (r .number) (r .place) ≡ refuseOr refuse (recordsThen p tests) v
+  pub records-refuse :
+      (p : Plan) (tests : List Test) (v : A) {r : Refusal}
+      → r ≡ planRefusal p
+      → 0 < r .number
+      → refuse (r .number) (r .place) ≡ refuseOr refuse (recordsThen p tests) v
   unfolding recordsThen
   records-refuse p tests v {r} e h = rw (← e) (number-refuses (r .number) (r .place) (refused (refusal tests) 0) v h)
 
@@ -111,14 +115,20 @@ module _ (p : Plan) {r : Refusal} (e : r ≡ planRefusal p) (h : r .number ≤ 0
     place-found = s ∙ place-is p (c .ids) id (in-order .few) (f .ids)
 
     -- no such guest
-    pub guest-missing : {A : Type 0} (refuse : ℕ → ℕ → A) (ts : List Test) (v : A) → p .count ≤ k → refuse 7 0 ≡ refuseOr refuse (recordsThen p (hasGuest p id orRefuse 7 ∷ ts)) v
+    pub guest-missing :
+        {A : Type 0} (refuse : ℕ → ℕ → A) (ts : List Test) (v : A)
+        → p .count ≤ k
+        → refuse 7 0 ≡ refuseOr refuse (recordsThen p (hasGuest p id orRefuse 7 ∷ ts)) v
     unfolding hasGuest
     guest-missing refuse ts v l =
         test-refuses refuse 7 ts v (omega arith) (le-ltb (placeOf p id) (p .count) (omega (arith, place-found)))
         ∙ records-pass refuse p (hasGuest p id orRefuse 7 ∷ ts) v not-refused
 
     -- there is one: the tests after 7 decide
-    pub guest-there : {A : Type 0} (refuse : ℕ → ℕ → A) (ts : List Test) (v : A) → k < p .count → refusedBy refuse (refusal ts) 0 v ≡ refuseOr refuse (recordsThen p (hasGuest p id orRefuse 7 ∷ ts)) v
+    pub guest-there :
+        {A : Type 0} (refuse : ℕ → ℕ → A) (ts : List Test) (v : A)
+        → k < p .count
+        → refusedBy refuse (refusal ts) 0 v ≡ refuseOr refuse (recordsThen p (hasGuest p id orRefuse 7 ∷ ts)) v
     unfolding hasGuest
     guest-there refuse ts v l =
         test-passes refuse 7 ts v (lt-ltb (placeOf p id) (p .count) (omega (arith, place-found)))

@@ -64,7 +64,11 @@ fn judge_task(
     i: usize,
 ) -> TaskVerdict
     requires { ⌜ Sure g (now capacities) (now periods) k × (i < g .tasks) ⌝ }
-    ensures { λ r. ⌜ r ≡ taskSays (allTo (fittedAt (now (capacities .entry)) (now (periods .entry))) (k + 1)) (deadlineOf g i) (taskOf (guestsTake (now (capacities .entry)) (now (periods .entry)) k) g i (limit g i)) ⌝ }
+    ensures { λ r. ⌜
+        r
+        ≡ taskSays (allTo (fittedAt (now (capacities .entry)) (now (periods .entry))) (k + 1)) (deadlineOf g i)
+        (taskOf (guestsTake (now (capacities .entry)) (now (periods .entry)) k) g i (limit g i))
+        ⌝ }
 {
     let every = g.every;
     let deadline = g.deadline;
@@ -96,7 +100,12 @@ pub fn number_task(
     task: u32,
 ) -> TaskVerdict
     requires { ⌜ Sure g (now capacities) (now periods) k ⌝ }
-    ensures { λ r. ⌜ r ≡ refusedBy TaskVerdict.Refused (refusal (within 1 (g .tasks) task orRefuse 8 ∷ [])) 0 (taskSays (allTo (fittedAt (now (capacities .entry)) (now (periods .entry))) (k + 1)) (deadlineOf g (task - 1)) (taskOf (guestsTake (now (capacities .entry)) (now (periods .entry)) k) g (task - 1) (limit g (task - 1)))) ⌝ }
+    ensures { λ r. ⌜
+        r
+        ≡ refusedBy TaskVerdict.Refused (refusal (within 1 (g .tasks) task orRefuse 8 ∷ [])) 0
+        (taskSays (allTo (fittedAt (now (capacities .entry)) (now (periods .entry))) (k + 1)) (deadlineOf g (task - 1))
+        (taskOf (guestsTake (now (capacities .entry)) (now (periods .entry)) k) g (task - 1) (limit g (task - 1))))
+        ⌝ }
 {
     if task < 1 {
         return TaskVerdict::Refused(8, 0);

@@ -46,7 +46,12 @@ loop-less : tie.Need-loop-less Inv-loop μ-loop
 loop-less c = search needs
 
 loop-again : tie.Need-loop-again Inv-loop μ-loop
-loop-again c = let l = c .before .before .before .before .before in (search needs, cut-next (nth (l .before .args .cost .now)) (nth (l .before .args .every .now)) _ _ _ _ _ (l .loop .inv .1) (c .before .share .ensures .0) (c .capped .ensures))
+loop-again c =
+    let l = c .before .before .before .before .before in (
+      search needs,
+      cut-next (nth (l .before .args .cost .now)) (nth (l .before .args .every .now)) _ _ _ _ _ (l .loop .inv .1) (c .before .share .ensures .0)
+          (c .capped .ensures),
+    )
 
 returns : tie.Need-returns Inv-loop μ-loop
 returns c = let h : c .before .loop .k ≡ c .before .before .args .n = omega arith in rw (← h) (c .before .loop .inv .1)

@@ -43,7 +43,13 @@ loop-less : tie.Need-loop-less Inv-loop μ-loop
 loop-less c = search needs
 
 loop-again : tie.Need-loop-again Inv-loop μ-loop
-loop-again c = let l = c .before .before .before .before in (search needs, omega (arith, asked-next (nth (l .before .args .cost .now)) (nth (l .before .args .every .now)) (l .loop .k) (l .before .args .v), c .share .ensures .0, l .loop .inv .1), search needs)
+loop-again c =
+    let l = c .before .before .before .before in (
+      search needs,
+      omega
+          (arith, asked-next (nth (l .before .args .cost .now)) (nth (l .before .args .every .now)) (l .loop .k) (l .before .args .v), c .share .ensures .0, l .loop .inv .1),
+      search needs,
+    )
 
 returns : tie.Need-returns Inv-loop μ-loop
 returns c = let h : c .before .loop .k ≡ c .before .before .args .n = omega arith in rw (← h) (c .before .loop .inv .1)

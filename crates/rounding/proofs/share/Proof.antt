@@ -1,12 +1,17 @@
 -- `rounding::share` meets its contract. Assumes nothing.
-use mathlib.Core.Path.{refl}
-use Prim.Native.Nat.{_≤_}
+use mathlib.Core.Path.{_≡_, refl}
+use Prim.Native.Nat.{ℕ, _*_, _≤_}
 use native.Mathlib.Omega.{arith}
 use native.Mathlib.Nat.{mul-le-mul}
 use borrow.Author.Needs.{needs}
+use Rattle.rounding.specs.Up.{up}
 use Rattle.rounding.proofs.Up.{up-le}
 use Rattle.rounding.proofs.share.Statement.{statement}
 use Rattle.rounding.proofs.share.Tie as tie
+
+-- the bound: the quotient is no more than the window
+bound : (v every : ℕ) {q w : ℕ} → q ≡ up v every → w ≤ 4294967295 → q * w ≤ v * 4294967295
+bound v every e h = mul-le-mul (omega (arith, e, up-le v every)) h
 
 quotient-requires : tie.Need-quotient-requires
 quotient-requires c κs = search needs
@@ -15,10 +20,14 @@ wide-requires : tie.Need-wide-requires
 wide-requires c κs = search needs
 
 mul-result : tie.Need-mul-result
-mul-result c = let h : c .before .quotient .result ≤ c .before .before .args .v = omega (arith, up-le (c .before .before .args .v) (c .before .before .args .every)) in let k : c .wide .result ≤ 4294967295 = omega arith in omega (arith, mul-le-mul h k)
+mul-result c =
+    let a = c .before .before .args in
+    omega (arith, bound (a .v) (a .every) {w = c .wide .result} (c .before .quotient .ensures) (omega arith))
 
 returns : tie.Need-returns
-returns c = (rw (c .before .quotient .ensures, c .wide .ensures .0) refl, let h : c .before .quotient .result ≤ c .before .before .args .v = omega (arith, up-le (c .before .before .args .v) (c .before .before .args .every)) in let k : c .wide .result ≤ 4294967295 = omega arith in omega (arith, mul-le-mul h k))
+returns c =
+    let a = c .before .before .args in
+    (rw (c .before .quotient .ensures, c .wide .ensures .0) refl, bound (a .v) (a .every) (c .before .quotient .ensures) (omega arith))
 
 pub share-spec : {M : Type 1} → statement M
 share-spec = tie.close (tie.spec quotient-requires wide-requires mul-result returns)

@@ -48,7 +48,11 @@ loop-less : tie.Need-loop-less Inv-loop μ-loop
 loop-less c = search needs
 
 loop-again : tie.Need-loop-again Inv-loop μ-loop
-loop-again c = (search needs, upTo-next (grown (c .before .before .before .before .before .args .rest .now)) _ _ _ _ (c .before .before .before .before .loop .inv .1) (c .older .ensures))
+loop-again c = (
+  search needs,
+  upTo-next (grown (c .before .before .before .before .before .args .rest .now)) _ _ _ _ (c .before .before .before .before .loop .inv .1)
+      (c .older .ensures),
+)
 
 returns : tie.Need-returns Inv-loop μ-loop
 returns c = upTo-done (grown (c .before .before .args .rest .now)) _ _ _ _ (c .before .loop .inv .1) (search needs) (search needs)

@@ -12,13 +12,21 @@ charged-run-requires : tie.Need-charged-run-requires
 charged-run-requires c κs = search needs
 
 cast-limit : tie.Need-cast-limit
-cast-limit c = omega (arith, charged-small (c .before .before .args .used) (c .before .before .args .run) (c .before .before .args .charge) (c .before .before .pre) (search needs) (c .before .limit .ensures), c .charged-run .ensures)
+cast-limit c =
+    omega (
+      arith,
+      charged-small (c .before .before .args .used) (c .before .before .args .run) (c .before .before .args .charge) (c .before .before .pre)
+          (search needs) (c .before .limit .ensures),
+      c .charged-run .ensures,
+    )
 
 limit-requires-2 : tie.Need-limit-requires-2
 limit-requires-2 c κs = search needs
 
 returns : tie.Need-returns
-returns c = full-is (c .before .before .before .args .used) (c .before .before .before .args .run) (c .before .before .before .args .charge) (c .before .before .limit .ensures) (c .before .charged-run .ensures) (c .limit2 .ensures)
+returns c =
+    full-is (c .before .before .before .args .used) (c .before .before .before .args .run) (c .before .before .before .args .charge)
+    (c .before .before .limit .ensures) (c .before .charged-run .ensures) (c .limit2 .ensures)
 
 pub full-spec : {M : Type 1} → statement M
 full-spec =

@@ -20,7 +20,9 @@ more-requires-3 : tie.Need-more-requires-3
 more-requires-3 c κs = search needs
 
 returns-2 : tie.Need-returns-2
-returns-2 c = rw (c .more3 .ensures, c .before .before .before .more2 .ensures) (idle-counted _ _ _ _ (c .before .before .before .before .before .if1 .left) (c .before .before .if2 .taken))
+returns-2 c =
+    rw (c .more3 .ensures, c .before .before .before .more2 .ensures)
+    (idle-counted _ _ _ _ (c .before .before .before .before .before .if1 .left) (c .before .before .if2 .taken))
 
 returns-3 : tie.Need-returns-3
 returns-3 c = rw (c .before .more2 .ensures) (work-counted _ _ _ _ (c .before .before .before .if1 .left) (c .if2 .left))

@@ -95,7 +95,8 @@ smallest-in-smallest-in-requires : (t : ℕ) → smallest-in-lts.Need-smallest-i
   or-at-reads.Asked,
   or-at-reads.Learnt,
 ) (smallest-in-at t) smallest-in.Post
-smallest-in-smallest-in-requires t c κs = let s = c .before .before .before .before in (omega (arith, s .pre .0), ((s .pre .1 .0 .0, (omega arith, omega arith)), s .pre .1 .1))
+smallest-in-smallest-in-requires t c κs =
+    let s = c .before .before .before .before in (omega (arith, s .pre .0), ((s .pre .1 .0 .0, (omega arith, omega arith)), s .pre .1 .1))
 
 smallest-in-enum-told-2 : (t : ℕ) → smallest-in-lts.Need-enum-told-2 (
   try-at-reads.Asked,
@@ -115,7 +116,8 @@ smallest-in-smallest-in-requires-2 : (t : ℕ) → smallest-in-lts.Need-smallest
   or-at-reads.Asked,
   or-at-reads.Learnt,
 ) (smallest-in-at t) smallest-in.Post
-smallest-in-smallest-in-requires-2 t c κs = let s = c .before .before .before .before in (omega (arith, s .pre .0), ((s .pre .1 .0 .0, (omega arith, omega arith)), s .pre .1 .1))
+smallest-in-smallest-in-requires-2 t c κs =
+    let s = c .before .before .before .before in (omega (arith, s .pre .0), ((s .pre .1 .0 .0, (omega arith, omega arith)), s .pre .1 .1))
 
 smallest-in-enum-told-3 : (t : ℕ) → smallest-in-lts.Need-enum-told-3 (
   try-at-reads.Asked,
@@ -135,7 +137,8 @@ smallest-in-smallest-in-requires-3 : (t : ℕ) → smallest-in-lts.Need-smallest
   or-at-reads.Asked,
   or-at-reads.Learnt,
 ) (smallest-in-at t) smallest-in.Post
-smallest-in-smallest-in-requires-3 t c κs = let s = c .before .before .before .before in (omega (arith, s .pre .0), ((s .pre .1 .0 .0, (omega arith, omega arith)), s .pre .1 .1))
+smallest-in-smallest-in-requires-3 t c κs =
+    let s = c .before .before .before .before in (omega (arith, s .pre .0), ((s .pre .1 .0 .0, (omega arith, omega arith)), s .pre .1 .1))
 
 smallest-in-or-at-requires : (t : ℕ) → smallest-in-lts.Need-or-at-requires (
   try-at-reads.Asked,

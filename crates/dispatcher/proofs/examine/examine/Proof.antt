@@ -27,7 +27,10 @@ blanks-ok-requires : tie.Need-blanks-ok-requires
 blanks-ok-requires c κs = search needs
 
 returns-3 : tie.Need-returns-3
-returns-3 c = λ u. examined _ (c .before .before .guests-ok .result) (c .before .before .before .before .if1 .left) (c .before .before .before .if2 .left) (c .before .before .guests-ok .ensures .0) (c .before .before .guests-ok .ensures .1) (c .before .blanks-ok .ensures)
+returns-3 c =
+    λ u.
+    examined _ (c .before .before .guests-ok .result) (c .before .before .before .before .if1 .left) (c .before .before .before .if2 .left)
+    (c .before .before .guests-ok .ensures .0) (c .before .before .guests-ok .ensures .1) (c .before .blanks-ok .ensures)
 
 pub examine-spec : {M : Type 1} → statement M
 examine-spec =

@@ -12,7 +12,8 @@ use Rattle.dispatcher.proofs.examine.guests_ok.Statement.{statement}
 use Rattle.dispatcher.proofs.examine.guests_ok.Tie as tie
 
 abbrev Inv-loop : tie.InvT-loop
-Inv-loop left position rest wait age plan n ids₀ capacities₀ periods₀ tasks₀ ok₀ k₀ ids capacities periods tasks ok k = (k ≤ n) × ((ok ≡ allTo (guestGoes (stateOf plan left position rest wait age [])) k) × Columns plan ids capacities periods tasks k)
+Inv-loop left position rest wait age plan n ids₀ capacities₀ periods₀ tasks₀ ok₀ k₀ ids capacities periods tasks ok k =
+    (k ≤ n) × ((ok ≡ allTo (guestGoes (stateOf plan left position rest wait age [])) k) × Columns plan ids capacities periods tasks k)
 
 abbrev μ-loop : tie.MeasureT-loop
 μ-loop left position rest wait age plan n ids₀ capacities₀ periods₀ tasks₀ ok₀ k₀ ids capacities periods tasks ok k = n - k

@@ -19,7 +19,9 @@ unmoved-requires-2 : tie.Need-unmoved-requires-2
 unmoved-requires-2 c κs = search needs
 
 returns-2 : tie.Need-returns-2
-returns-2 c = rw (c .unmoved2 .ensures) (run-long _ _ (sym (c .before .before .before .before .pre .okay) ∙ not-false _ (c .before .before .if1 .left)) (c .before .if2 .taken))
+returns-2 c =
+    rw (c .unmoved2 .ensures)
+    (run-long _ _ (sym (c .before .before .before .before .pre .okay) ∙ not-false _ (c .before .before .if1 .left)) (c .before .if2 .taken))
 
 cast-n : tie.Need-cast-n
 cast-n c = search needs

@@ -9,7 +9,12 @@ use Rattle.dispatcher.proofs.running.steps.Statement.{statement}
 use Rattle.dispatcher.proofs.running.steps.Tie as tie
 
 abbrev Inv-loop : tie.InvT-loop
-Inv-loop left₀ position₀ rest₀ wait₀ age₀ usage₀ capacities periods tasks n ticks turn₀ done₀ left position rest wait age usage turn done = (done ≤ ticks) × ((p : Plan) → Columned p n capacities periods tasks → Quiet n rest₀ wait₀ → (Going (stateOf p left₀ position₀ rest₀ wait₀ age₀ usage₀) ticks done turn (stateOf p left position rest wait age usage)) × (Quiet n rest wait))
+Inv-loop left₀ position₀ rest₀ wait₀ age₀ usage₀ capacities periods tasks n ticks turn₀ done₀ left position rest wait age usage turn done =
+    (done ≤ ticks)
+    × ((p : Plan)
+    → Columned p n capacities periods tasks
+    → Quiet n rest₀ wait₀
+    → (Going (stateOf p left₀ position₀ rest₀ wait₀ age₀ usage₀) ticks done turn (stateOf p left position rest wait age usage)) × (Quiet n rest wait))
 
 abbrev μ-loop : tie.MeasureT-loop
 μ-loop left₀ position₀ rest₀ wait₀ age₀ usage₀ capacities periods tasks n ticks turn₀ done₀ left position rest wait age usage turn done = ticks - done

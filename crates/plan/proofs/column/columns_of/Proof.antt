@@ -11,13 +11,22 @@ use Rattle.plan.proofs.column.columns_of.Statement.{statement}
 use Rattle.plan.proofs.column.columns_of.Tie as tie
 
 abbrev Inv-loop : tie.InvT-loop
-Inv-loop guests ids₀ capacities₀ periods₀ k₀ ids capacities periods k = (k ≤ 8) × (Filled ids (λ i. getD guests i absent .id) k × (Filled capacities (λ i. getD guests i absent .capacity) k × Filled periods (λ i. getD guests i absent .period) k))
+Inv-loop guests ids₀ capacities₀ periods₀ k₀ ids capacities periods k =
+    (k ≤ 8)
+    × (Filled ids (λ i. getD guests i absent .id) k
+    × (Filled capacities (λ i. getD guests i absent .capacity) k × Filled periods (λ i. getD guests i absent .period) k))
 
 abbrev μ-loop : tie.MeasureT-loop
 μ-loop guests ids₀ capacities₀ periods₀ k₀ ids capacities periods k = 8 - k
 
 loop-holds : tie.Need-loop-holds Inv-loop μ-loop
-loop-holds c = (search needs, (record { long = refl; holds = λ z h. absurd (omega arith) }, (record { long = refl; holds = λ z h. absurd (omega arith) }, record { long = refl; holds = λ z h. absurd (omega arith) })))
+loop-holds c = (
+  search needs,
+  (
+    record { long = refl; holds = λ z h. absurd (omega arith) },
+    (record { long = refl; holds = λ z h. absurd (omega arith) }, record { long = refl; holds = λ z h. absurd (omega arith) }),
+  ),
+)
 
 mul-ids : tie.Need-mul-ids Inv-loop μ-loop
 mul-ids c = search needs
@@ -62,10 +71,23 @@ loop-less : tie.Need-loop-less Inv-loop μ-loop
 loop-less c = search needs
 
 loop-again : tie.Need-loop-again Inv-loop μ-loop
-loop-again c = let l = c .before in (search needs, (filled-next _ _ (omega arith) (l .loop .inv .1 .0), (filled-next _ _ (omega arith) (l .loop .inv .1 .1 .0), filled-next _ _ (omega arith) (l .loop .inv .1 .1 .1))))
+loop-again c =
+    let l = c .before in (
+      search needs,
+      (
+        filled-next _ _ (omega arith) (l .loop .inv .1 .0),
+        (filled-next _ _ (omega arith) (l .loop .inv .1 .1 .0), filled-next _ _ (omega arith) (l .loop .inv .1 .1 .1)),
+      ),
+    )
 
 returns : tie.Need-returns Inv-loop μ-loop
-returns c = let l = c .before in record { ids = filled-done _ _ _ (c .loop-test .left) (l .loop .inv .1 .0); capacities = filled-done _ _ _ (c .loop-test .left) (l .loop .inv .1 .1 .0); periods = filled-done _ _ _ (c .loop-test .left) (l .loop .inv .1 .1 .1) }
+returns c =
+    let l = c .before in
+    record {
+      ids = filled-done _ _ _ (c .loop-test .left) (l .loop .inv .1 .0);
+      capacities = filled-done _ _ _ (c .loop-test .left) (l .loop .inv .1 .1 .0);
+      periods = filled-done _ _ _ (c .loop-test .left) (l .loop .inv .1 .1 .1);
+    }
 
 pub columns-of-spec : {M : Type 1} → statement M
 columns-of-spec =

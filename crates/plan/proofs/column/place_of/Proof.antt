@@ -26,7 +26,11 @@ element-copy-out-if1 : tie.Need-element-copy-out-if1 Inv-loop μ-loop
 element-copy-out-if1 c = search needs
 
 returns : tie.Need-returns Inv-loop μ-loop
-returns c = let l = c .before .before .before in sym (first-hit (λ j. eqb (nth (l .before .args .ids .now) j) (l .before .args .id)) _ _ (c .before .before .loop-test .taken) (eq-eqb _ _ (c .if1 .taken))) ∙ l .loop .inv .1
+returns c =
+    let l = c .before .before .before in
+    sym
+    (first-hit (λ j. eqb (nth (l .before .args .ids .now) j) (l .before .args .id)) _ _ (c .before .before .loop-test .taken) (eq-eqb _ _ (c .if1 .taken)))
+    ∙ l .loop .inv .1
 
 add-k : tie.Need-add-k Inv-loop μ-loop
 add-k c = search needs
@@ -35,7 +39,14 @@ loop-less : tie.Need-loop-less Inv-loop μ-loop
 loop-less c = search needs
 
 loop-again : tie.Need-loop-again Inv-loop μ-loop
-loop-again c = let l = c .before .before .before in (search needs, sym (first-skip (λ j. eqb (nth (l .before .args .ids .now) j) (l .before .args .id)) _ _ (c .before .before .loop-test .taken) (ne-eqb _ _ (c .if1 .left))) ∙ l .loop .inv .1)
+loop-again c =
+    let l = c .before .before .before in (
+      search needs,
+      sym
+          (first-skip (λ j. eqb (nth (l .before .args .ids .now) j) (l .before .args .id)) _ _ (c .before .before .loop-test .taken)
+          (ne-eqb _ _ (c .if1 .left)))
+          ∙ l .loop .inv .1,
+    )
 
 returns-2 : tie.Need-returns-2 Inv-loop μ-loop
 returns-2 c = let l = c .before in sym (first-none (λ j. eqb (nth (l .before .args .ids .now) j) (l .before .args .id)) _ _ (c .loop-test .left)) ∙ l .loop .inv .1

@@ -29,7 +29,9 @@ is-at-requires c κs = search needs
 
 returns : tie.Need-returns Inv-loop μ-loop
 unfolding fittedAt
-returns c = all-fails _ _ _ (c .before .before .before .loop-test .taken) (test-is (c .before .before .response-at .ensures) (c .before .is-at .ensures) (not-true _ (c .if1 .taken)))
+returns c =
+    all-fails _ _ _ (c .before .before .before .loop-test .taken)
+    (test-is (c .before .before .response-at .ensures) (c .before .is-at .ensures) (not-true _ (c .if1 .taken)))
 
 add-k : tie.Need-add-k Inv-loop μ-loop
 add-k c = search needs
@@ -39,7 +41,9 @@ loop-less c = search needs
 
 loop-again : tie.Need-loop-again Inv-loop μ-loop
 unfolding fittedAt
-loop-again c = let l = c .before .before .before .before in (search needs, all-next _ _ (l .loop .inv .1) (test-is (c .before .before .response-at .ensures) (c .before .is-at .ensures) (not-false _ (c .if1 .left))))
+loop-again c =
+    let l = c .before .before .before .before in
+    (search needs, all-next _ _ (l .loop .inv .1) (test-is (c .before .before .response-at .ensures) (c .before .is-at .ensures) (not-false _ (c .if1 .left))))
 
 returns-2 : tie.Need-returns-2 Inv-loop μ-loop
 returns-2 c = all-done _ _ _ (omega arith) (c .before .loop .inv .1)

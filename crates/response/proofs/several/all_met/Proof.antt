@@ -36,7 +36,9 @@ is-at-requires c κs = search needs
 
 returns : tie.Need-returns Inv-loop μ-loop
 unfolding metUnder
-returns c = all-fails _ _ _ (c .before .before .before .before .loop-test .taken) (test-is (c .before .before .task-response .ensures) (c .before .is-at .ensures) (not-true _ (c .if1 .taken)))
+returns c =
+    all-fails _ _ _ (c .before .before .before .before .loop-test .taken)
+    (test-is (c .before .before .task-response .ensures) (c .before .is-at .ensures) (not-true _ (c .if1 .taken)))
 
 add-i : tie.Need-add-i Inv-loop μ-loop
 add-i c = search needs
@@ -46,7 +48,11 @@ loop-less c = search needs
 
 loop-again : tie.Need-loop-again Inv-loop μ-loop
 unfolding metUnder
-loop-again c = let l = c .before .before .before .before .before in (search needs, all-next _ _ (l .loop .inv .1) (test-is (c .before .before .task-response .ensures) (c .before .is-at .ensures) (not-false _ (c .if1 .left))))
+loop-again c =
+    let l = c .before .before .before .before .before in (
+      search needs,
+      all-next _ _ (l .loop .inv .1) (test-is (c .before .before .task-response .ensures) (c .before .is-at .ensures) (not-false _ (c .if1 .left))),
+    )
 
 returns-2 : tie.Need-returns-2 Inv-loop μ-loop
 unfolding metUnder

@@ -37,7 +37,11 @@ capped-requires : tie.Need-capped-requires
 capped-requires c κs = search needs
 
 returns : tie.Need-returns
-returns c = let s = c .before .before .before .before in right-by (guestsTake _ _ _) _ _ _ _ (s .before .before .whole-of .ensures .0) (s .before .times .ensures .0) (s .rest-of .ensures) (c .before .before .before .wide .ensures .0) (c .before .before .times2 .ensures .0) (take-cut _ _ _ _ (c .before .asked-of .ensures)) (c .capped .ensures)
+returns c =
+    let s = c .before .before .before .before in
+    right-by (guestsTake _ _ _) _ _ _ _ (s .before .before .whole-of .ensures .0) (s .before .times .ensures .0) (s .rest-of .ensures)
+    (c .before .before .before .wide .ensures .0) (c .before .before .times2 .ensures .0) (take-cut _ _ _ _ (c .before .asked-of .ensures))
+    (c .capped .ensures)
 
 pub right-at-spec : {M : Type 1} → statement M
 right-at-spec =

@@ -21,7 +21,9 @@ cast-right-at : tie.Need-cast-right-at
 cast-right-at c = search needs
 
 right-at-requires : tie.Need-right-at-requires
-right-at-requires c κs = let a = c .before .before in (a .pre .0 .0 .0, (a .pre .0 .1 .0, (a .pre .0 .1 .1 .0, load-pos _ _ _ _ _ (a .pre .0 .1 .1 .1) (c .before .load-in .ensures))))
+right-at-requires c κs =
+    let a = c .before .before in
+    (a .pre .0 .0 .0, (a .pre .0 .1 .0, (a .pre .0 .1 .1 .0, load-pos _ _ _ _ _ (a .pre .0 .1 .1 .1) (c .before .load-in .ensures))))
 
 returns-2 : tie.Need-returns-2
 returns-2 c = right-small (guestsTake _ _ _) _ _ _ _ _ _ _ _ (c .before .before .load-in .ensures) (c .before .if1 .left) (c .right-at .ensures)
