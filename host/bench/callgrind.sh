@@ -1,6 +1,6 @@
 #!/bin/sh
 # Prints the instructions of one call, of the library, of plain Rust behind the same interface and of plain Rust by reference,
-# for each case or the named ones. The count of a call is the difference between 30 calls and 10, so that the start of the program falls out.
+# for each case or the named ones. The count of a call is a twentieth of the difference between 30 calls and 10 (of a run: that between 2 and 1), so that the start of the program falls out.
 # From the folder host: bench/callgrind.sh [NAME..]
 set -eu
 cd "$(dirname "$0")/.."

@@ -1,6 +1,7 @@
 /* The core-sharing library's C interface, for x86-64. Link libhost.a, which `rt staticlib host` writes.
  *
- * On one core, up to 8 guests share the time, each with up to 16 tasks. Every rule stands in document 01.
+ * On one core, up to 8 guests share the time, each with up to 16 tasks. Every rule stands in document 01,
+ * as the requests P1 to P4 of document 02 change it.
  *
  * - Records and states cross by value, and bytes are lent for the call alone: the library keeps no pointer and
  *   no state of its own, so calls from several threads need no lock.
@@ -77,7 +78,7 @@ typedef struct CsVerdict {
  * Nothing else changes these numbers: a release leaves them, a run adds what its single ticks would, and a refused
  * call hands them back as they came. After 2^64 - 1 each goes on at 0. They have no range: any numbers are taken
  * and refusal 14 does not look at them, so a host may set them to 0 whenever it likes. From a fresh state on,
- * usage[0] to usage[count - 1] and usage[16] sum to the ticks done, modulo 2^64; places past the count stay 0. */
+ * usage[0] to usage[count - 1] and usage[16] sum to the ticks done, modulo 2^64; places past the count count nothing. */
 typedef struct CsDispatcher {
     CsPlan plan;
     uint64_t usage[17];   /* ticks of each guest, those of them that it idled away, ticks that no guest had */

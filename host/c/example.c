@@ -15,7 +15,7 @@ static CsGuest guest(uint32_t id, uint32_t capacity, uint32_t period, uint32_t r
     return made;
 }
 
-/* Ends with the number where something is refused. */
+/* Prints a refusal, and says whether there was one. */
 static int refused(const char *what, CsRefusal refusal) {
     if (refusal.number == 0) {
         return 0;

@@ -23,7 +23,7 @@ use Rattle.verdict.specs.Quoted.{Quotes, Quoted}
 use Rattle.verdict.specs.declared.TaskVerdict.{TaskVerdict}
 use Rattle.verdict.specs.declared.TaskVerdict.the-variants.{Met, UnmetAt, Unmet, Unjudged}
 use Rattle.analysis.specs.Guests.{There, AllFit}
-use Rattle.analysis.specs.Tasks.{TaskSolves, InTime, InPeriod, TaskQuoted, TaskMet, TaskUnmetAt, TaskUnmet, TaskUnjudged, TaskMeans, AllInTime}
+use Rattle.analysis.specs.Tasks.{TaskSolves, InTime, InPeriod, TaskQuoted, TaskMet, TaskUnmetAt, TaskUnmet, TaskUnjudged, TaskMeans, TaskThere, AllInTime}
 use Rattle.lists.proofs.All.{all-at, all-by, all-false}
 use Rattle.lists.proofs.Search.{is-at}
 use Rattle.equation.proofs.Solve.{Answers, solve-answers, solve-by}
@@ -95,12 +95,6 @@ task-verdict-means p id k i t h = rw (task-verdict-is p id k i t h) (go (fittedT
     go : (b : Bool) → fittedTo p k ≡ b → TaskMeans p k i (taskSays b (deadlineOf (guestAt (p .guests) k) i) (taskResponse p k i))
     go false e = unjudged-means p k i _ (taskResponse p k i) e
     go true e = response-means p k i (fitted-all p k e) (solve (taskRight p k i) room) (solve-answers (taskRight p k i) room)
-
--- A guest with that id is there, and has a task of that number.
-pub record TaskThere (p : Plan) (id number : ℕ) : Type 0 where
-  pub there : There p id (placeOf p id)
-  pub from-1 : number ≡ suc (number - 1)
-  pub in-guest : number - 1 < guestAt (p .guests) (placeOf p id) .tasks
 
 -- a verdict that is no refusal is of such a task, and has its meaning
 pub judged-means : (p : Plan) (id number : ℕ) {v : TaskVerdict} → ((n m : ℕ) → task.Refused n m ≡ v → ⊥) → taskVerdict p id number ≡ v

@@ -1,13 +1,20 @@
 -- What a task's verdict says of its equation.
 use mathlib.Core.Path.{_≡_}
-use Prim.Native.Nat.{ℕ, _+_, _≤_, _<_}
+use Prim.Native.Nat.{ℕ, suc, _+_, _-_, _≤_, _<_}
+use Rattle.plan.specs.Place.{placeOf}
 use Rattle.plan.specs.Records.{guestAt, everyOf, deadlineOf}
 use Rattle.plan.specs.declared.Plan.{Plan}
 use Rattle.response.specs.Task.{gap, taskRight}
 use Rattle.verdict.specs.declared.TaskVerdict.{TaskVerdict}
 use Rattle.verdict.specs.declared.TaskVerdict.the-variants.{Met, UnmetAt, Unmet, Unjudged}
-use Rattle.analysis.specs.Guests.{NoneFits, AllFit}
+use Rattle.analysis.specs.Guests.{There, NoneFits, AllFit}
 use Rattle.verdict.specs.declared.TaskVerdict.the-variants as task
+
+-- records in order, with a guest of that id that has a task of that number, from 1
+pub record TaskThere (p : Plan) (id number : ℕ) : Type 0 where
+  pub there : There p id (placeOf p id)
+  pub from-1 : number ≡ suc (number - 1)
+  pub in-guest : number - 1 < guestAt (p .guests) (placeOf p id) .tasks
 
 -- w is a window of at least 1 that solves the task's equation
 pub record TaskSolves (p : Plan) (k i w : ℕ) : Type 0 where

@@ -1,1 +1,1 @@
-// What the verdicts mean, and document 01's numbers: theorems, and no code.
+// What the verdicts and the smallest capacity mean. Theorems, and no code.

@@ -1,6 +1,6 @@
 // The tasks' part in a tick, over the lent arrays of 128.
 ghost use mathlib.Core.Path.{_≡_};
-ghost use Prim.Native.Nat.{ℕ, _+_, _-_, _*_, _≤_, _<_, min};
+ghost use Prim.Native.Nat.{_+_, _-_, _*_, _≤_, _<_, min};
 ghost use lib.Dec.{ltb};
 ghost use Rattle.lists.specs.Choice.{pick};
 ghost use Rattle.lists.specs.Places.{upTo};

@@ -1,6 +1,6 @@
 // The guests' part in a tick, over the lent arrays of 8.
 ghost use mathlib.Core.Path.{_≡_};
-ghost use Prim.Native.Nat.{ℕ, _+_, _≤_};
+ghost use Prim.Native.Nat.{_+_, _≤_};
 ghost use lib.Dec.{ltb, eqb};
 ghost use Rattle.lists.specs.Choice.{pick};
 ghost use Rattle.lists.specs.Places.{upTo};

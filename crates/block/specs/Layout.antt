@@ -41,7 +41,7 @@ tasksChargeWord = 4
 abbrev pub spareFrom : ℕ
 spareFrom = 5
 
--- and up to this one
+-- and before this one
 abbrev pub spareTo : ℕ
 spareTo = 8
 

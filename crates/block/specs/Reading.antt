@@ -45,11 +45,11 @@ guestOf b = record {
   deadline = column b deadlineWord;
 }
 
--- refusal 2: the sum of the block's 128 words, modulo 4,294,967,296, is zero
+-- passes 2: the sum of the block's 128 words, modulo 4,294,967,296, is zero
 abbrev pub sumsToZero : List ℕ → Bool
 sumsToZero b = eqb (wrapped (word b) blockWords) 0
 
--- refusal 3: the kind is 1
+-- passes 3: the kind is 1
 abbrev pub kindOk : List ℕ → Bool
 kindOk b = eqb (kindIn b) guestKind
 
@@ -57,11 +57,11 @@ kindOk b = eqb (kindIn b) guestKind
 abbrev pub ownPlace : List ℕ → ℕ → Bool
 ownPlace b place = eqb (placeIn b) place
 
--- the words from one on, up to another, are zero
+-- the words from one on, and before another, are zero
 unfoldable pub zeroBetween : List ℕ → (from to : ℕ) → Bool
 zeroBetween b from to = allTo (λ k. eqb (word b (from + k)) 0) (to - from)
 
--- refusal 5: the bytes that must be zero are
+-- passes 5: the bytes that must be zero are
 abbrev pub zerosOk : List ℕ → Bool
 zerosOk b = zeroBetween b spareFrom spareTo && zeroBetween b (unusedFrom (taskCount b)) checkWord
 

@@ -1,9 +1,8 @@
 // A block read: tested in the order of the refusals, and its record.
 ghost use mathlib.Core.Path.{_≡_};
 ghost use mathlib.Core.Bool.{_&&_};
-ghost use Prim.Native.Nat.{ℕ, _+_, _*_, _≤_, _<_};
+ghost use Prim.Native.Nat.{_+_, _*_, _≤_};
 ghost use lib.ListN.{length};
-ghost use Rattle.words.specs.Word.{word};
 ghost use Rattle.plan.specs.Ranges.{mostTasks, guestOk, tasksOk};
 ghost use Rattle.block.specs.Layout.{blockSize, blockWords};
 ghost use Rattle.block.specs.Reading.{idIn, taskCount, column, guestOf, kindOk, ownPlace, zeroBetween, zerosOk, blockNumber};

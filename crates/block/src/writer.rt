@@ -1,7 +1,7 @@
 // A block written: the record tested, and its words put straight into the lent buffer.
 ghost use mathlib.Core.Path.{_≡_};
 ghost use mathlib.Core.List.{_++_};
-ghost use Prim.Native.Nat.{ℕ, _*_, _≤_, _<_};
+ghost use Prim.Native.Nat.{_*_, _≤_, _<_};
 ghost use lib.ListN.{length, replicate, drop};
 ghost use Rattle.lists.specs.Places.{nth};
 ghost use Rattle.words.specs.Bytes.{withU32, bytesOf};

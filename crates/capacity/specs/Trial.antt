@@ -1,4 +1,4 @@
--- What a capacity comes to, as the code tries it off lent columns, under guests that take `above v` from v ticks.
+-- What a capacity comes to, as the code tries it off lent columns, under guests that take `above v` from v ticks. Inner: no promise of an entry names this.
 use mathlib.Core.Bool.{Bool, true, false, _&&_}
 use mathlib.Core.List.{List}
 use Prim.Native.Nat.{ℕ, _≤_, _<_}

@@ -1,4 +1,4 @@
-// Document 01's numbers that no theorem has, and plans good and damaged in each way, through every entry.
+// Document 01's cases, and plans good and damaged in each way, through every entry; `check` through those that give its refusals.
 // Standard input has the cases, a line for each guest, task or call: its first letter says which. Each line is written out again, a call with its outcome;
 // a line that starts with # says why the outcome is right and is left out.
 use dispatcher::Dispatcher;
@@ -16,7 +16,7 @@ mod say;
 fn planned(p: Plan, row: Row) -> Plan {
     let x = row.numbers;
     if row.first == b'n' {
-        return draft::empty();
+        return plan::blank_plan();
     }
     if row.first == b'c' {
         let guests = p.guests;
@@ -37,7 +37,7 @@ fn asked(p: Plan, d: Dispatcher, row: Row) -> Dispatcher {
 }
 
 fn lines(text: &[u8]) {
-    let mut p = draft::empty();
+    let mut p = plan::blank_plan();
     let mut d = dispatching::fresh(p);
     let mut row = text::blank_row();
     for i in 0..text.len() {

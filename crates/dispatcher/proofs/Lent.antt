@@ -22,7 +22,8 @@ use Rattle.dispatcher.specs.Tick.{lessAt, refilled, holder, isHeld, left
 use Rattle.arrays.specs.Ranges.{noJob}
 use Rattle.dispatcher.specs.Valid.{guestInRange, taskInRange, rowOk, stateOk}
 use Rattle.arrays.specs.Rows.{blankAt}
-use Rattle.dispatcher.specs.Lent.{stateOf, ColumnsIn, Small, Columned, Quiet, Telling, Ending, Refilled, Served, Stepped, turnBy, turn}
+use Rattle.dispatcher.specs.Lent.{stateOf, Small, Columned, Quiet, Telling, Ending, Refilled, Served, Stepped, turnBy, turn}
+use Rattle.dispatcher.specs.LentCheck.{ColumnsIn}
 use Rattle.arrays.specs.Usage.{tallied}
 use Rattle.arrays.specs.Parts.{full, onward, grown, fallen, hasLeft, hasRun}
 use Rattle.lists.proofs.All.{and-left, and-right, and-true, and-false-right, all-at}

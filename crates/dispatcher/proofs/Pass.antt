@@ -24,7 +24,7 @@ use Rattle.dispatcher.specs.State.{guestIn}
 use Rattle.arrays.specs.Ranges.{serverOk, noServer}
 use Rattle.dispatcher.specs.Valid.{tasksIn, guestInRange, taskInRange, rowOk, stateOk}
 use Rattle.arrays.specs.Rows.{jobIn, blankAt, guestIsOk, rowIsBlank}
-use Rattle.dispatcher.specs.Lent.{Examines, guestGoes, ColumnsIn}
+use Rattle.dispatcher.specs.LentCheck.{Examines, guestGoes, ColumnsIn}
 use Rattle.lists.proofs.All.{and-left, and-right, and-true, all-turn, all-by, all-at, all-ext}
 use Rattle.lists.proofs.Refusals.{passed}
 use Rattle.plan.proofs.First.{none-refused, first-fine}

@@ -26,7 +26,8 @@ use Rattle.arrays.specs.Place.{placeAt}
 use Rattle.dispatcher.specs.State.{guestIn}
 use Rattle.dispatcher.specs.Valid.{stateOk}
 use Rattle.dispatcher.specs.Release.{taken, releaseNumber, releasedBy, release}
-use Rattle.dispatcher.specs.Lent.{ColumnsIn, Taking, takeNumber, AimsAt, Aims}
+use Rattle.dispatcher.specs.LentCheck.{ColumnsIn}
+use Rattle.dispatcher.specs.LentRelease.{Taking, takeNumber, AimsAt, Aims}
 use Rattle.lists.proofs.All.{and-left, and-true, and-false-left, and-false-right}
 use Rattle.lists.proofs.Refusals.{none-left, go-on, stop, passed}
 use Rattle.lists.proofs.Search.{first-ext}

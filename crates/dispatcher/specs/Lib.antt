@@ -6,5 +6,7 @@ pub mod Tick
 pub mod Answer
 pub mod Run
 pub mod Lent
+pub mod LentCheck
+pub mod LentRelease
 pub mod Entries
 pub mod Promises

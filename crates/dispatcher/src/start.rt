@@ -1,22 +1,10 @@
 // Fresh start: the records' order, then a state with nothing in it.
 ghost use mathlib.Core.Path.{_≡_};
-ghost use Rattle.plan.specs.Records.{blankPlan};
 ghost use Rattle.dispatcher.specs.Fresh.{idle};
 ghost use Rattle.dispatcher.specs.Promises.{Starts};
 use crate::Dispatcher;
 use crate::Started;
 use plan::Plan;
-
-// A plan of zeros.
-fn blank_plan() -> Plan
-    ensures { λ r. ⌜ r ≡ blankPlan ⌝ }
-{
-    let g = plan::blank_guest();
-    Plan {
-        count: 0,
-        guests: [g; 8],
-    }
-}
 
 // No job, no wait and no age in any of the 128 places, all positions 0, no capacity left, no tick counted.
 fn idle_of(plan: Plan) -> Dispatcher
@@ -40,7 +28,7 @@ impl Dispatcher {
         let refusal = plan::check(plan);
         let number = refusal.number;
         if 0 < number {
-            let nothing = blank_plan();
+            let nothing = plan::blank_plan();
             return Started {
                 refusal,
                 state: idle_of(nothing),

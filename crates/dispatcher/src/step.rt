@@ -1,9 +1,6 @@
 // One tick over lent arrays: it copies neither record nor array, so a run of ticks costs no more than its loops.
-ghost use mathlib.Core.Path.{_≡_};
-ghost use Prim.Native.Nat.{ℕ, _-_, _≤_, _<_};
 ghost use Rattle.plan.specs.declared.Plan.{Plan};
 ghost use Rattle.dispatcher.specs.declared.Dispatcher.{Dispatcher};
-ghost use Rattle.dispatcher.specs.Tick.{next};
 ghost use Rattle.dispatcher.specs.Lent.{stateOf, Small, Columned, Quiet, Refilled, Served, Stepped};
 use crate::Turn;
 use arrays::advance;
@@ -49,7 +46,7 @@ fn serve(left: &mut [u32; 8], rest: &mut [u32; 128], tasks: &[u32; 16], n: usize
     }
 }
 
-// One tick, in order; the ages go by the runs left at its start. Past the n guests no job runs or waits, so no age or wait there moves.
+// One tick. Serving comes last, since the ages go by the runs left at its start. Past the n guests no job runs or waits, so no age or wait there moves.
 pub fn step(
     left: &mut [u32; 8],
     position: &mut [u32; 8],

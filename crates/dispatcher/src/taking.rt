@@ -1,10 +1,11 @@
-// A release: its refusals in order, then one place of each array changed.
+// A release: its refusals in order, then the task's run left, wait and age set.
 ghost use mathlib.Core.Path.{_≡_};
 ghost use mathlib.Core.Bool.{true};
 ghost use mathlib.Core.List.{List};
 ghost use Prim.Native.Nat.{ℕ, _<_};
 ghost use Rattle.plan.specs.Ranges.{guestOk, tasksOk};
-ghost use Rattle.dispatcher.specs.Lent.{stateOf, Aims, AimsAt};
+ghost use Rattle.dispatcher.specs.Lent.{stateOf};
+ghost use Rattle.dispatcher.specs.LentRelease.{Aims, AimsAt};
 ghost use Rattle.dispatcher.specs.Promises.{Releases};
 use crate::Aim;
 use crate::Dispatcher;

@@ -1,6 +1,6 @@
 // The answer of a tick, made from what its step noted.
 ghost use mathlib.Core.Path.{_≡_};
-ghost use Prim.Native.Nat.{ℕ, _≤_};
+ghost use Prim.Native.Nat.{_≤_};
 ghost use Rattle.dispatcher.specs.declared.Dispatcher.{Dispatcher};
 ghost use Rattle.dispatcher.specs.Answer.{marginOf, answer};
 ghost use Rattle.dispatcher.specs.Lent.{Telling, Ending};

@@ -5,14 +5,6 @@ use plan::Refusal;
 
 pub mod text;
 
-// A plan of no guest.
-pub fn empty() -> Plan {
-    Plan {
-        count: 0,
-        guests: [plan::blank_guest(); 8],
-    }
-}
-
 // A guest with no task yet.
 pub fn guest(id: u32, capacity: u32, period: u32, charge: u16) -> Guest {
     let mut g = plan::blank_guest();

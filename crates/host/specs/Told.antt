@@ -1,4 +1,4 @@
--- What a host is told: document 01's number and values for each case of an answer.
+-- What a host is told: a number and values for each case of an answer. Refusals have document 01's numbers, the other cases numbers of their own.
 use Prim.Native.Nat.{ℕ}
 use lib.IntN.{pos}
 use Rattle.verdict.specs.declared.GuestVerdict.{GuestVerdict}

@@ -1,4 +1,4 @@
-// Every public entry for C and Rust: numbers and structs by value, the case of an enum as a number.
+// The public entries for C and Rust, of the finder its place alone: numbers and structs by value, the case of an enum as a number.
 use dispatcher::Dispatcher;
 use plan::Refusal;
 

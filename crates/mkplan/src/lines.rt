@@ -45,7 +45,7 @@ fn step(t: Text, b: u8) -> Text {
 // The whole text.
 pub fn read(text: &[u8]) -> Text {
     let mut t = Text {
-        plan: draft::empty(),
+        plan: plan::blank_plan(),
         row: text::blank_row(),
         line: 1,
         wrong: 0,

@@ -33,8 +33,12 @@ fn write(p: Plan) {
 }
 
 fn main() {
-    let mut buf = [0u8; 16384];
+    let mut buf = [0u8; 16385];
     let n = io::read_full(0, &mut buf);
+    if 16384 < n {
+        io::write_all(2, b"a text of more than 16384 bytes\n");
+        return;
+    }
     let t = lines::read(&buf[..n]);
     if 0 < t.wrong {
         complain(b"neither a guest nor a task: line ", t.wrong);

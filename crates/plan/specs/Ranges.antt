@@ -22,7 +22,7 @@ longest = 1000000
 abbrev pub within : ℕ → ℕ → ℕ → Bool
 within low high x = leb low x && leb x high
 
--- refusal 4: id not 0, capacity 1 to the period, period 1 to 1,000,000, number of tasks 1 to 16
+-- passes 4: id not 0, capacity 1 to the period, period 1 to 1,000,000, number of tasks 1 to 16
 unfoldable pub headOk : (id capacity period tasks : ℕ) → Bool
 headOk id capacity period tasks = leb 1 id && within 1 period capacity && within 1 longest period && within 1 mostTasks tasks
 
@@ -30,7 +30,7 @@ headOk id capacity period tasks = leb 1 id && within 1 period capacity && within
 abbrev pub guestOk : Guest → Bool
 guestOk g = headOk (g .id) (g .capacity) (g .period) (g .tasks)
 
--- refusal 6: run and period 1 to 1,000,000, deadline 1 to the task's period
+-- passes 6: run and period 1 to 1,000,000, deadline 1 to the task's period
 unfoldable pub taskOk : (run every deadline : ℕ) → Bool
 taskOk run every deadline = within 1 longest run && within 1 longest every && within 1 every deadline
 

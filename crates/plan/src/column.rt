@@ -1,6 +1,6 @@
 // The columns of a plan, and a guest's place by its id.
 ghost use mathlib.Core.Path.{_≡_};
-ghost use Prim.Native.Nat.{ℕ, _≤_};
+ghost use Prim.Native.Nat.{_≤_};
 ghost use lib.Dec.{eqb};
 ghost use Rattle.lists.specs.Places.{nth};
 ghost use Rattle.lists.specs.Search.{firstFrom};

@@ -1,7 +1,6 @@
 // A plan's records by value, and the one check on records handed over as a plan.
 ghost use mathlib.Core.Path.{_≡_};
-ghost use Prim.Native.Nat.{ℕ, _≤_, _<_};
-ghost use Rattle.plan.specs.Records.{blank};
+ghost use Rattle.plan.specs.Records.{blank, blankPlan};
 ghost use Rattle.plan.specs.Promises.{Checks};
 
 mod column;
@@ -42,7 +41,7 @@ pub struct Refusal {
     pub place: u32,
 }
 
-// One number of each guest.
+// Three numbers of each guest, a column each.
 pub struct Columns {
     pub ids: [u32; 16],
     pub capacities: [u32; 16],
@@ -62,6 +61,17 @@ pub fn blank_guest() -> Guest
         run: [0; 16],
         every: [0; 16],
         deadline: [0; 16],
+    }
+}
+
+// A plan of no guest.
+pub fn blank_plan() -> Plan
+    ensures { λ r. ⌜ r ≡ blankPlan ⌝ }
+{
+    let g = blank_guest();
+    Plan {
+        count: 0,
+        guests: [g; 8],
     }
 }
 

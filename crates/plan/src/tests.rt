@@ -1,6 +1,6 @@
 // The tests of document 01's ranges, on numbers and lent columns.
 ghost use mathlib.Core.Path.{_≡_};
-ghost use Prim.Native.Nat.{ℕ, _≤_, _<_};
+ghost use Prim.Native.Nat.{_≤_, _<_};
 ghost use Rattle.lists.specs.Places.{nth};
 ghost use Rattle.lists.specs.All.{allTo};
 ghost use Rattle.plan.specs.Ranges.{headOk, taskOk};

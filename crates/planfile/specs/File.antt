@@ -23,7 +23,7 @@ idAt s k = idIn (blockAt s k)
 abbrev pub blocksIn : List ℕ → ℕ
 blocksIn s = length s / blockSize
 
--- refusal 1: a length of 1 to 4,096, a multiple of 512
+-- passes 1: a length of 1 to 4,096, a multiple of 512
 abbrev pub sizeOk : ℕ → Bool
 sizeOk n = within 1 (blockSize * mostGuests) n && eqb (n % blockSize) 0
 

@@ -1,6 +1,6 @@
 // The blocks of a plan one by one, in order.
 ghost use mathlib.Core.Path.{_≡_};
-ghost use Prim.Native.Nat.{ℕ, _+_, _*_, _≤_, _<_};
+ghost use Prim.Native.Nat.{_+_, _*_, _≤_, _<_};
 ghost use lib.ListN.{length};
 ghost use Rattle.plan.specs.First.{firstRefused};
 ghost use Rattle.plan.specs.Order.{newId};

@@ -1,6 +1,6 @@
 // Plan files: read into records, records checked, a guest's block written, and found by the guest's id.
 ghost use mathlib.Core.Path.{_≡_};
-ghost use Prim.Native.Nat.{ℕ, _*_, _≤_};
+ghost use Prim.Native.Nat.{_*_, _≤_};
 ghost use lib.ListN.{length};
 ghost use Rattle.planfile.specs.Records.{recordsOf};
 ghost use Rattle.planfile.specs.Promises.{Reads, Finds, FindsPlace};

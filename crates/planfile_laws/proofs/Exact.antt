@@ -4,7 +4,7 @@ use mathlib.Core.Path.{_≡_, refl, sym, ap, _∙_}
 use mathlib.Core.Logic.{_⊎_, inl, inr, ⊎-elim}
 use mathlib.Core.Bool.{Bool, true, false, false≢true, not}
 use mathlib.Core.List.{List, [], _∷_}
-use Prim.Native.Nat.{ℕ, zero, suc, _+_, _≤_, _<_}
+use Prim.Native.Nat.{ℕ, zero, suc, _≤_, _<_}
 use native.Mathlib.Nat.{eq-or-lt-of-le}
 use native.Mathlib.Omega.{arith}
 use lib.ListN.{length}
@@ -20,19 +20,12 @@ use Rattle.plan.specs.Ranges.{guestOk}
 use Rattle.block.specs.Reading.{guestOf, blockNumber}
 use Rattle.planfile.specs.Finder.{firstWith, placed, foundPlace, found}
 use Rattle.planfile.specs.File.{blockAt, idAt, blocksIn, sizeOk, numberAt, sizedBy, fileRefusal}
-use Rattle.planfile_laws.specs.Exact.{_exactlyWhen_}
+use Rattle.planfile_laws.specs.Exact.{_exactlyWhen_, FirstAt}
 use Rattle.lists.proofs.All.{and-right, all-at}
 use Rattle.lists.proofs.Search.{Says, least-says, count-at, count-none}
 use Rattle.block.proofs.Reading.{block-in}
 use Rattle.planfile.proofs.File.{file-in}
 use Rattle.planfile.proofs.Finder.{found-none, found-there}
-
--- number n at place z is the first refusal of the m places from k on
-pub record FirstAt (f : ℕ → ℕ) (m k n z : ℕ) : Type 0 where
-  pub low : k ≤ z
-  pub high : z < k + m
-  pub number : f z ≡ n
-  pub before : (j : ℕ) → k ≤ j → j < z → f j ≡ 0
 
 -- by what stands at place k
 first-by : (f : ℕ → ℕ) (m k n z x : ℕ) → f k ≡ x → orElse x k (firstRefused f m (suc k)) ≡ refused (suc n) z

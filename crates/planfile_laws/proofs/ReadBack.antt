@@ -1,10 +1,10 @@
 -- Read-back: a plan that passes the records' order, written and read, is that plan with zeros past its guests and tasks. Assumes nothing.
 use mathlib.Core.Path.{_≡_, refl, sym, ap, _∙_}
 use mathlib.Core.Bool.{true}
-use mathlib.Core.List.{List, _++_, append-nil}
+use mathlib.Core.List.{List, _++_}
 use Prim.Native.Nat.{ℕ, _*_, _%_, _≤_, _<_}
 use native.Mathlib.Omega.{arith}
-use lib.ListN.{length, drop, replicate, drop-of-length-le}
+use lib.ListN.{length, drop, replicate}
 use borrow.Author.Tests.{eq-eqb, le-leb}
 use Rattle.plan.specs.declared.Guest.{Guest}
 use Rattle.plan.specs.declared.Plan.{Plan}
@@ -13,7 +13,7 @@ use Rattle.plan.specs.Ranges.{headOk, taskOk, tasksOk}
 use Rattle.plan.specs.First.{fine}
 use Rattle.plan.specs.Order.{newId, planRefusal}
 use Rattle.block.specs.Reading.{guestOf}
-use Rattle.block.specs.Writing.{blockOf, written}
+use Rattle.block.specs.Writing.{blockOf, writeNumber, writeRefusal, written}
 use Rattle.planfile.specs.File.{blockAt, idAt, blocksIn, sizeOk, numberAt, fileRefusal}
 use Rattle.planfile.specs.Records.{recordsOf, readOf}
 use Rattle.planfile_laws.specs.File.{fileOf, clearedGuest, cleared}
@@ -114,11 +114,13 @@ pub read-back : (p : Plan) → PlanInTypes p → planRefusal p .number ≡ 0 →
 unfolding s
 read-back p fits ok = back p fits ok
 
--- and each block of that file is what the writer leaves in a lent buffer of 512 bytes
-pub written-so : (p : Plan) → planRefusal p .number ≡ 0 → (k : ℕ) → k < p .count → (before : List ℕ) → length before ≡ 512
-    → written (guestAt (p .guests) k) k before ≡ blockOf (guestAt (p .guests) k) k
-written-so p ok k l before e =
+-- and each block of that file is what the writer, which refuses none of them, leaves in the first 512 of the lent bytes
+pub written-so : (p : Plan) → planRefusal p .number ≡ 0 → (k : ℕ) → k < p .count → (before : List ℕ) → 512 ≤ length before
+    → (writeRefusal (guestAt (p .guests) k) k (length before) ≡ fine)
+    × (written (guestAt (p .guests) k) k before ≡ blockOf (guestAt (p .guests) k) k ++ drop 512 before)
+written-so p ok k l before h =
     let i = plan-in p ok in
     let g : Guest = guestAt (p .guests) k in
-    sym (by-none _ (blockOf g k) before (sym (none g k (length before) (omega arith) (omega (arith, i .few)) (head-passes (i .guests k l .head)) (tasks-pass g (i .guests k l)))))
-    ∙ rw (drop-of-length-le before {i = 512} (omega arith), append-nil) refl
+    let n : 0 ≡ writeNumber g k (length before) =
+    none g k (length before) h (omega (arith, i .few)) (head-passes (i .guests k l .head)) (tasks-pass g (i .guests k l)) in
+    (rw (← n) refl, sym (by-none _ (blockOf g k) before (sym n)))

@@ -14,31 +14,31 @@ use Rattle.plan.specs.declared.Columns.{Columns}
 use Rattle.plan.specs.declared.Guest.{Guest}
 use Rattle.plan.specs.declared.Plan.{Plan}
 use Rattle.response.specs.Columns.{guestsTake, guestUnder, fittedAt, metUnder, taskOf, acceptedUnder}
-use Rattle.response.specs.Ready.{Ready, Sure}
+use Rattle.response.specs.Ready.{Ready, Placed}
 use Rattle.lists.proofs.All.{all-at, all-ext, and-false-left}
 use Rattle.plan.proofs.Charge.{charged-least}
 use Rattle.plan.proofs.Order.{PlanIn}
 use Rattle.response.proofs.Columns.{task-is}
 
-module _ (g : Guest) (capacities periods : List ℕ) (k : ℕ) (s : Sure g capacities periods k) where
+module _ (g : Guest) (capacities periods : List ℕ) (k : ℕ) (s : Placed g capacities periods k) where
   -- its capacity is from 1 to its period
-  pub sure-ranged : (1 ≤ g .capacity) × (g .capacity ≤ g .period)
-  sure-ranged = let r = s .ranged k (omega arith) in (omega (arith, r .0, s .capacity), omega (arith, r .1, s .capacity, s .period))
+  pub placed-ranged : (1 ≤ g .capacity) × (g .capacity ≤ g .period)
+  placed-ranged = let r = s .ranged k (omega arith) in (omega (arith, r .0, s .capacity), omega (arith, r .1, s .capacity, s .period))
 
   -- it is fitted where it and all above are
-  pub sure-fits : allTo (fittedAt capacities periods) (k + 1) ≡ true → isAt (guestUnder (guestsTake capacities periods k) (g .capacity) (g .period)) ≡ true
+  pub placed-fits : allTo (fittedAt capacities periods) (k + 1) ≡ true → isAt (guestUnder (guestsTake capacities periods k) (g .capacity) (g .period)) ≡ true
   unfolding fittedAt
-  sure-fits a =
+  placed-fits a =
       ap (λ (c : ℕ). isAt (guestUnder (guestsTake capacities periods k) c (g .period))) (sym (s .capacity))
       ∙ ap (λ (t : ℕ). isAt (guestUnder (guestsTake capacities periods k) (nth capacities k) t)) (sym (s .period))
       ∙ all-at (fittedAt capacities periods) (k + 1) k (omega arith) a
 
   -- a fitted one is ready for its tasks' recurrences
-  pub sure-ready : isAt (guestUnder (guestsTake capacities periods k) (g .capacity) (g .period)) ≡ true
+  pub placed-ready : isAt (guestUnder (guestsTake capacities periods k) (g .capacity) (g .period)) ≡ true
       → (run : List ℕ) → Filled run (charged g) (g .tasks) → (i : ℕ) → i < g .tasks → Ready (guestsTake capacities periods k) (g .capacity) (g .period) run i
-  sure-ready fits run f i h = record {
-    some = sure-ranged .0;
-    within = sure-ranged .1;
+  placed-ready fits run f i h = record {
+    some = placed-ranged .0;
+    within = placed-ranged .1;
     fits = fits;
     runs = omega (arith, f .holds i h, s .runs .some i h, charged-least (runOf g i) (g .charge));
   }
@@ -61,8 +61,8 @@ unfolding acceptedUnder
 accepted-fit above g e q = rw e q
 
 -- the columns of records in order suit each guest
-pub sure-at : (p : Plan) (c : Columns) → ColumnsOf (p .guests) c → PlanIn p → (k : ℕ) → k < p .count → Sure (guestAt (p .guests) k) (c .capacities) (c .periods) k
-sure-at p c f o k h =
+pub placed-at : (p : Plan) (c : Columns) → ColumnsOf (p .guests) c → PlanIn p → (k : ℕ) → k < p .count → Placed (guestAt (p .guests) k) (c .capacities) (c .periods) k
+placed-at p c f o k h =
     let here : k < 8 = omega (arith, o .few) in
     record {
       place = here;

@@ -1,4 +1,4 @@
--- The equations as the code reads them, off lent columns and off one record, under guests that take `above v` from v ticks.
+-- The equations as the code reads them, off lent columns and off one record, under guests that take `above v` from v ticks. Inner: no promise of an entry names this.
 use mathlib.Core.Bool.{Bool, _&&_}
 use mathlib.Core.List.{List}
 use Prim.Native.Nat.{ℕ, _+_, _-_}

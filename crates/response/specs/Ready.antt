@@ -1,4 +1,4 @@
--- What the inner functions ask of records that passed the check.
+-- What the inner functions ask of records that passed the check. Inner: no promise of an entry names this.
 use mathlib.Core.Path.{_≡_}
 use mathlib.Core.Bool.{true}
 use mathlib.Core.List.{List}
@@ -28,7 +28,7 @@ pub record RunsIn (g : Guest) : Type 0 where
   pub short : (i : ℕ) → i < g .tasks → runOf g i ≤ longest
 
 -- columns of capacities and periods in their ranges, whose guest at place k is g
-pub record Sure (g : Guest) (capacities periods : List ℕ) (k : ℕ) : Type 0 where
+pub record Placed (g : Guest) (capacities periods : List ℕ) (k : ℕ) : Type 0 where
   pub place : k < mostGuests
   pub ranged : Ranged capacities periods (k + 1)
   pub capacity : nth capacities k ≡ g .capacity

@@ -1,6 +1,6 @@
 // The response of a guest, off lent columns.
 ghost use mathlib.Core.Path.{_≡_};
-ghost use Prim.Native.Nat.{ℕ, _+_, _≤_, _<_};
+ghost use Prim.Native.Nat.{_+_, _≤_, _<_};
 ghost use Rattle.lists.specs.Places.{nth};
 ghost use Rattle.rounding.specs.Asked.{cut};
 ghost use Rattle.response.specs.Columns.{guestsTake, guestUnder};

@@ -1,11 +1,11 @@
 // The response of a task, off lent columns.
 ghost use mathlib.Core.Path.{_≡_};
-ghost use Prim.Native.Nat.{ℕ, _+_, _-_, _*_, _≤_, _<_};
+ghost use Prim.Native.Nat.{_+_, _-_, _*_, _≤_, _<_};
 ghost use Rattle.lists.specs.Places.{nth};
 ghost use Rattle.rounding.specs.Up.{up};
 ghost use Rattle.rounding.specs.Asked.{cut};
 ghost use Rattle.equation.specs.System.{rightAt, right};
-ghost use Rattle.response.specs.Columns.{guestsTake, guestUnder, loadIn, equationOf, taskUnder};
+ghost use Rattle.response.specs.Columns.{guestsTake, loadIn, equationOf, taskUnder};
 ghost use Rattle.response.specs.Ready.{Ready};
 use lists::Found;
 use rounding::asked_of;

@@ -3,12 +3,14 @@
 use mathlib.Core.Path.{_≡_}
 use mathlib.Core.Bool.{true}
 use mathlib.Core.List.{List}
-use Prim.Native.Nat.{ℕ, _+_, _-_, _%_, _≤_, _<_, min}
+use Prim.Native.Nat.{ℕ, _+_, _-_, _*_, _%_, _≤_, _<_, min}
 use Rattle.lists.specs.Places.{nth}
 use Rattle.lists.specs.Sum.{sumTo}
 use Rattle.arrays.specs.Usage.{wrap, nobodys}
 use Rattle.plan.specs.Order.{planRefusal}
+use Rattle.plan.specs.Records.{guestAt}
 use Rattle.plan.specs.declared.Plan.{Plan}
+use Rattle.analysis.specs.Tasks.{TaskThere}
 use Rattle.dispatcher.specs.declared.Dispatcher.{Dispatcher}
 use Rattle.dispatcher.specs.Release.{release}
 use Rattle.dispatcher.specs.Valid.{stateOk}
@@ -18,6 +20,7 @@ use Rattle.history.specs.Runs.{RunIs}
 use Rattle.history.specs.Usage.{Accounts}
 use Rattle.history.proofs.Clocks as clocks
 use Rattle.history.proofs.Stays as stays
+use Rattle.history.proofs.Sure as sure
 use Rattle.history.proofs.Usage as usage
 
 -- A state that is not refused stays so over every call.
@@ -27,6 +30,16 @@ never-spoiled = stays.stays
 -- From a fresh start that was not refused, 14 is never given.
 pub never-14 : (p : Plan) → planRefusal p .number ≡ 0 → (cs : List Call) (c : Call) → callNumber c (play cs (start p)) ≡ 14 → ⊥
 never-14 = stays.never-14
+
+-- Each guest's periods follow one another from the fresh start on: k whole ones and r ticks more bring it to position r.
+pub position-means :
+    (p : Plan) → planRefusal p .number ≡ 0
+    → (g : ℕ) → g < p .count
+    → (cs : List Call) (k r : ℕ)
+    → r < guestAt (p .guests) g .period
+    → ticksIn cs (start p) ≡ k * guestAt (p .guests) g .period + r
+    → nth (play cs (start p) .position) g ≡ r
+position-means p order g h = sure.position-is p g h order
 
 -- A run's count, state and answer are those of that many single ticks; it stops after the first finish, never before, or when the number is used up.
 pub run-is-ticks : (n : ℕ) (d : Dispatcher) → stateOk d ≡ true → n ≤ 1000000 → RunIs n d
@@ -46,6 +59,17 @@ module _ (p : Plan) (order : planRefusal p .number ≡ 0) (id number : ℕ) (cs 
       0 < restBy p id number (play ds (after (releasing id number) (play cs (start p))))
       → ageBy p id number (play ds (after (releasing id number) (play cs (start p)))) ≡ min (ticksIn ds (after (releasing id number) (play cs (start p)))) 1000000
   age-means = clocks.age-since p order id number cs taken ds none
+
+-- Before any release of it is taken a task has no wait and no run left, so that neither 9 nor 10 refuses it.
+pub before-any :
+    (p : Plan) (id number : ℕ)
+    → TaskThere p id number
+    → (cs : List Call)
+    → NoneTaken id number cs (start p)
+    → (waitBy p id number (play cs (start p)) ≡ 0) × (restBy p id number (play cs (start p)) ≡ 0)
+before-any p id number t cs none =
+    let n = clocks.before-any p (t .there .order) id number (t .there .place) (t .in-guest) (t .from-1) cs none in
+    (n .due, n .free)
 
 -- Where the ticks went: after any history each number beside the state is the count of such ticks, modulo 2 to the 64.
 pub usage-counts : (p : Plan) → planRefusal p .number ≡ 0 → (cs : List Call) → Accounts p (answers cs (start p)) (play cs (start p) .usage)

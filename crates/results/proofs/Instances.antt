@@ -1,4 +1,4 @@
--- The theorems at document 01's plans, so that none of them is empty. Assumes nothing.
+-- What verdicts and capacities mean, at document 01's plans, so that those theorems are not empty. Assumes nothing.
 use mathlib.Core.Path.{refl}
 use native.Mathlib.Omega.{arith}
 use Rattle.lists.specs.All.{allTo}

@@ -1,4 +1,4 @@
--- The promises, one file each: statements, each with a line that cites its proof. Numbers, Instances and PlanA show them at document 01's plans.
+-- The theorems behind the promises, a file for each subject: statements, each with a line that cites its proof. Numbers, Instances and PlanA show them at document 01's plans.
 pub mod Refusals
 pub mod PlanFiles
 pub mod Verdicts

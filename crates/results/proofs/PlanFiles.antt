@@ -1,14 +1,14 @@
 -- Demand 2, plan files: plans read back as written, and the only bytes accepted are those we would write. `fileOf p` is what the writer writes for
 -- each guest of p at its place, one block after the other; `cleared p` is p with zeros past its guests and past their tasks.
 use mathlib.Core.Path.{_≡_}
-use mathlib.Core.List.{List}
-use Prim.Native.Nat.{ℕ, _<_}
-use lib.ListN.{length}
+use mathlib.Core.List.{List, _++_}
+use Prim.Native.Nat.{ℕ, _≤_, _<_}
+use lib.ListN.{length, drop}
 use Rattle.plan.specs.First.{fine}
 use Rattle.plan.specs.Order.{planRefusal}
 use Rattle.plan.specs.Records.{guestAt}
 use Rattle.plan.specs.declared.Plan.{Plan}
-use Rattle.block.specs.Writing.{blockOf, written}
+use Rattle.block.specs.Writing.{blockOf, writeRefusal, written}
 use Rattle.planfile.specs.Records.{readOf}
 use Rattle.planfile_laws.specs.File.{fileOf, cleared}
 use Rattle.planfile_laws.specs.Fits.{PlanInTypes, Bytes}
@@ -19,17 +19,18 @@ use Rattle.planfile_laws.proofs.ReadBack as back
 pub read-back : (p : Plan) → PlanInTypes p → planRefusal p .number ≡ 0 → readOf (fileOf p) ≡ record { refusal = fine; plan = cleared p }
 read-back = back.read-back
 
--- Each block of that file is what the writer leaves in a lent buffer of 512 bytes.
+-- Each block of that file is what the writer, which refuses none of them, leaves in the first 512 of the lent bytes.
 pub written-so :
     (p : Plan) → planRefusal p .number ≡ 0
-    → (k : ℕ) → k < p .count → (before : List ℕ) → length before ≡ 512
-    → written (guestAt (p .guests) k) k before ≡ blockOf (guestAt (p .guests) k) k
+    → (k : ℕ) → k < p .count → (before : List ℕ) → 512 ≤ length before
+    → (writeRefusal (guestAt (p .guests) k) k (length before) ≡ fine)
+    × (written (guestAt (p .guests) k) k before ≡ blockOf (guestAt (p .guests) k) k ++ drop 512 before)
 written-so = back.written-so
 
 -- Bytes that read as a plan are exactly what is written for what was read,
 pub only-ours : (s : List ℕ) → Bytes s → readOf s .refusal .number ≡ 0 → fileOf (readOf s .plan) ≡ s
 only-ours = ours.only-ours
 
--- which the writer does not refuse.
+-- and it passes the check, so that the writer does not refuse it.
 pub read-passes : (s : List ℕ) → readOf s .refusal .number ≡ 0 → planRefusal (readOf s .plan) ≡ fine
 read-passes = ours.read-passes

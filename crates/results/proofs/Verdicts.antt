@@ -1,8 +1,9 @@
 -- Demand 2, the verdicts and the smallest capacity, in terms of the equations themselves. `There p id k`: the records are in order, and the guest
 -- with that id stands at place k. Each verdict has its meaning, and is the only one that has it.
 use mathlib.Core.Path.{_≡_}
-use Prim.Native.Nat.{ℕ, suc, _<_}
+use Prim.Native.Nat.{ℕ, suc, _-_, _<_}
 use Rattle.plan.specs.Order.{planRefusal}
+use Rattle.plan.specs.Place.{placeOf}
 use Rattle.plan.specs.Records.{guestAt}
 use Rattle.plan.specs.declared.Plan.{Plan}
 use Rattle.verdict.specs.declared.Acceptance.{Acceptance}
@@ -15,7 +16,7 @@ use Rattle.capacity.specs.declared.CapacityAnswer.{CapacityAnswer}
 use Rattle.capacity.specs.Answer.{smallestCapacity}
 use Rattle.analysis.specs.Capacities.{CapacityMeans}
 use Rattle.analysis.specs.Guests.{There, AllFit, GuestMeans}
-use Rattle.analysis.specs.Tasks.{TaskSolves, InPeriod, TaskQuoted, TaskMeans}
+use Rattle.analysis.specs.Tasks.{TaskThere, TaskSolves, InPeriod, TaskQuoted, TaskMeans}
 use Rattle.analysis.specs.Acceptances.{AcceptMeans, AllSaidMet}
 use Rattle.analysis.proofs.Acceptances as acceptances
 use Rattle.analysis.proofs.Capacities as capacities
@@ -40,11 +41,7 @@ module _ (p : Plan) (id k : ℕ) (there : There p id k) where
   pub task-only : (i : ℕ) → i < guestAt (p .guests) k .tasks → (v : TaskVerdict) → TaskMeans p k i v → v ≡ taskVerdict p id (suc i)
   task-only i = tasks.task-verdict-only p id k i there
 
-  -- A response that is quoted, by met R or unmet R, is the least solution's, and at most the period;
-  pub quoted-means : (i : ℕ) → i < guestAt (p .guests) k .tasks → (R : ℕ) → Quoted p id (suc i) R → TaskQuoted p k i R
-  quoted-means i h R q = tasks.quotes-mean p k i R (taskVerdict p id (suc i)) q (task-means i h)
-
-  -- and under fitted guests one is quoted wherever a solution has its response at most the period: so it is withheld exactly if none has.
+  -- Under fitted guests a response is quoted wherever a solution has its response at most the period: so it is withheld exactly if none has.
   pub quoted-where :
       (i : ℕ)
       → i < guestAt (p .guests) k .tasks
@@ -62,6 +59,10 @@ module _ (p : Plan) (id k : ℕ) (there : There p id k) where
   -- and no other answer means what holds
   pub capacity-only : (v : CapacityAnswer) → CapacityMeans p k v → v ≡ smallestCapacity p id
   capacity-only = capacities.capacity-answer-only p id k there
+
+-- A response that is quoted, by met R or unmet R, is that of a task that is there, under fitted guests: the least solution's, and at most the period. Elsewhere none is.
+pub quoted-means : (p : Plan) (id number R : ℕ) → Quoted p id number R → TaskThere p id number × TaskQuoted p (placeOf p id) (number - 1) R
+quoted-means = tasks.quoted-means
 
 -- Accepted: all guests are fitted and all tasks met. Not accepted: they are not.
 pub acceptance-means : (p : Plan) → planRefusal p .number ≡ 0 → AcceptMeans p (acceptance p)

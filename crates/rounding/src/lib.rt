@@ -1,6 +1,6 @@
 // The quotient rounded up, and sums of it over lent columns, cut off at 2 to the 32.
 ghost use mathlib.Core.Path.{_≡_};
-ghost use Prim.Native.Nat.{ℕ, _+_, _*_, _≤_, _<_};
+ghost use Prim.Native.Nat.{_*_, _≤_, _<_};
 ghost use Rattle.lists.specs.Places.{nth};
 ghost use Rattle.rounding.specs.Up.{up};
 ghost use Rattle.rounding.specs.Asked.{asked, cut};

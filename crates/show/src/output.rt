@@ -24,7 +24,7 @@ fn once(first: &[u8], n: u32, end: &[u8]) {
     io::write_all(1, end);
 }
 
-// The line as document 01 has it.
+// The line as document 01 and P2 have it.
 pub fn print(line: Line) {
     match line {
         Line::Refused(number, place) => twice(b"refused ", number, b" block ", place),

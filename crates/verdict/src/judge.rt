@@ -11,7 +11,7 @@ ghost use Rattle.plan.specs.Ranges.{within};
 ghost use Rattle.verdict.specs.Verdict.{refusedBy, guestSays, quotedBy, taskSays};
 ghost use Rattle.response.specs.Task.{limit};
 ghost use Rattle.response.specs.Columns.{guestsTake, fittedAt, taskOf, acceptedUnder};
-ghost use Rattle.response.specs.Ready.{Sure};
+ghost use Rattle.response.specs.Ready.{Placed};
 use crate::GuestVerdict;
 use crate::TaskVerdict;
 use lists::Found;
@@ -63,7 +63,7 @@ fn judge_task(
     k: usize,
     i: usize,
 ) -> TaskVerdict
-    requires { ⌜ Sure g (now capacities) (now periods) k × (i < g .tasks) ⌝ }
+    requires { ⌜ Placed g (now capacities) (now periods) k × (i < g .tasks) ⌝ }
     ensures { λ r. ⌜
         r
         ≡ taskSays (allTo (fittedAt (now (capacities .entry)) (now (periods .entry))) (k + 1)) (deadlineOf g i)
@@ -99,7 +99,7 @@ pub fn number_task(
     k: usize,
     task: u32,
 ) -> TaskVerdict
-    requires { ⌜ Sure g (now capacities) (now periods) k ⌝ }
+    requires { ⌜ Placed g (now capacities) (now periods) k ⌝ }
     ensures { λ r. ⌜
         r
         ≡ refusedBy TaskVerdict.Refused (refusal (within 1 (g .tasks) task orRefuse 8 ∷ [])) 0
@@ -119,7 +119,7 @@ pub fn number_task(
 
 // Whether the guest at place k is fitted and all its tasks are met.
 fn guest_accepted(g: Guest, capacities: &[u32; 16], periods: &[u32; 16], k: usize) -> bool
-    requires { ⌜ Sure g (now capacities) (now periods) k ⌝ }
+    requires { ⌜ Placed g (now capacities) (now periods) k ⌝ }
     ensures { λ r. ⌜ r ≡ acceptedUnder (guestsTake (now (capacities .entry)) (now (periods .entry)) k) g ⌝ }
 {
     let every = g.every;
@@ -145,7 +145,7 @@ fn guest_accepted(g: Guest, capacities: &[u32; 16], periods: &[u32; 16], k: usiz
 
 // Whether all guests are fitted and all tasks met, one guest after the other.
 pub fn all_accepted(plan: Plan, capacities: &[u32; 16], periods: &[u32; 16]) -> bool
-    requires { ⌜ ((k : ℕ) → k < plan .count → Sure (guestAt (plan .guests) k) (now capacities) (now periods) k) × (plan .count ≤ 8) ⌝ }
+    requires { ⌜ ((k : ℕ) → k < plan .count → Placed (guestAt (plan .guests) k) (now capacities) (now periods) k) × (plan .count ≤ 8) ⌝ }
     ensures { λ r. ⌜ r ≡ allTo (λ k. acceptedUnder (guestsTake (now (capacities .entry)) (now (periods .entry)) k) (guestAt (plan .guests) k)) (plan .count) ⌝ }
 {
     let guests = plan.guests;

@@ -1,5 +1,4 @@
 // The verdicts of guests and tasks, and the acceptance of a plan.
-ghost use mathlib.Core.Path.{_≡_};
 ghost use Rattle.verdict.specs.Promises.{GuestJudged, TaskJudged, Accepts};
 use plan::Plan;
 use plan::check;

@@ -1,7 +1,7 @@
 // Little-endian words in lent bytes: read, written, and summed modulo 2 to the 32.
 ghost use mathlib.Core.Path.{_≡_};
 ghost use mathlib.Core.List.{_++_};
-ghost use Prim.Native.Nat.{ℕ, _+_, _*_, _≤_, _<_};
+ghost use Prim.Native.Nat.{_+_, _*_, _≤_, _<_};
 ghost use lib.ListN.{length, replicate, drop};
 ghost use Rattle.words.specs.Word.{u32At, word};
 ghost use Rattle.words.specs.Bytes.{withU32};

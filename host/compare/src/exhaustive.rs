@@ -52,7 +52,7 @@ fn read_and_find(session: &mut Session, bytes: &[u8]) {
     }
 }
 
-/// Every place and every buffer's length about 512, of good and of bad records.
+/// Places in range and out of it, and buffers' lengths about 512, of good and of bad records.
 fn writes(session: &mut Session) {
     let good = plan_a().guests[1];
     let no_id = Guest { id: 0, ..good };

@@ -21,7 +21,7 @@ pub struct Side {
     pub run: fn(&Dispatcher, u32) -> Run,
 }
 
-/// Document 01's sentences in plain Rust.
+/// The reference: the documents' sentences in plain Rust.
 pub const REFERENCE: Side = Side {
     read: plan::read,
     check: plan::check,

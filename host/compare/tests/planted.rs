@@ -1,5 +1,5 @@
-//! The comparison itself is tried: each mistake that document 01 names must be found, and some in
-//! counting where the ticks went.
+//! The comparison itself is tried: each wrong implementation that document 01 names must be found, two of
+//! its errors that look reasonable, and some of P1's and P2's.
 
 use compare::session::Session;
 use compare::side::{REFERENCE, Side};

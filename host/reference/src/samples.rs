@@ -1,4 +1,4 @@
-//! Plans that document 01 works out by hand.
+//! Plans that document 01 works out by hand, and one with a fitted guest below an unfit one.
 
 use crate::plan::{Guest, Plan};
 

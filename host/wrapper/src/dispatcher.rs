@@ -7,7 +7,7 @@ use crate::{Answer, Dispatcher, Plan, Refusal, exports};
 pub enum Tick {
     /// No guest had capacity left.
     Nobody,
-    /// The guest had nothing to do and used up its capacity.
+    /// The guest had nothing to do and idled the tick away: it loses one of its capacity.
     Idled { guest: u32 },
     /// The task ran and has run left.
     Ran { guest: u32, task: u32 },

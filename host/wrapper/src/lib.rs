@@ -2,7 +2,8 @@
 //!
 //! On one core, up to 8 guests share the time, each with up to 16 tasks. The library reads and
 //! writes plan blocks, judges guests and tasks, searches the smallest capacity, and dispatches.
-//! Every rule stands in document 01; a refusal carries that document's number and place.
+//! Every rule stands in document 01, as the requests P1 to P4 of document 02 change it; a refusal carries
+//! document 01's number and place.
 //!
 //! The root of this crate has the calls as Rust has them, with `Result` and enums. [`exports`] has
 //! the same calls with the outcome whole, field by field as it crosses the C interface.

@@ -11,8 +11,8 @@ Inv-loop text p₀ d₀ row₀ i₀ i-end p d row i = i ≤ length text
 abbrev μ-loop : tie.MeasureT-loop
 μ-loop text p₀ d₀ row₀ i₀ i-end p d row i = length text - i
 
-empty-requires : tie.Need-empty-requires Inv-loop μ-loop
-empty-requires c κs = search needs
+blank-plan-requires : tie.Need-blank-plan-requires Inv-loop μ-loop
+blank-plan-requires c κs = search needs
 
 fresh-requires : tie.Need-fresh-requires Inv-loop μ-loop
 fresh-requires c κs = search needs
@@ -59,7 +59,7 @@ lines-spec =
     (tie.spec
     Inv-loop
     μ-loop
-    empty-requires
+    blank-plan-requires
     fresh-requires
     blank-row-requires
     loop-holds

@@ -4,8 +4,8 @@ use native.Mathlib.Omega.{arith}
 use borrow.Author.Needs.{needs}
 use borrow.Author.Tests.{not-true, not-false}
 use Rattle.plan.specs.Records.{runOf}
-use Rattle.plan.proofs.Charge.{charged-least}
 use Rattle.response.specs.Columns.{guestsTake}
+use Rattle.plan.proofs.Charge.{charged-least}
 use Rattle.capacity.proofs.Trial.{works-is, above-unfit, above-fitted}
 use Rattle.capacity.proofs.search.smallest_at.Statement.{statement}
 use Rattle.capacity.proofs.search.smallest_at.Tie as tie

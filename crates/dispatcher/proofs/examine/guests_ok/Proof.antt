@@ -5,7 +5,8 @@ use Prim.Native.Nat.{_≤_, _-_}
 use native.Mathlib.Omega.{arith}
 use borrow.Author.Needs.{needs}
 use Rattle.lists.specs.All.{allTo}
-use Rattle.dispatcher.specs.Lent.{stateOf, guestGoes}
+use Rattle.dispatcher.specs.Lent.{stateOf}
+use Rattle.dispatcher.specs.LentCheck.{guestGoes}
 use Rattle.lists.proofs.All.{all-none, all-end}
 use Rattle.dispatcher.proofs.Pass.{Columns, columns-none, columns-next, columns-done, goes-turn}
 use Rattle.dispatcher.proofs.examine.guests_ok.Statement.{statement}

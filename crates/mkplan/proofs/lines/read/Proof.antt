@@ -11,8 +11,8 @@ Inv-loop text t₀ i₀ i-end t i = i ≤ length text
 abbrev μ-loop : tie.MeasureT-loop
 μ-loop text t₀ i₀ i-end t i = length text - i
 
-empty-requires : tie.Need-empty-requires Inv-loop μ-loop
-empty-requires c κs = search needs
+blank-plan-requires : tie.Need-blank-plan-requires Inv-loop μ-loop
+blank-plan-requires c κs = search needs
 
 blank-row-requires : tie.Need-blank-row-requires Inv-loop μ-loop
 blank-row-requires c κs = search needs
@@ -50,7 +50,7 @@ read-spec =
     (tie.spec
     Inv-loop
     μ-loop
-    empty-requires
+    blank-plan-requires
     blank-row-requires
     loop-holds
     shared-slice-read-step

@@ -5,7 +5,7 @@ use borrow.Author.Needs.{needs}
 use borrow.Author.Tests.{not-true, not-false}
 use Rattle.response.specs.Columns.{guestsTake}
 use Rattle.response.proofs.Columns.{test-is}
-use Rattle.response.proofs.Ready.{sure-ranged, sure-ready, met-is, accepted-unfit, accepted-fit}
+use Rattle.response.proofs.Ready.{placed-ranged, placed-ready, met-is, accepted-unfit, accepted-fit}
 use Rattle.verdict.proofs.judge.guest_accepted.Statement.{statement}
 use Rattle.verdict.proofs.judge.guest_accepted.Tie as tie
 
@@ -15,7 +15,7 @@ cast-n c = search needs
 guest-response-requires : tie.Need-guest-response-requires
 guest-response-requires c κs =
     let s = c .before .before .before .pre in
-    (omega (arith, s .place), sure-ranged _ _ _ _ s)
+    (omega (arith, s .place), placed-ranged _ _ _ _ s)
 
 is-at-requires : tie.Need-is-at-requires
 is-at-requires c κs = search needs
@@ -32,7 +32,7 @@ all-met-requires c κs =
     let test = filled .before in
     let s = test .before .before .before .before .before .before .pre in (
       (omega (arith, s .place), s .runs .few),
-      sure-ready _ _ _ _ s (test-is (test .before .before .guest-response .ensures) (test .before .is-at .ensures) (not-false _ (test .if1 .left))) _ (filled .charged-of .ensures),
+      placed-ready _ _ _ _ s (test-is (test .before .before .guest-response .ensures) (test .before .is-at .ensures) (not-false _ (test .if1 .left))) _ (filled .charged-of .ensures),
     )
 
 returns-2 : tie.Need-returns-2

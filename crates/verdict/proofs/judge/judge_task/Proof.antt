@@ -6,7 +6,7 @@ use borrow.Author.Tests.{not-true, not-false}
 use Rattle.response.specs.Task.{limit}
 use Rattle.response.specs.Columns.{guestsTake}
 use Rattle.response.proofs.Columns.{task-is}
-use Rattle.response.proofs.Ready.{sure-fits, sure-ready}
+use Rattle.response.proofs.Ready.{placed-fits, placed-ready}
 use Rattle.verdict.proofs.Verdict.{says-unjudged, says-judged}
 use Rattle.verdict.proofs.judge.judge_task.Statement.{statement}
 use Rattle.verdict.proofs.judge.judge_task.Tie as tie
@@ -35,7 +35,7 @@ task-response-requires c κs =
     let test = filled .before in
     let s = test .before .before .before .before .pre in (
       (omega (arith, s .0 .place), omega (arith, s .1, s .0 .runs .few)),
-      sure-ready _ _ _ _ (s .0) (sure-fits _ _ _ _ (s .0) (sym (test .before .all-fitted .ensures) ∙ not-false _ (test .if1 .left))) _ (filled .charged-of .ensures) _ (s .1),
+      placed-ready _ _ _ _ (s .0) (placed-fits _ _ _ _ (s .0) (sym (test .before .all-fitted .ensures) ∙ not-false _ (test .if1 .left))) _ (filled .charged-of .ensures) _ (s .1),
     )
 
 mul-met-or-not : tie.Need-mul-met-or-not

@@ -1,8 +1,8 @@
--- Eight records of zeros.
+-- `plan::blank_plan` meets its contract. Assumes nothing.
 use mathlib.Core.Path.{refl}
 use borrow.Author.Needs.{needs}
-use Rattle.dispatcher.proofs.start.blank_plan.Statement.{statement}
-use Rattle.dispatcher.proofs.start.blank_plan.Tie as tie
+use Rattle.plan.proofs.blank_plan.Statement.{statement}
+use Rattle.plan.proofs.blank_plan.Tie as tie
 
 blank-guest-requires : tie.Need-blank-guest-requires
 blank-guest-requires c κs = search needs
