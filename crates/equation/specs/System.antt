@@ -1,4 +1,4 @@
--- A task's equation, over any interference and any load.
+-- A task's equation, over any interference and any load: what the laws of recurrences speak of. Inner: no promise of an entry names this.
 use Prim.Native.Nat.{ℕ, _+_, _-_, _*_}
 use Rattle.rounding.specs.Up.{up}
 

@@ -35,7 +35,7 @@ use Rattle.history.proofs.Clocks.{sound-start}
 use Rattle.history.proofs.Accounts.{by-nobody, by-worked, by-idled}
 
 -- After the answers l, what the numbers of a state are.
-record Kept (p : Plan) (l : List Answer) (d : Dispatcher) : Type 0 where
+record Counted (p : Plan) (l : List Answer) (d : Dispatcher) : Type 0 where
   long : length (d .usage) ≡ 17
   accounts : Accounts p l (d .usage)
 
@@ -118,7 +118,7 @@ module _ (d : Dispatcher) where
 -- ---- histories
 module _ (p : Plan) (P : PlanIn p) where
   -- over a tick
-  kept-next : (l : List Answer) (d : Dispatcher) → Sound p d → Kept p l d → Kept p (l ++ (answer d ∷ [])) (next d)
+  kept-next : (l : List Answer) (d : Dispatcher) → Sound p d → Counted p l d → Counted p (l ++ (answer d ∷ [])) (next d)
   unfolding next
   kept-next l d D K = record {
     long = usage-long d ∙ K .long;
@@ -128,12 +128,12 @@ module _ (p : Plan) (P : PlanIn p) where
   }
 
   -- over a taken release
-  kept-taken : (l : List Answer) (d : Dispatcher) (k t : ℕ) → Kept p l d → Kept p l (taken d k t)
+  kept-taken : (l : List Answer) (d : Dispatcher) (k t : ℕ) → Counted p l d → Counted p l (taken d k t)
   unfolding taken
   kept-taken l d k t K = record { long = K .long; accounts = K .accounts }
 
   -- at the fresh start
-  kept-idle : Kept p [] (idle p)
+  kept-idle : Counted p [] (idle p)
   unfolding idle
   kept-idle = record {
     long = refl;
@@ -152,7 +152,7 @@ module _ (p : Plan) (P : PlanIn p) where
 pub usage-counts : (p : Plan) → planRefusal p .number ≡ 0 → (cs : List Call) → Accounts p (answers cs (start p)) (play cs (start p) .usage)
 usage-counts p order cs =
     let P = plan-in p order in
-    play-keeps p (Kept p) Any (kept-next p P) (λ l d id task k t D a f K. kept-taken p P l d k t K) cs [] (start p) (any cs (start p))
+    play-keeps p (Counted p) Any (kept-next p P) (λ l d id task k t D a f K. kept-taken p P l d k t K) cs [] (start p) (any cs (start p))
     record { sound = sound-start p order; holds = rw (fresh-idle p order) (kept-idle p P) }
     .holds
     .accounts

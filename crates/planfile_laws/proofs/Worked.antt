@@ -8,7 +8,6 @@ use Rattle.lists.specs.Table.{table}
 use Rattle.lists.specs.Refusals.{unless, refusal}
 use Rattle.words.specs.Word.{word}
 use Rattle.words.specs.Bytes.{bytesOf}
-use Rattle.plan.specs.declared.Plan.{Plan}
 use Rattle.plan.specs.Records.{blankPlan}
 use Rattle.plan.specs.Ranges.{headOk, taskOk, tasksOk}
 use Rattle.plan.specs.First.{refused, fine, orElse, firstRefused}
@@ -16,7 +15,7 @@ use Rattle.plan.specs.Order.{newId}
 use Rattle.block.specs.Reading.{column, zeroBetween, blockNumber}
 use Rattle.block.specs.Writing.{withHead, withEntry, withEntries, wordsOf, withCheck, blockOf}
 use Rattle.planfile.specs.File.{numberAt, sizedBy, fileRefusal}
-use Rattle.plans.specs.Plans.{planA}
+use Rattle.plans.specs.Plans.{A}
 use Rattle.planfile.specs.Records.{recordsOf, planBy, readOf}
 use Rattle.planfile_laws.specs.File.{joined, fileOf}
 
@@ -29,10 +28,6 @@ zero-bytes = refl
 pub empty : readOf [] ≡ record { refusal = refused 1 0; plan = blankPlan }
 unfolding readOf planBy fileRefusal sizedBy
 empty = refl
-
--- plan A
-abbrev A : Plan
-A = planA 0 50 100
 
 -- it is written to 1,024 bytes and read back as it was
 pub plan-a-length : length (fileOf A) ≡ 1024

@@ -35,6 +35,10 @@ top = guest 7 2 5 0 (1 ∷ []) (20 ∷ []) (20 ∷ [])
 abbrev pub planA : (charge first second : ℕ) → Plan
 planA charge first second = planOf (top ∷ guest 9 8 20 charge (10 ∷ 8 ∷ []) (50 ∷ 100 ∷ []) (first ∷ second ∷ []) ∷ [])
 
+-- as document 01 prints it
+abbrev pub A : Plan
+A = planA 0 50 100
+
 -- a guest of period 6 under 2/5 with a task 4/6/6, and two guests below
 abbrev pub planB : (capacity : ℕ) → Plan
 planB capacity =

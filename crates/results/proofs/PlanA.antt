@@ -26,16 +26,12 @@ use Rattle.history.specs.Calls.{Call, releasing, start, after, play, ticksIn, a
 use Rattle.history.specs.Finished.{FinishedBy}
 use Rattle.history.specs.Named.{restBy, ageBy}
 use Rattle.history.specs.Share.{share}
-use Rattle.plans.specs.Plans.{planA, planD}
+use Rattle.plans.specs.Plans.{A, planA, planD}
 use Rattle.verdict.proofs.Quoted.{met-quoted, unmet-quoted}
 use Rattle.results.proofs.Numbers.{numbers}
 use Rattle.results.proofs.Word.{sure-of-capacity, younger, finished-by-R, first-taken}
 
--- plan A as document 01 prints it
-abbrev A : Plan
-A = planA 0 50 100
-
--- with deadline 35 for guest 9's first task
+-- plan A with deadline 35 for guest 9's first task
 abbrev A35 : Plan
 A35 = planA 0 35 100
 

@@ -1,4 +1,4 @@
--- What several ask of a window, each for its cost once in every so many ticks.
+-- What several ask of a window, each for its cost once in every so many ticks. Inner: no promise of an entry names this.
 use Prim.Native.Nat.{ℕ, _*_, min}
 use Rattle.lists.specs.Sum.{sumTo}
 use Rattle.rounding.specs.Up.{up}
