@@ -1,4 +1,4 @@
-/* The core-sharing library's C interface, for x86-64. Link libhost.a, which `rt staticlib host` writes.
+/* The core-sharing library's C interface, for x86-64. Link libcoreshare.a, which `rt staticlib coreshare` writes.
  *
  * On one core, up to 8 guests share the time, each with up to 16 tasks. Every rule stands in document 01,
  * as the requests P1 to P4 of document 02 change it.

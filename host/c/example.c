@@ -1,6 +1,6 @@
 /* Plan A of document 01 from C: its blocks written, read and judged, and its dispatcher run until a job finishes;
  * last, where the ticks went.
- * From this folder: cc -O2 example.c ../../target/staticlib/libhost.a -o example */
+ * From this folder: cc -O2 example.c ../../target/staticlib/libcoreshare.a -o example */
 #include "coreshare.h"
 
 #include <inttypes.h>

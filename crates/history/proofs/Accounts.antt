@@ -15,7 +15,7 @@ use Rattle.history.specs.Usage.{idles, unhad, inAll, Accounts}
 use Rattle.lists.proofs.Sum.{sum-same, sum-change}
 use Rattle.plan.proofs.Order.{PlanIn}
 use Rattle.arrays.proofs.Tallies.{more-long, more-here, more-else}
-use Rattle.analysis.proofs.Ids.{idOf}
+use Rattle.verdict_laws.proofs.Ids.{idOf}
 use Rattle.history.proofs.Share.{count-next}
 
 -- what one answer more adds to a count

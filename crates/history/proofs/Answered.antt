@@ -15,7 +15,7 @@ use Rattle.dispatcher.specs.Answer.{marginOf, holderId, answerBy, answer}
 use Rattle.history.specs.Share.{bit, names}
 use Rattle.plan.proofs.Order.{PlanIn}
 use Rattle.history.proofs.Next.{is-held, not-held, is-worked, not-worked}
-use Rattle.analysis.proofs.Ids.{idOf, id-one}
+use Rattle.verdict_laws.proofs.Ids.{idOf, id-one}
 
 -- the answer that task t of guest k is finished by this tick
 abbrev pub finishedBy : Dispatcher → (k t : ℕ) → Answer

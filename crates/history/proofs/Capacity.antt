@@ -26,7 +26,7 @@ use Rattle.history.proofs.Seen.{capOf, perOf, posAt, leftAt, heldAt}
 use Rattle.history.proofs.TickSeen.{guest-tick}
 use Rattle.history.proofs.Play.{Sound}
 use Rattle.history.proofs.Fresh.{idle-held, idle-position}
-use Rattle.analysis.proofs.Ids.{idOf}
+use Rattle.verdict_laws.proofs.Ids.{idOf}
 use Rattle.history.proofs.Answered.{names-mine, names-else}
 use Rattle.history.proofs.Share.{count-none, count-old, count-next}
 

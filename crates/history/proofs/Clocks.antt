@@ -16,7 +16,7 @@ use Rattle.plan.proofs.Order.{plan-in}
 use Rattle.history.proofs.Took.{Free, release-number, release-none, release-free}
 use Rattle.history.proofs.Play.{Sound, sound-play, sound-after}
 use Rattle.history.proofs.Fresh.{fresh-idle, sound-idle, idle-rest, idle-wait}
-use Rattle.analysis.proofs.Ids.{idOf, found-id}
+use Rattle.verdict_laws.proofs.Ids.{idOf, found-id}
 use Rattle.history.proofs.Since.{Since, Never, since-taken, since-play, never-play}
 
 -- the fresh start is a state of the plan

@@ -25,7 +25,7 @@ use Rattle.history.proofs.Seen.{capOf, perOf, tasksAt, Shaped}
 use Rattle.history.proofs.TickSeen.{rest-else, task-served, task-tick}
 use Rattle.history.proofs.Took.{Free, taken-else}
 use Rattle.history.proofs.Play.{Sound}
-use Rattle.analysis.proofs.Ids.{idOf}
+use Rattle.verdict_laws.proofs.Ids.{idOf}
 use Rattle.history.proofs.Answered.{finishedBy, answer-finished}
 use Rattle.history.proofs.Share.{answer-old, answer-new}
 use Rattle.history.proofs.Quote.{TaskFits, KeptIn, bounded-of, kept-next, kept-release, in-plan, in-guest}

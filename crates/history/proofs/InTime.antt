@@ -23,7 +23,7 @@ use Rattle.history.proofs.Seen.{capOf, perOf}
 use Rattle.history.proofs.TickSeen.{task-served, task-tick}
 use Rattle.history.proofs.Took.{Free}
 use Rattle.history.proofs.Play.{Sound}
-use Rattle.analysis.proofs.Ids.{idOf, id-one}
+use Rattle.verdict_laws.proofs.Ids.{idOf, id-one}
 use Rattle.history.proofs.Answered.{finishedBy, answer-nobody, answer-idled, answer-worked, answer-finished}
 use Rattle.history.proofs.Share.{answer-old, answer-new}
 use Rattle.history.proofs.Quote.{TaskFits, KeptIn, bounded-of, kept-next, kept-release, in-plan, in-guest}

@@ -17,13 +17,13 @@ use Rattle.history.specs.Named.{deadlineBy}
 use Rattle.plan.proofs.Order.{PlanIn}
 use Rattle.history.proofs.Seen.{capOf, perOf}
 use Rattle.history.proofs.Play.{Any, after-keeps}
-use Rattle.analysis.proofs.Ids.{idOf}
+use Rattle.verdict_laws.proofs.Ids.{idOf}
 use Rattle.history.proofs.InTime.{TimelyIn, timely-next, timely-release}
 use Rattle.history.proofs.Told.{told-last}
 use Rattle.history.proofs.Clocks.{sound-reached}
 use Rattle.history.proofs.Verdict.{Judged, quoted-judged}
 use Rattle.verdict.proofs.Quoted.{met-quoted}
-use Rattle.analysis.proofs.Tasks.{judged-means}
+use Rattle.verdict_laws.proofs.Tasks.{judged-means}
 use Rattle.history.proofs.Margin.{margin-left}
 use Rattle.history.proofs.FinishedBy.{kept-reached}
 

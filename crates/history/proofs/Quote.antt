@@ -11,8 +11,8 @@ use Rattle.plan.specs.Records.{guestAt, runOf}
 use Rattle.response.specs.Interference.{jitter, interference}
 use Rattle.response.specs.Guest.{guestRight}
 use Rattle.response.specs.Task.{gap, load, periods, taskRight}
-use Rattle.analysis.specs.Guests.{GuestSolves}
-use Rattle.analysis.specs.Tasks.{TaskSolves}
+use Rattle.verdict_laws.specs.Guests.{GuestSolves}
+use Rattle.verdict_laws.specs.Tasks.{TaskSolves}
 use Rattle.dispatcher.specs.declared.Dispatcher.{Dispatcher}
 use Rattle.dispatcher.specs.State.{guestIn}
 use Rattle.dispatcher.specs.Tick.{holder, next}

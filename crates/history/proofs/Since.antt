@@ -20,7 +20,7 @@ use Rattle.history.proofs.Seen.{everyIn, tasksAt}
 use Rattle.history.proofs.TickSeen.{task-tick}
 use Rattle.history.proofs.Took.{Free, free-taken, taken-here, taken-else}
 use Rattle.history.proofs.Play.{Sound, play-keeps, answers-length}
-use Rattle.analysis.proofs.Ids.{idOf, found-id}
+use Rattle.verdict_laws.proofs.Ids.{idOf, found-id}
 
 -- m ticks after a taken release of task i of guest g
 pub record Since (p : Plan) (g i m : ℕ) (d : Dispatcher) : Type 0 where

@@ -16,7 +16,7 @@ use Rattle.dispatcher.specs.Answer.{answer}
 use Rattle.dispatcher.specs.Release.{taken}
 use Rattle.verdict.specs.declared.GuestVerdict.the-variants.{Fitted}
 use Rattle.verdict.specs.Verdict.{guestVerdict}
-use Rattle.analysis.specs.Guests.{GuestSolves}
+use Rattle.verdict_laws.specs.Guests.{GuestSolves}
 use Rattle.windows.specs.GuestTick.{Moved}
 use Rattle.windows.specs.GuestTick.Moved.{on, over}
 use Rattle.history.specs.Calls.{Call, start, play, ticksIn, answers}
@@ -27,10 +27,10 @@ use Rattle.history.proofs.Seen.{capOf, perOf, posAt, leftAt, heldAt}
 use Rattle.history.proofs.TickSeen.{guest-moved}
 use Rattle.history.proofs.Play.{Sound, Any, any, play-keeps, answers-length}
 use Rattle.history.proofs.Fresh.{fresh-idle, idle-position}
-use Rattle.analysis.proofs.Ids.{idOf}
+use Rattle.verdict_laws.proofs.Ids.{idOf}
 use Rattle.history.proofs.Capacity.{Shares, shares-next, shares-taken, shares-idle}
 use Rattle.history.proofs.Quote.{fitted-of}
-use Rattle.analysis.proofs.Guests.{fitted-means}
+use Rattle.verdict_laws.proofs.Guests.{fitted-means}
 use Rattle.history.proofs.Clocks.{sound-start, sound-reached}
 
 -- whole periods and a rest come to a number in one way

@@ -25,7 +25,7 @@ use Rattle.history.specs.Usage.{idles, unhad, Accounts}
 use Rattle.lists.proofs.Sum.{sum-zero}
 use Rattle.plan.proofs.Order.{PlanIn, plan-in}
 use Rattle.arrays.proofs.Tallies.{more-long}
-use Rattle.analysis.proofs.Ids.{idOf, id-one}
+use Rattle.verdict_laws.proofs.Ids.{idOf, id-one}
 use Rattle.history.proofs.Next.{is-held, not-held, is-worked, not-worked}
 use Rattle.history.proofs.Answered.{answer-nobody, answer-idled, answer-worked, answer-finished, names-mine, names-else}
 use Rattle.history.proofs.Play.{Sound, Any, any, play-keeps, answers-length}

@@ -7,9 +7,9 @@ use Rattle.plan.specs.Place.{placeOf}
 use Rattle.response.specs.Task.{gap}
 use Rattle.verdict.specs.Quoted.{Quoted}
 use Rattle.windows.specs.Equation.{response}
-use Rattle.analysis.specs.Tasks.{TaskThere}
+use Rattle.verdict_laws.specs.Tasks.{TaskThere}
 use Rattle.plan.proofs.Order.{PlanIn, plan-in}
-use Rattle.analysis.proofs.Tasks.{quoted-means}
+use Rattle.verdict_laws.proofs.Tasks.{quoted-means}
 use Rattle.history.proofs.Seen.{capOf, perOf}
 use Rattle.history.proofs.Quote.{TaskFits}
 

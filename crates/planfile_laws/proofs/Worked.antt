@@ -15,7 +15,7 @@ use Rattle.plan.specs.Order.{newId}
 use Rattle.block.specs.Reading.{column, zeroBetween, blockNumber}
 use Rattle.block.specs.Writing.{withHead, withEntry, withEntries, wordsOf, withCheck, blockOf}
 use Rattle.planfile.specs.File.{numberAt, sizedBy, fileRefusal}
-use Rattle.plans.specs.Plans.{A}
+use Rattle.worked.specs.Plans.{A}
 use Rattle.planfile.specs.Records.{recordsOf, planBy, readOf}
 use Rattle.planfile_laws.specs.File.{joined, fileOf}
 

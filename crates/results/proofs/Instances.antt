@@ -6,15 +6,15 @@ use Rattle.lists.specs.Refusals.{unless, refusal}
 use Rattle.plan.specs.First.{orElse, firstRefused}
 use Rattle.plan.specs.Order.{newId, numberOf, guestNumber, countedBy, planRefusal}
 use Rattle.plan.specs.Ranges.{headOk, taskOk, tasksOk}
-use Rattle.analysis.specs.Guests.{There, Responds, NoneFits}
-use Rattle.analysis.specs.Tasks.{TaskMet, TaskUnmetAt, TaskUnmet, TaskUnjudged}
-use Rattle.analysis.specs.Acceptances.{AllGood}
-use Rattle.analysis.specs.Capacities.{CapacitySmallest, NoCapacity}
-use Rattle.plans.specs.Plans.{planA, planB, planD}
-use Rattle.analysis.proofs.Guests.{guest-verdict-means}
-use Rattle.analysis.proofs.Tasks.{task-verdict-means}
-use Rattle.analysis.proofs.Acceptances.{acceptance-means}
-use Rattle.analysis.proofs.Capacities.{capacity-answer-means}
+use Rattle.verdict_laws.specs.Guests.{There, Responds, NoneFits}
+use Rattle.verdict_laws.specs.Tasks.{TaskMet, TaskUnmetAt, TaskUnmet, TaskUnjudged}
+use Rattle.verdict_laws.specs.Acceptances.{AllGood}
+use Rattle.verdict_laws.specs.Capacities.{CapacitySmallest, NoCapacity}
+use Rattle.worked.specs.Plans.{planA, planB, planD}
+use Rattle.verdict_laws.proofs.Guests.{guest-verdict-means}
+use Rattle.verdict_laws.proofs.Tasks.{task-verdict-means}
+use Rattle.verdict_laws.proofs.Acceptances.{acceptance-means}
+use Rattle.verdict_laws.proofs.Capacities.{capacity-answer-means}
 use Rattle.results.proofs.Numbers.{numbers}
 
 -- plan A is in order, and guest 9 stands at place 1

@@ -26,7 +26,7 @@ use Rattle.history.specs.Calls.{Call, releasing, start, after, play, ticksIn, a
 use Rattle.history.specs.Finished.{FinishedBy}
 use Rattle.history.specs.Named.{restBy, ageBy}
 use Rattle.history.specs.Share.{share}
-use Rattle.plans.specs.Plans.{A, planA, planD}
+use Rattle.worked.specs.Plans.{A, planA, planD}
 use Rattle.verdict.proofs.Quoted.{met-quoted, unmet-quoted}
 use Rattle.results.proofs.Numbers.{numbers}
 use Rattle.results.proofs.Word.{sure-of-capacity, younger, finished-by-R, first-taken}

@@ -14,14 +14,14 @@ use Rattle.verdict.specs.Verdict.{guestVerdict, taskVerdict, acceptance}
 use Rattle.verdict.specs.Quoted.{Quoted}
 use Rattle.capacity.specs.declared.CapacityAnswer.{CapacityAnswer}
 use Rattle.capacity.specs.Answer.{smallestCapacity}
-use Rattle.analysis.specs.Capacities.{CapacityMeans}
-use Rattle.analysis.specs.Guests.{There, AllFit, GuestMeans}
-use Rattle.analysis.specs.Tasks.{TaskThere, TaskSolves, InPeriod, TaskQuoted, TaskMeans}
-use Rattle.analysis.specs.Acceptances.{AcceptMeans, AllSaidMet}
-use Rattle.analysis.proofs.Acceptances as acceptances
-use Rattle.analysis.proofs.Capacities as capacities
-use Rattle.analysis.proofs.Guests as guests
-use Rattle.analysis.proofs.Tasks as tasks
+use Rattle.verdict_laws.specs.Capacities.{CapacityMeans}
+use Rattle.verdict_laws.specs.Guests.{There, AllFit, GuestMeans}
+use Rattle.verdict_laws.specs.Tasks.{TaskThere, TaskSolves, InPeriod, TaskQuoted, TaskMeans}
+use Rattle.verdict_laws.specs.Acceptances.{AcceptMeans, AllSaidMet}
+use Rattle.verdict_laws.proofs.Acceptances as acceptances
+use Rattle.verdict_laws.proofs.Capacities as capacities
+use Rattle.verdict_laws.proofs.Guests as guests
+use Rattle.verdict_laws.proofs.Tasks as tasks
 
 module _ (p : Plan) (id k : ℕ) (there : There p id k) where
   -- Fitted x: x is the least solution from 1 to the period. Unfit: there is none.

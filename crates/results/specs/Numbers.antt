@@ -2,7 +2,7 @@
 use mathlib.Core.Path.{_≡_}
 use mathlib.Core.List.{[], _∷_}
 use lib.IntN.{pos}
-use Rattle.plans.specs.Plans.{planOf, top, planA, planB, planC, planD}
+use Rattle.worked.specs.Plans.{planOf, top, planA, planB, planC, planD}
 use Rattle.response.specs.Task.{taskRight}
 use Rattle.verdict.specs.declared.GuestVerdict.the-variants.{Fitted, Unfit}
 use Rattle.verdict.specs.declared.TaskVerdict.the-variants.{Met, UnmetAt, Unmet, Unjudged}

@@ -84,7 +84,7 @@ fn the_sizes_are_those_of_the_header() {
 
 #[test]
 fn the_example_writes_what_document_01_says() {
-    let archive = Path::new(env!("CARGO_MANIFEST_DIR")).join("../../target/staticlib/libhost.a");
+    let archive = Path::new(env!("CARGO_MANIFEST_DIR")).join("../../target/staticlib/libcoreshare.a");
     let text = "guest 9 stands at byte 512
 guest 7 fitted 2
 task 1 met 4

@@ -1,0 +1,34 @@
+-- What each promise permits is one outcome. Assumes nothing.
+use mathlib.Core.Path.{_≡_}
+use Prim.Native.Nat.{ℕ}
+use Rattle.plan.specs.declared.Plan.{Plan}
+use Rattle.dispatcher.specs.declared.Dispatcher.{Dispatcher}
+use Rattle.coreshare.specs.declared.Verdict.{Verdict}
+use Rattle.coreshare.specs.declared.Tick.{Tick}
+use Rattle.coreshare.specs.declared.Run.{Run}
+use Rattle.coreshare.specs.Promises.{TellsGuest, TellsTask, TellsPlan, TellsCapacity, TellsTick, TellsRun}
+use Rattle.plan.proofs.Promises.{one-outcome}
+
+-- cs_guest_verdict
+pub tells-guest-once : (p : Plan) (id : ℕ) (r s : Verdict) → TellsGuest p id r → TellsGuest p id s → r ≡ s
+tells-guest-once p id r s = one-outcome
+
+-- cs_task_verdict
+pub tells-task-once : (p : Plan) (id number : ℕ) (r s : Verdict) → TellsTask p id number r → TellsTask p id number s → r ≡ s
+tells-task-once p id number r s = one-outcome
+
+-- cs_accept
+pub tells-plan-once : (p : Plan) (r s : Verdict) → TellsPlan p r → TellsPlan p s → r ≡ s
+tells-plan-once p r s = one-outcome
+
+-- cs_smallest_capacity
+pub tells-capacity-once : (p : Plan) (id : ℕ) (r s : Verdict) → TellsCapacity p id r → TellsCapacity p id s → r ≡ s
+tells-capacity-once p id r s = one-outcome
+
+-- cs_tick
+pub tells-tick-once : (d : Dispatcher) (r s : Tick) → TellsTick d r → TellsTick d s → r ≡ s
+tells-tick-once d r s = one-outcome
+
+-- cs_run
+pub tells-run-once : (d : Dispatcher) (n : ℕ) (r s : Run) → TellsRun d n r → TellsRun d n s → r ≡ s
+tells-run-once d n r s = one-outcome
