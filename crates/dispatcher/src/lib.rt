@@ -1,5 +1,5 @@
 // The dispatcher: its state by value, and the calls that take it and give it back.
-mod examine;
+mod checking;
 mod running;
 mod start;
 mod step;
@@ -7,6 +7,7 @@ mod taking;
 mod ticking;
 mod told;
 
+pub use checking::examine;
 use plan::Plan;
 use plan::Refusal;
 

@@ -13,7 +13,7 @@ use crate::Ran;
 use crate::RunOutcome;
 use crate::Turn;
 use crate::Went;
-use crate::examine::examine;
+use crate::checking::examine;
 use crate::step::step;
 use crate::told::finished;
 use crate::told::told;

@@ -10,7 +10,7 @@ ghost use Rattle.dispatcher.specs.Promises.{Releases};
 use crate::Aim;
 use crate::Dispatcher;
 use crate::Released;
-use crate::examine::examine;
+use crate::checking::examine;
 use plan::Guest;
 use plan::Plan;
 use plan::Refusal;

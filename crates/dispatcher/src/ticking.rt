@@ -2,7 +2,7 @@
 ghost use Rattle.dispatcher.specs.Promises.{Ticks};
 use crate::Dispatcher;
 use crate::Ticked;
-use crate::examine::examine;
+use crate::checking::examine;
 use crate::running::ran;
 use plan::Refusal;
 

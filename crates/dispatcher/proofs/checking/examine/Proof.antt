@@ -2,8 +2,8 @@
 use borrow.Author.Needs.{needs}
 use Rattle.plan.proofs.Order.{count-few, count-many}
 use Rattle.dispatcher.proofs.Pass.{uncounted, examined}
-use Rattle.dispatcher.proofs.examine.examine.Statement.{statement}
-use Rattle.dispatcher.proofs.examine.examine.Tie as tie
+use Rattle.dispatcher.proofs.checking.examine.Statement.{statement}
+use Rattle.dispatcher.proofs.checking.examine.Tie as tie
 
 cast-n : tie.Need-cast-n
 cast-n c = search needs

@@ -9,8 +9,8 @@ use Rattle.dispatcher.specs.Lent.{stateOf}
 use Rattle.dispatcher.specs.LentCheck.{guestGoes}
 use Rattle.lists.proofs.All.{all-none, all-end}
 use Rattle.dispatcher.proofs.Pass.{Columns, columns-none, columns-next, columns-done, goes-turn}
-use Rattle.dispatcher.proofs.examine.guests_ok.Statement.{statement}
-use Rattle.dispatcher.proofs.examine.guests_ok.Tie as tie
+use Rattle.dispatcher.proofs.checking.guests_ok.Statement.{statement}
+use Rattle.dispatcher.proofs.checking.guests_ok.Tie as tie
 
 abbrev Inv-loop : tie.InvT-loop
 Inv-loop left position rest wait age plan n ids₀ capacities₀ periods₀ tasks₀ ok₀ k₀ ids capacities periods tasks ok k =

@@ -5,8 +5,8 @@ use borrow.Author.Needs.{needs}
 use Rattle.lists.specs.All.{allTo}
 use Rattle.lists.proofs.All.{all-end}
 use Rattle.dispatcher.proofs.Pass.{pastOk, past-none, past-turn}
-use Rattle.dispatcher.proofs.examine.blanks_ok.Statement.{statement}
-use Rattle.dispatcher.proofs.examine.blanks_ok.Tie as tie
+use Rattle.dispatcher.proofs.checking.blanks_ok.Statement.{statement}
+use Rattle.dispatcher.proofs.checking.blanks_ok.Tie as tie
 
 abbrev Inv-loop : tie.InvT-loop
 Inv-loop n left position rest wait age ok₀ k₀ ok k = (n ≤ k) × ((k ≤ 8) × (ok ≡ allTo (pastOk n left position rest wait age) k))

@@ -1,0 +1,88 @@
+-- The columns that a sheet gathers, row by row. Assumes nothing.
+use mathlib.Core.Path.{_≡_, refl, _∙_}
+use mathlib.Core.List.{List}
+use Prim.Native.Nat.{ℕ, _+_, _*_, _≤_, _<_}
+use native.Mathlib.Decide.{ℕ-discrete, decLt}
+use native.Mathlib.Omega.{arith}
+use lib.ListN.{length, set}
+use lib.Seq.{getD-set-same, getD-set-other}
+use Rattle.lists.specs.Places.{nth}
+use Rattle.plan.specs.declared.Guest.{Guest}
+use Rattle.plan.specs.declared.Plan.{Plan}
+use Rattle.plan.specs.Records.{guestAt, everyOf}
+use Rattle.plan.specs.Charge.{chargedRun, charged}
+use Rattle.arrays.specs.Place.{placeAt}
+use Rattle.sheet.specs.Lent.{RowTo, JobsOf}
+
+module _ (run every : List ℕ) (charge k : ℕ) (runs₀ periods₀ : List ℕ) where
+  -- No task of the row is there yet.
+  pub row-none : RowTo run every charge k 0 runs₀ periods₀ runs₀ periods₀
+  row-none = record {
+    runs-in = λ t h. absurd (omega arith);
+    periods-in = λ t h. absurd (omega arith);
+    runs-kept = λ m h. refl;
+    periods-kept = λ m h. refl;
+  }
+
+  -- One number more in a column of the row: places up to it.
+  grown : (f : ℕ → ℕ) (l : List ℕ) (n v : ℕ) → placeAt k n < length l → v ≡ f n → ((t : ℕ) → t < n → nth l (placeAt k t) ≡ f t)
+      → (t : ℕ) → t < n + 1 → nth (set l (placeAt k n) v) (placeAt k t) ≡ f t
+  grown f l n v inside e H t h =
+      elim (ℕ-discrete t n) [
+        | yes q ↦ rw q (getD-set-same l (placeAt k n) v 0 inside ∙ e)
+        | no q ↦ getD-set-other l (placeAt k n) (placeAt k t) v 0 (λ z. q (omega arith)) ∙ H t (omega arith)
+      ]
+
+  -- Places before the row stand.
+  stands : (l : List ℕ) (n v m : ℕ) → m < placeAt k 0 → nth (set l (placeAt k n) v) m ≡ nth l m
+  stands l n v m h = getD-set-other l (placeAt k n) m v 0 (λ z. omega arith)
+
+  -- One task more.
+  pub row-next :
+      {n r e : ℕ} {runs periods : List ℕ}
+      → placeAt k n < length runs
+      → placeAt k n < length periods
+      → r ≡ chargedRun (nth run n) charge
+      → e ≡ nth every n
+      → RowTo run every charge k n runs₀ periods₀ runs periods
+      → RowTo run every charge k (n + 1) runs₀ periods₀ (set runs (placeAt k n) r) (set periods (placeAt k n) e)
+  row-next {n} {r} {e} {runs} {periods} a b p q R = record {
+    runs-in = grown (λ t. chargedRun (nth run t) charge) runs n r a p (R .runs-in);
+    periods-in = grown (nth every) periods n e b q (R .periods-in);
+    runs-kept = λ m h. stands runs n r m h ∙ R .runs-kept m h;
+    periods-kept = λ m h. stands periods n e m h ∙ R .periods-kept m h;
+  }
+
+-- The rows of the first n guests are there.
+pub record RowsTo (p : Plan) (n : ℕ) (runs periods : List ℕ) : Type 0 where
+  pub run : (k t : ℕ) → k < n → t < guestAt (p .guests) k .tasks → nth runs (placeAt k t) ≡ charged (guestAt (p .guests) k) t
+  pub period : (k t : ℕ) → k < n → t < guestAt (p .guests) k .tasks → nth periods (placeAt k t) ≡ everyOf (guestAt (p .guests) k) t
+
+-- One row more: the rows before it stand, since a guest has at most 16 tasks.
+pub rows-next :
+    (p : Plan) (n : ℕ) {runs₀ periods₀ runs periods : List ℕ}
+    → ((k : ℕ) → k < n → guestAt (p .guests) k .tasks ≤ 16)
+    → RowsTo p n runs₀ periods₀
+    → RowTo (guestAt (p .guests) n .run) (guestAt (p .guests) n .every) (guestAt (p .guests) n .charge) n
+    (guestAt (p .guests) n .tasks) runs₀ periods₀ runs periods
+    → RowsTo p (n + 1) runs periods
+rows-next p n few H R = record {
+  run = λ k t h l.
+      elim (decLt k n) [
+        | yes q ↦ R .runs-kept (placeAt k t) (omega (arith, few k q)) ∙ H .run k t q l
+        | no q ↦ let z : k ≡ n = omega arith in rw z (R .runs-in t (rw z at l))
+      ];
+  period = λ k t h l.
+      elim (decLt k n) [
+        | yes q ↦ R .periods-kept (placeAt k t) (omega (arith, few k q)) ∙ H .period k t q l
+        | no q ↦ let z : k ≡ n = omega arith in rw z (R .periods-in t (rw z at l))
+      ];
+}
+
+-- Before the first row nothing is asked.
+pub rows-none : (p : Plan) (runs periods : List ℕ) → RowsTo p 0 runs periods
+rows-none p runs periods = record { run = λ k t h l. absurd (omega arith); period = λ k t h l. absurd (omega arith) }
+
+-- All rows are there.
+pub rows-done : (p : Plan) (n : ℕ) {runs periods : List ℕ} → p .count ≤ n → RowsTo p n runs periods → JobsOf p runs periods
+rows-done p n h R = record { run = λ k t l m. R .run k t (omega arith) m; period = λ k t l m. R .period k t (omega arith) m }

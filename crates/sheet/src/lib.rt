@@ -1,0 +1,81 @@
+// A sheet of releases: many tasks are released in one call, and the state is checked once.
+ghost use mathlib.Core.Path.{_≡_};
+ghost use mathlib.Core.List.{[], _∷_};
+ghost use lib.Dec.{leb};
+ghost use Rattle.lists.specs.Refusals.{refusal, _orRefuse_};
+ghost use Rattle.sheet.specs.Sheet.{mostPairs};
+ghost use Rattle.sheet.specs.Promises.{Sheets};
+use dispatcher::Dispatcher;
+use dispatcher::Released;
+use dispatcher::examine;
+use plan::Refusal;
+
+mod columns;
+mod pairs;
+
+// What a taken release sets, at each task's place: its charged run and its period.
+pub struct Jobs {
+    pub runs: [u32; 128],
+    pub periods: [u32; 128],
+}
+
+// The number that a sheet is refused by as a whole: 14, 15, 12, or 0.
+fn whole_number(ok: bool, pairs: usize, room: usize) -> u32
+    ensures { λ r. ⌜
+        r ≡ refusal (ok orRefuse 14 ∷ leb pairs mostPairs orRefuse 15 ∷ leb pairs room orRefuse 12 ∷ [])
+        ⌝ }
+{
+    if !ok {
+        return 14;
+    }
+    if 256 < pairs {
+        return 15;
+    }
+    if room < pairs {
+        return 12;
+    }
+    0
+}
+
+// Releases the pairs one by one in order, and answers each in its place; a sheet refused whole changes nothing.
+pub fn release_all(state: Dispatcher, pairs: &[u64], answers: &mut [u32]) -> Released
+    ensures { λ r. ⌜ Sheets state (now (pairs .entry)) (now (answers .entry)) r (now (answers .exit)) ⌝ }
+{
+    let left = state.left;
+    let position = state.position;
+    let mut rest = state.rest;
+    let mut wait = state.wait;
+    let mut age = state.age;
+    let found = examine(state.plan, &left, &position, &rest, &wait, &age);
+    let number = whole_number(found.ok, pairs.len(), answers.len());
+    let refusal = Refusal { number, place: 0 };
+    if 0 < number {
+        return Released { refusal, state };
+    }
+    let ids = found.ids;
+    let tasks = found.tasks;
+    let n = state.plan.count as usize;
+    let set = columns::jobs_of(state.plan);
+    let runs = set.runs;
+    let periods = set.periods;
+    pairs::take_all(
+        pairs,
+        answers,
+        &ids,
+        &tasks,
+        &runs,
+        &periods,
+        n,
+        &mut rest,
+        &mut wait,
+        &mut age,
+    );
+    let mut next = state;
+    next.rest = rest;
+    next.wait = wait;
+    next.age = age;
+    Released {
+        refusal,
+        state: next,
+    }
+}

@@ -1,0 +1,103 @@
+// The pairs of a sheet one by one, over lent arrays.
+ghost use mathlib.Core.Path.{_≡_};
+ghost use mathlib.Core.Bool.{true};
+ghost use mathlib.Core.List.{List};
+ghost use Prim.Native.Nat.{ℕ, _≤_, _<_};
+ghost use lib.ListN.{length};
+ghost use Rattle.plan.specs.declared.Plan.{Plan};
+ghost use Rattle.dispatcher.specs.Valid.{stateOk};
+ghost use Rattle.dispatcher.specs.Lent.{stateOf, Small};
+ghost use Rattle.sheet.specs.Sheet.{guestOf, taskOf};
+ghost use Rattle.sheet.specs.Lent.{SheetColumns, PairTaken, AllTaken};
+
+// The guest id that a pair names: a part beyond 32 bits names no guest, as id 0 does.
+fn guest_of(pair: u64) -> u32
+    ensures { λ r. ⌜ r ≡ guestOf pair ⌝ }
+{
+    let guest = pair / 65536;
+    if guest < 4294967296 { guest as u32 } else { 0 }
+}
+
+// The task number that a pair names.
+fn task_of(pair: u64) -> u32
+    ensures { λ r. ⌜ r ≡ taskOf pair ⌝ }
+{
+    (pair % 65536) as u32
+}
+
+// One pair: 7, 8, 9, 10, or 0 and the task's run left, wait and age are set.
+fn take(
+    pair: u64,
+    ids: &[u32; 16],
+    tasks: &[u32; 16],
+    runs: &[u32; 128],
+    periods: &[u32; 128],
+    n: usize,
+    rest: &mut [u32; 128],
+    wait: &mut [u32; 128],
+    age: &mut [u32; 128],
+) -> u32
+    requires { ⌜ Small n (now tasks) ⌝ }
+    ensures { λ r. ⌜
+        ((p : Plan) (left position usage : List ℕ)
+        → SheetColumns p n (now (ids .entry)) (now (tasks .entry)) (now (runs .entry)) (now (periods .entry))
+        → stateOk (stateOf p left position (now (rest .entry)) (now (wait .entry)) (now (age .entry)) usage) ≡ true
+        → PairTaken (stateOf p left position (now (rest .entry)) (now (wait .entry)) (now (age .entry)) usage)
+        (stateOf p left position (now (rest .exit)) (now (wait .exit)) (now (age .exit)) usage)
+        pair r)
+        ⌝ }
+{
+    let guest = guest_of(pair);
+    let task = task_of(pair);
+    let k = plan::place_of(ids, n, guest);
+    if n <= k {
+        return 7;
+    }
+    if task < 1 {
+        return 8;
+    }
+    if tasks[k] < task {
+        return 8;
+    }
+    let at = k * 16 + (task - 1) as usize;
+    if 0 < wait[at] {
+        return 9;
+    }
+    if 0 < rest[at] {
+        return 10;
+    }
+    rest[at] = runs[at];
+    wait[at] = periods[at];
+    age[at] = 0;
+    0
+}
+
+// All pairs in order, each answered in its place.
+pub fn take_all(
+    pairs: &[u64],
+    answers: &mut [u32],
+    ids: &[u32; 16],
+    tasks: &[u32; 16],
+    runs: &[u32; 128],
+    periods: &[u32; 128],
+    n: usize,
+    rest: &mut [u32; 128],
+    wait: &mut [u32; 128],
+    age: &mut [u32; 128],
+)
+    requires { ⌜ Small n (now tasks) × (length (now pairs) ≤ length (now answers)) ⌝ }
+    ensures { λ r. ⌜
+        ((p : Plan) (left position usage : List ℕ)
+        → SheetColumns p n (now (ids .entry)) (now (tasks .entry)) (now (runs .entry)) (now (periods .entry))
+        → stateOk (stateOf p left position (now (rest .entry)) (now (wait .entry)) (now (age .entry)) usage) ≡ true
+        → AllTaken (stateOf p left position (now (rest .entry)) (now (wait .entry)) (now (age .entry)) usage)
+        (stateOf p left position (now (rest .exit)) (now (wait .exit)) (now (age .exit)) usage)
+        (now (pairs .entry)) (now (answers .entry)) (now (answers .exit)))
+        ⌝ }
+{
+    let mut i: usize = 0;
+    while i < pairs.len() {
+        answers[i] = take(pairs[i], ids, tasks, runs, periods, n, rest, wait, age);
+        i += 1;
+    }
+}
