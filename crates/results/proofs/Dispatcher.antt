@@ -18,6 +18,7 @@ use Rattle.history.specs.Calls.{Call, releasing, start, after, play, ticksIn, a
 use Rattle.history.specs.Named.{everyBy, restBy, waitBy, ageBy}
 use Rattle.history.specs.Runs.{RunIs}
 use Rattle.history.specs.Usage.{Accounts}
+use Rattle.dispatcher_laws.proofs.Valid as valid
 use Rattle.history.proofs.Clocks as clocks
 use Rattle.history.proofs.Stays as stays
 use Rattle.history.proofs.Sure as sure
@@ -87,4 +88,4 @@ usage-adds-up = usage.usage-adds-up
 pub usage-unseen :
     (d : Dispatcher) (u : List ℕ)
     → stateOk (record { plan = d .plan; left = d .left; position = d .position; rest = d .rest; wait = d .wait; age = d .age; usage = u }) ≡ stateOk d
-usage-unseen = usage.usage-unseen
+usage-unseen = valid.usage-unseen
