@@ -1,2 +1,5 @@
 -- Laws, each file named after what it is about.
 pub mod Rows
+pub mod Pair
+pub mod Sheet
+pub mod Whole

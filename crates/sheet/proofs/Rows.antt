@@ -4,7 +4,7 @@ use mathlib.Core.List.{List}
 use Prim.Native.Nat.{ℕ, _+_, _*_, _≤_, _<_}
 use native.Mathlib.Decide.{ℕ-discrete, decLt}
 use native.Mathlib.Omega.{arith}
-use lib.ListN.{length, set}
+use lib.ListN.{length, set, length-set}
 use lib.Seq.{getD-set-same, getD-set-other}
 use Rattle.lists.specs.Places.{nth}
 use Rattle.plan.specs.declared.Guest.{Guest}
@@ -12,16 +12,18 @@ use Rattle.plan.specs.declared.Plan.{Plan}
 use Rattle.plan.specs.Records.{guestAt, everyOf}
 use Rattle.plan.specs.Charge.{chargedRun, charged}
 use Rattle.arrays.specs.Place.{placeAt}
-use Rattle.sheet.specs.Lent.{RowTo, JobsOf}
+use Rattle.sheet.specs.Lent.{RunsIn, Long, RowTo, JobsOf}
+use Rattle.plan.proofs.Order.{PlanIn}
 
 module _ (run every : List ℕ) (charge k : ℕ) (runs₀ periods₀ : List ℕ) where
   -- No task of the row is there yet.
-  pub row-none : RowTo run every charge k 0 runs₀ periods₀ runs₀ periods₀
-  row-none = record {
+  pub row-none : Long runs₀ periods₀ → RowTo run every charge k 0 runs₀ periods₀ runs₀ periods₀
+  row-none L = record {
     runs-in = λ t h. absurd (omega arith);
     periods-in = λ t h. absurd (omega arith);
     runs-kept = λ m h. refl;
     periods-kept = λ m h. refl;
+    long = L;
   }
 
   -- One number more in a column of the row: places up to it.
@@ -40,21 +42,34 @@ module _ (run every : List ℕ) (charge k : ℕ) (runs₀ periods₀ : List ℕ)
   -- One task more.
   pub row-next :
       {n r e : ℕ} {runs periods : List ℕ}
-      → placeAt k n < length runs
-      → placeAt k n < length periods
+      → placeAt k n < 128
       → r ≡ chargedRun (nth run n) charge
       → e ≡ nth every n
       → RowTo run every charge k n runs₀ periods₀ runs periods
       → RowTo run every charge k (n + 1) runs₀ periods₀ (set runs (placeAt k n) r) (set periods (placeAt k n) e)
-  row-next {n} {r} {e} {runs} {periods} a b p q R = record {
-    runs-in = grown (λ t. chargedRun (nth run t) charge) runs n r a p (R .runs-in);
-    periods-in = grown (nth every) periods n e b q (R .periods-in);
+  row-next {n} {r} {e} {runs} {periods} a p q R = record {
+    runs-in = grown (λ t. chargedRun (nth run t) charge) runs n r (rw (R .long .runs-long) a) p (R .runs-in);
+    periods-in = grown (nth every) periods n e (rw (R .long .periods-long) a) q (R .periods-in);
     runs-kept = λ m h. stands runs n r m h ∙ R .runs-kept m h;
     periods-kept = λ m h. stands periods n e m h ∙ R .periods-kept m h;
+    long = record {
+      runs-long = length-set runs (placeAt k n) r ∙ R .long .runs-long;
+      periods-long = length-set periods (placeAt k n) e ∙ R .long .periods-long;
+    };
   }
+
+  -- The loop's end: n tasks were put and no more.
+  pub all-tasks :
+      {i n : ℕ} {runs periods : List ℕ}
+      → i ≤ n
+      → n ≤ i
+      → RowTo run every charge k i runs₀ periods₀ runs periods
+      → RowTo run every charge k n runs₀ periods₀ runs periods
+  all-tasks {i} {n} h l R = let e : i ≡ n = omega arith in rw (← e) R
 
 -- The rows of the first n guests are there.
 pub record RowsTo (p : Plan) (n : ℕ) (runs periods : List ℕ) : Type 0 where
+  pub long : Long runs periods
   pub run : (k t : ℕ) → k < n → t < guestAt (p .guests) k .tasks → nth runs (placeAt k t) ≡ charged (guestAt (p .guests) k) t
   pub period : (k t : ℕ) → k < n → t < guestAt (p .guests) k .tasks → nth periods (placeAt k t) ≡ everyOf (guestAt (p .guests) k) t
 
@@ -67,6 +82,7 @@ pub rows-next :
     (guestAt (p .guests) n .tasks) runs₀ periods₀ runs periods
     → RowsTo p (n + 1) runs periods
 rows-next p n few H R = record {
+  long = R .long;
   run = λ k t h l.
       elim (decLt k n) [
         | yes q ↦ R .runs-kept (placeAt k t) (omega (arith, few k q)) ∙ H .run k t q l
@@ -80,9 +96,13 @@ rows-next p n few H R = record {
 }
 
 -- Before the first row nothing is asked.
-pub rows-none : (p : Plan) (runs periods : List ℕ) → RowsTo p 0 runs periods
-rows-none p runs periods = record { run = λ k t h l. absurd (omega arith); period = λ k t h l. absurd (omega arith) }
+pub rows-none : (p : Plan) (runs periods : List ℕ) → Long runs periods → RowsTo p 0 runs periods
+rows-none p runs periods L = record { long = L; run = λ k t h l. absurd (omega arith); period = λ k t h l. absurd (omega arith) }
 
 -- All rows are there.
 pub rows-done : (p : Plan) (n : ℕ) {runs periods : List ℕ} → p .count ≤ n → RowsTo p n runs periods → JobsOf p runs periods
 rows-done p n h R = record { run = λ k t l m. R .run k t (omega arith) m; period = λ k t l m. R .period k t (omega arith) m }
+
+-- A guest of a plan in order has few tasks, with runs in their range.
+pub runs-in-range : (p : Plan) (k : ℕ) → PlanIn p → k < p .count → RunsIn (guestAt (p .guests) k)
+runs-in-range p k P h = let G = P .guests k h in record { few = G .head .few; short = λ t l. G .tasks t l .run-short }

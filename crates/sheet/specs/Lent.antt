@@ -22,12 +22,18 @@ pub record RunsIn (g : Guest) : Type 0 where
   pub few : g .tasks ≤ mostTasks
   pub short : (t : ℕ) → t < g .tasks → runOf g t ≤ longest
 
+-- Two arrays of 128 places.
+pub record Long (runs periods : List ℕ) : Type 0 where
+  pub runs-long : length runs ≡ 128
+  pub periods-long : length periods ≡ 128
+
 -- The row at place k of a guest with these columns is there up to task n, and the rows before it are as they were.
 pub record RowTo (run every : List ℕ) (charge k n : ℕ) (runs₀ periods₀ runs periods : List ℕ) : Type 0 where
   pub runs-in : (t : ℕ) → t < n → nth runs (placeAt k t) ≡ chargedRun (nth run t) charge
   pub periods-in : (t : ℕ) → t < n → nth periods (placeAt k t) ≡ nth every t
   pub runs-kept : (m : ℕ) → m < placeAt k 0 → nth runs m ≡ nth runs₀ m
   pub periods-kept : (m : ℕ) → m < placeAt k 0 → nth periods m ≡ nth periods₀ m
+  pub long : Long runs periods
 
 -- What a taken release sets, at each task's place: its charged run and its period.
 pub record JobsOf (p : Plan) (runs periods : List ℕ) : Type 0 where

@@ -1,3 +1,14 @@
+-- `sheet::columns::jobs_of` meets its contract: a turn puts the row of one guest, and the rows before it stand. Assumes nothing.
+use mathlib.Core.Path.{_≡_, refl}
+use Prim.Native.Nat.{ℕ, _≤_, _-_, _<_}
+use native.Mathlib.Omega.{arith}
+use borrow.Author.Needs.{needs}
+use Rattle.plan.specs.declared.Plan.{Plan}
+use Rattle.plan.specs.Order.{planRefusal}
+use Rattle.plan.specs.Records.{guestAt}
+use Rattle.plan.proofs.Order.{PlanIn, plan-in}
+use Rattle.sheet.specs.Lent.{RunsIn}
+use Rattle.sheet.proofs.Rows.{RowsTo, rows-none, rows-next, rows-done, runs-in-range}
 use Rattle.sheet.proofs.columns.jobs_of.Statement.{statement}
 use Rattle.sheet.proofs.columns.jobs_of.Tie as tie
 use Rattle.sheet.proofs.columns.jobs_of.Reads as reads
@@ -5,46 +16,42 @@ use Rattle.sheet.proofs.columns.jobs_of.Lts as lts
 use Rattle.sheet.proofs.columns.put_row.Reads as put-row-reads
 
 abbrev Inv-loop : tie.InvT-loop
-Inv-loop plan n runs₀ periods₀ k₀ runs periods k = ?
+Inv-loop plan n runs₀ periods₀ k₀ runs periods k = (k ≤ n) × (PlanIn plan × RowsTo plan k runs periods)
 
 abbrev μ-loop : tie.MeasureT-loop
-μ-loop plan n runs₀ periods₀ k₀ runs periods k = ?
+μ-loop plan n runs₀ periods₀ k₀ runs periods k = n - k
 
--- src/columns.rt:37:13
 cast-n : tie.Need-cast-n Inv-loop μ-loop
-cast-n c = ?
+cast-n c = search needs
 
--- src/columns.rt:41:5
 loop-holds : tie.Need-loop-holds Inv-loop μ-loop
-loop-holds c = ?
+loop-holds c = (search needs, (plan-in _ (c .pre), rows-none _ _ _ record { runs-long = refl; periods-long = refl }))
 
--- src/columns.rt:42:17
 mul-g : tie.Need-mul-g Inv-loop μ-loop
-mul-g c = ?
+mul-g c = search needs
 
--- src/columns.rt:42:17
 element-copy-out-g : tie.Need-element-copy-out-g Inv-loop μ-loop
-element-copy-out-g c = ?
+element-copy-out-g c = let l = c .before .loop in omega (arith, l .inv .1 .0 .few)
 
--- src/columns.rt:43:9
 put-row-requires : tie.Need-put-row-requires Inv-loop μ-loop
-put-row-requires c κs = ?
+put-row-requires c κs =
+    let t = c .before .before .before in
+    let l = t .before .loop in
+    (omega (arith, l .inv .1 .0 .few), (runs-in-range _ _ (l .inv .1 .0) (t .loop-test .taken), l .inv .1 .1 .long))
 
--- src/columns.rt:44:9
 add-k : tie.Need-add-k Inv-loop μ-loop
-add-k c = ?
+add-k c = search needs
 
--- src/columns.rt:41:5
 loop-less : tie.Need-loop-less Inv-loop μ-loop
-loop-less c = ?
+loop-less c = search needs
 
--- src/columns.rt:41:5
 loop-again : tie.Need-loop-again Inv-loop μ-loop
-loop-again c = ?
+loop-again c =
+    let l = c .before .before .before .before .before .loop in
+    (search needs, (l .inv .1 .0, rows-next _ _ (λ j h. l .inv .1 .0 .guests j (omega arith) .head .few) (l .inv .1 .1) (c .put-row .ensures)))
 
--- src/columns.rt:33:1
 returns : tie.Need-returns Inv-loop μ-loop
-returns c = ?
+returns c = rows-done _ _ (c .loop-test .left) (c .before .loop .inv .1 .1)
 
 pub jobs-of-spec : {M : Type 1} → statement M
 jobs-of-spec =

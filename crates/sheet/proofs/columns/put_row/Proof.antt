@@ -3,10 +3,10 @@ use mathlib.Core.Path.{_≡_, refl}
 use Prim.Native.Nat.{_≤_, _-_, _*_}
 use native.Mathlib.Omega.{arith}
 use borrow.Author.Needs.{needs}
-use Rattle.plan.specs.Charge.{chargedRun}
+use Rattle.lists.specs.Places.{nth}
 use Rattle.plan.proofs.Charge.{charged-most}
 use Rattle.sheet.specs.Lent.{RowTo}
-use Rattle.sheet.proofs.Rows.{row-none, row-next}
+use Rattle.sheet.proofs.Rows.{row-none, row-next, all-tasks}
 use Rattle.sheet.proofs.columns.put_row.Statement.{statement}
 use Rattle.sheet.proofs.columns.put_row.Tie as tie
 use Rattle.sheet.proofs.columns.put_row.Reads as reads
@@ -26,7 +26,7 @@ mul-base : tie.Need-mul-base Inv-loop μ-loop
 mul-base c = search needs
 
 loop-holds : tie.Need-loop-holds Inv-loop μ-loop
-loop-holds c = (search needs, row-none _ _ _ _ _ _)
+loop-holds c = (search needs, row-none _ _ _ _ _ _ (c .before .before .before .pre .1 .1))
 
 add-at : tie.Need-add-at Inv-loop μ-loop
 add-at c = search needs
@@ -41,7 +41,10 @@ charged-run-requires : tie.Need-charged-run-requires Inv-loop μ-loop
 charged-run-requires c κs = search needs
 
 cast-runs : tie.Need-cast-runs Inv-loop μ-loop
-cast-runs c = ?
+cast-runs c =
+    let l = c .before .before in
+    let s = l .before .before .before .before in
+    omega (arith, c .charged-run .ensures, charged-most (nth (s .args .g .run) (l .loop .t)) (s .args .g .charge) (s .pre .1 .0 .short (l .loop .t) (omega arith)) (omega arith))
 
 mul-runs : tie.Need-mul-runs Inv-loop μ-loop
 mul-runs c = search needs
@@ -68,10 +71,11 @@ loop-less : tie.Need-loop-less Inv-loop μ-loop
 loop-less c = search needs
 
 loop-again : tie.Need-loop-again Inv-loop μ-loop
-loop-again c = ?
+loop-again c =
+    (search needs, row-next _ _ _ _ _ _ (element-write-runs c) (c .charged-run .ensures) refl (c .before .before .loop .inv .1))
 
 returns : tie.Need-returns Inv-loop μ-loop
-returns c = ?
+returns c = all-tasks _ _ _ _ _ _ (c .before .loop .inv .0) (c .loop-test .left) (c .before .loop .inv .1)
 
 pub put-row-spec : {M : Type 1} → statement M
 put-row-spec =

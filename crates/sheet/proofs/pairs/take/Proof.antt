@@ -1,4 +1,8 @@
+-- `sheet::pairs::take` meets its contract: by the test that refuses, or what is set at the task's place. Assumes nothing.
+use mathlib.Core.Path.{refl}
+use native.Mathlib.Omega.{arith}
 use borrow.Author.Needs.{needs}
+use Rattle.sheet.proofs.Pair.{place-inside, of-pair, told-7, told-8, told-8-past, told-9, told-10, told-0}
 use Rattle.sheet.proofs.pairs.take.Statement.{statement}
 use Rattle.sheet.proofs.pairs.take.Tie as tie
 use Rattle.sheet.proofs.pairs.take.Reads as reads
@@ -7,117 +11,112 @@ use Rattle.plan.proofs.place_of.Reads as place-of-reads
 use Rattle.sheet.proofs.pairs.guest_of.Reads as guest-of-reads
 use Rattle.sheet.proofs.pairs.task_of.Reads as task-of-reads
 
--- src/pairs.rt:50:9
 guest-of-requires : tie.Need-guest-of-requires
 guest-of-requires c κs = search needs
 
--- src/pairs.rt:51:9
 task-of-requires : tie.Need-task-of-requires
 task-of-requires c κs = search needs
 
--- src/pairs.rt:52:9
 place-of-requires : tie.Need-place-of-requires
 place-of-requires c κs = search needs
 
--- src/pairs.rt:54:9
 returns : tie.Need-returns
-returns c = ?
+returns c =
+    let f = c .before in
+    λ p left position usage S ok.
+    of-pair (f .before .before .guest-of .ensures) (f .before .task-of .ensures) (told-7 p left position _ _ _ usage S ok _ _ (f .place-of .ensures) (c .if1 .taken))
 
--- src/pairs.rt:57:9
 returns-2 : tie.Need-returns-2
-returns-2 c = ?
+returns-2 c =
+    let f = c .before .before in
+    λ p left position usage S ok.
+    of-pair (f .before .before .guest-of .ensures) (f .before .task-of .ensures)
+    (told-8 p left position _ _ _ usage S ok _ _ (f .place-of .ensures) (c .before .if1 .left) (c .if2 .taken))
 
--- src/pairs.rt:59:8
 mul-if3 : tie.Need-mul-if3
 mul-if3 c = search needs
 
--- src/pairs.rt:59:8
 element-copy-out-if3 : tie.Need-element-copy-out-if3
 element-copy-out-if3 c = search needs
 
--- src/pairs.rt:60:9
 returns-3 : tie.Need-returns-3
-returns-3 c = ?
+returns-3 c =
+    let f = c .before .before .before .before in
+    λ p left position usage S ok.
+    of-pair (f .before .before .guest-of .ensures) (f .before .task-of .ensures)
+    (told-8-past p left position _ _ _ usage S ok _ _ (f .place-of .ensures) (c .before .before .before .if1 .left) (c .if3 .taken))
 
--- src/pairs.rt:62:14
 mul-at : tie.Need-mul-at
 mul-at c = search needs
 
--- src/pairs.rt:62:23
 cast-at : tie.Need-cast-at
 cast-at c = search needs
 
--- src/pairs.rt:62:14
 add-at : tie.Need-add-at
 add-at c = search needs
 
--- src/pairs.rt:63:12
 mul-if4 : tie.Need-mul-if4
 mul-if4 c = search needs
 
--- src/pairs.rt:63:12
 element-copy-out-if4 : tie.Need-element-copy-out-if4
-element-copy-out-if4 c = ?
+element-copy-out-if4 c = place-inside (c .before .before .before .before .before .before .before .pre) (c .before .before .before .if1 .left) (c .before .before .if2 .left) (c .if3 .left)
 
--- src/pairs.rt:64:9
 returns-4 : tie.Need-returns-4
-returns-4 c = ?
+returns-4 c =
+    let f = c .before .before .before .before .before .before in
+    λ p left position usage S ok.
+    of-pair (f .before .before .guest-of .ensures) (f .before .task-of .ensures)
+    (told-9 p left position _ _ _ usage S ok _ _ (f .place-of .ensures) (c .before .before .before .before .before .if1 .left) (c .before .before .before .before .if2 .left) (c .before .before .if3 .left) (c .if4 .taken))
 
--- src/pairs.rt:66:12
 mul-if5 : tie.Need-mul-if5
 mul-if5 c = search needs
 
--- src/pairs.rt:66:12
 element-copy-out-if5 : tie.Need-element-copy-out-if5
-element-copy-out-if5 c = ?
+element-copy-out-if5 c = place-inside (c .before .before .before .before .before .before .before .before .before .pre) (c .before .before .before .before .before .if1 .left) (c .before .before .before .before .if2 .left) (c .before .before .if3 .left)
 
--- src/pairs.rt:67:9
 returns-5 : tie.Need-returns-5
-returns-5 c = ?
+returns-5 c =
+    let f = c .before .before .before .before .before .before .before .before in
+    λ p left position usage S ok.
+    of-pair (f .before .before .guest-of .ensures) (f .before .task-of .ensures)
+    (told-10 p left position _ _ _ usage S ok _ _ (f .place-of .ensures) (c .before .before .before .before .before .before .before .if1 .left) (c .before .before .before .before .before .before .if2 .left) (c .before .before .before .before .if3 .left) (c .before .before .if4 .left) (c .if5 .taken))
 
--- src/pairs.rt:69:16
 mul-rest : tie.Need-mul-rest
 mul-rest c = search needs
 
--- src/pairs.rt:69:16
 element-copy-out-rest : tie.Need-element-copy-out-rest
-element-copy-out-rest c = ?
+element-copy-out-rest c = place-inside (c .before .before .before .before .before .before .before .before .before .before .before .pre) (c .before .before .before .before .before .before .before .if1 .left) (c .before .before .before .before .before .before .if2 .left) (c .before .before .before .before .if3 .left)
 
--- src/pairs.rt:69:5
 mul-rest-2 : tie.Need-mul-rest-2
 mul-rest-2 c = search needs
 
--- src/pairs.rt:69:5
 element-write-rest : tie.Need-element-write-rest
-element-write-rest c = ?
+element-write-rest c = place-inside (c .before .before .before .before .before .before .before .before .before .before .before .before .pre) (c .before .before .before .before .before .before .before .before .if1 .left) (c .before .before .before .before .before .before .before .if2 .left) (c .before .before .before .before .before .if3 .left)
 
--- src/pairs.rt:70:16
 mul-wait : tie.Need-mul-wait
 mul-wait c = search needs
 
--- src/pairs.rt:70:16
 element-copy-out-wait : tie.Need-element-copy-out-wait
-element-copy-out-wait c = ?
+element-copy-out-wait c = place-inside (c .before .before .before .before .before .before .before .before .before .before .before .before .pre) (c .before .before .before .before .before .before .before .before .if1 .left) (c .before .before .before .before .before .before .before .if2 .left) (c .before .before .before .before .before .if3 .left)
 
--- src/pairs.rt:70:5
 mul-wait-2 : tie.Need-mul-wait-2
 mul-wait-2 c = search needs
 
--- src/pairs.rt:70:5
 element-write-wait : tie.Need-element-write-wait
-element-write-wait c = ?
+element-write-wait c = place-inside (c .before .before .before .before .before .before .before .before .before .before .before .before .before .pre) (c .before .before .before .before .before .before .before .before .before .if1 .left) (c .before .before .before .before .before .before .before .before .if2 .left) (c .before .before .before .before .before .before .if3 .left)
 
--- src/pairs.rt:71:5
 mul-age : tie.Need-mul-age
 mul-age c = search needs
 
--- src/pairs.rt:71:5
 element-write-age : tie.Need-element-write-age
-element-write-age c = ?
+element-write-age c = place-inside (c .before .before .before .before .before .before .before .before .before .before .before .before .before .pre) (c .before .before .before .before .before .before .before .before .before .if1 .left) (c .before .before .before .before .before .before .before .before .if2 .left) (c .before .before .before .before .before .before .if3 .left)
 
--- src/pairs.rt:29:1
 returns-6 : tie.Need-returns-6
-returns-6 c = ?
+returns-6 c =
+    let f = c .before .before .before .before .before .before .before .before .before .before in
+    λ p left position usage S ok.
+    of-pair (f .before .before .guest-of .ensures) (f .before .task-of .ensures)
+    (told-0 p left position _ _ _ usage S ok _ _ (f .place-of .ensures) (c .before .before .before .before .before .before .before .before .before .if1 .left) (c .before .before .before .before .before .before .before .before .if2 .left) (c .before .before .before .before .before .before .if3 .left) (c .before .before .before .before .if4 .left) (element-write-age c) (c .before .before .if5 .left))
 
 pub take-spec : {M : Type 1} → statement M
 take-spec =

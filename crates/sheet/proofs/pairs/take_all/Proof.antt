@@ -1,3 +1,16 @@
+-- `sheet::pairs::take_all` meets its contract: after i turns the first i pairs are released and answered, and the state is still in its ranges. Assumes nothing.
+use mathlib.Core.Path.{_≡_, refl, _∙_}
+use mathlib.Core.Bool.{true}
+use mathlib.Core.List.{List}
+use Prim.Native.Nat.{ℕ, _≤_, _-_}
+use native.Mathlib.Omega.{arith}
+use lib.ListN.{length, length-set}
+use borrow.Author.Needs.{needs}
+use Rattle.plan.specs.declared.Plan.{Plan}
+use Rattle.dispatcher.specs.Valid.{stateOk}
+use Rattle.dispatcher.specs.Lent.{stateOf}
+use Rattle.sheet.specs.Lent.{SheetColumns}
+use Rattle.sheet.proofs.Sheet.{TakenTo, taken-none, ok-meanwhile, taken-next, taken-all}
 use Rattle.sheet.proofs.pairs.take_all.Statement.{statement}
 use Rattle.sheet.proofs.pairs.take_all.Tie as tie
 use Rattle.sheet.proofs.pairs.take_all.Reads as reads
@@ -5,54 +18,59 @@ use Rattle.sheet.proofs.pairs.take_all.Lts as lts
 use Rattle.sheet.proofs.pairs.take.Reads as take-reads
 
 abbrev Inv-loop : tie.InvT-loop
-Inv-loop pairs answers₀ ids tasks runs periods n rest₀ wait₀ age₀ i₀ answers rest wait age i = ?
+Inv-loop pairs answers₀ ids tasks runs periods n rest₀ wait₀ age₀ i₀ answers rest wait age i =
+    ((i ≤ length pairs) × (length answers ≡ length answers₀))
+    × ((p : Plan) (left position usage : List ℕ)
+    → SheetColumns p n ids tasks runs periods
+    → stateOk (stateOf p left position rest₀ wait₀ age₀ usage) ≡ true
+    → TakenTo i (stateOf p left position rest₀ wait₀ age₀ usage) (stateOf p left position rest wait age usage) pairs answers₀ answers)
 
 abbrev μ-loop : tie.MeasureT-loop
-μ-loop pairs answers₀ ids tasks runs periods n rest₀ wait₀ age₀ i₀ answers rest wait age i = ?
+μ-loop pairs answers₀ ids tasks runs periods n rest₀ wait₀ age₀ i₀ answers rest wait age i = length pairs - i
 
--- src/pairs.rt:99:5
 loop-holds : tie.Need-loop-holds Inv-loop μ-loop
-loop-holds c = ?
+loop-holds c = ((search needs, refl), λ p left position usage S ok. taken-none _ _ _)
 
--- src/pairs.rt:100:27
 mul-take : tie.Need-mul-take Inv-loop μ-loop
-mul-take c = ?
+mul-take c = search needs
 
--- src/pairs.rt:100:27
 shared-slice-read-take : tie.Need-shared-slice-read-take Inv-loop μ-loop
-shared-slice-read-take c = ?
+shared-slice-read-take c = search needs
 
--- src/pairs.rt:100:22
 take-requires : tie.Need-take-requires Inv-loop μ-loop
-take-requires c κs = ?
+take-requires c κs = c .before .before .before .before .before .before .before .before .pre .0
 
--- src/pairs.rt:100:9
 mul-answers : tie.Need-mul-answers Inv-loop μ-loop
-mul-answers c = ?
+mul-answers c = search needs
 
--- src/pairs.rt:100:9
 slice-write-answers : tie.Need-slice-write-answers Inv-loop μ-loop
-slice-write-answers c = ?
+slice-write-answers c =
+    let t = c .before .before .before .before .before in
+    omega (arith, t .loop-test .taken, t .before .loop .inv .0 .1, t .before .before .before .before .pre .1)
 
--- src/pairs.rt:101:9
 add-i : tie.Need-add-i Inv-loop μ-loop
-add-i c = ?
+add-i c = search needs
 
--- src/pairs.rt:99:5
 loop-less : tie.Need-loop-less Inv-loop μ-loop
-loop-less c = ?
+loop-less c = search needs
 
--- src/pairs.rt:99:5
 loop-again : tie.Need-loop-again Inv-loop μ-loop
-loop-again c = ?
+loop-again c =
+    let t = c .before .before .before .before .before in
+    let l = t .before .loop in (
+      (search needs, simp length-set (l .inv .0 .1)),
+      λ p left position usage S ok.
+          let T = l .inv .1 p left position usage S ok in
+          taken-next (omega (arith, t .loop-test .taken, t .before .before .before .before .pre .1)) T (c .take .ensures p left position usage S (ok-meanwhile ok T)),
+    )
 
--- src/pairs.rt:76:1
 same-length : tie.Need-same-length Inv-loop μ-loop
-same-length c = ?
+same-length c = c .before .loop .inv .0 .1
 
--- src/pairs.rt:76:1
 returns : tie.Need-returns Inv-loop μ-loop
-returns c = ?
+returns c =
+    let l = c .before .loop in
+    λ p left position usage S ok. taken-all (l .inv .0 .0) (c .loop-test .left) (l .inv .1 p left position usage S ok)
 
 pub take-all-spec : {M : Type 1} → statement M
 take-all-spec =

@@ -1,0 +1,110 @@
+-- How the code comes to the outcome of one pair, case by case, in a state that is in its ranges. Assumes nothing.
+use mathlib.Core.Path.{_≡_, refl, sym, ap, _∙_}
+use mathlib.Core.Bool.{true}
+use mathlib.Core.List.{List}
+use Prim.Native.Nat.{ℕ, _-_, _≤_, _<_}
+use native.Mathlib.Omega.{arith}
+use lib.Dec.{eqb}
+use lib.ListN.{set}
+use Rattle.lists.specs.Places.{nth}
+use Rattle.lists.specs.Search.{firstFrom}
+use Rattle.plan.specs.declared.Plan.{Plan}
+use Rattle.plan.specs.Place.{placeOf}
+use Rattle.plan.specs.Records.{guestAt}
+use Rattle.arrays.specs.Place.{placeAt}
+use Rattle.dispatcher.specs.declared.Dispatcher.{Dispatcher}
+use Rattle.dispatcher.specs.declared.Released.{Released}
+use Rattle.dispatcher.specs.declared.Aim.{Aim}
+use Rattle.dispatcher.specs.Valid.{stateOk}
+use Rattle.dispatcher.specs.Release.{release}
+use Rattle.dispatcher.specs.Lent.{stateOf, Small}
+use Rattle.dispatcher.specs.LentRelease.{AimsAt, Aims}
+use Rattle.sheet.specs.Sheet.{guestOf, taskOf}
+use Rattle.sheet.specs.Lent.{SheetColumns, PairTaken}
+use Rattle.lists.proofs.Search.{first-ext}
+use Rattle.dispatcher.proofs.Release.{release-refused, release-taken, no-task, past-tasks, too-soon, unfinished, takes-it, aims-none, aims-on}
+
+-- Where a release is refused by x.
+abbrev missed : ℕ → Aim
+missed x = record { number = x; at = 0; full = 0; every = 0 }
+
+-- A task's place is one of the 128.
+pub place-inside : {n k task : ℕ} {tasks : List ℕ} → Small n tasks → k < n → 1 ≤ task → task ≤ nth tasks k → placeAt k (task - 1) < 128
+place-inside {n} {k} {task} {tasks} S h o l = omega (arith, S .guests, S .each k h)
+
+-- A release told: its number, and the state after it.
+pub record ReleaseTold (d after : Dispatcher) (id task number : ℕ) : Type 0 where
+  pub answer : number ≡ release d id task .refusal .number
+  pub state : after ≡ release d id task .state
+
+-- A pair's outcome is that of the release which it asks for.
+pub of-pair : {d after : Dispatcher} {pair id task number : ℕ} → id ≡ guestOf pair → task ≡ taskOf pair → ReleaseTold d after id task number → PairTaken d after pair number
+of-pair e f T = record { answer = rw (← e, ← f) (T .answer); state = rw (← e, ← f) (T .state) }
+
+-- A refused release is told by its number, and the state is as it was.
+refused-told : (d : Dispatcher) (id task x : ℕ) → 1 ≤ x → Aims d id task (missed x) → ReleaseTold d d id task x
+refused-told d id task x h a =
+    let e = release-refused d id task a h in
+    record { answer = ap (λ (r : Released). r .refusal .number) e; state = ap (λ (r : Released). r .state) e }
+
+module _ (p : Plan) (left position rest wait age usage : List ℕ) {n : ℕ} {ids tasks runs periods : List ℕ}
+    (S : SheetColumns p n ids tasks runs periods)
+    (ok : stateOk (stateOf p left position rest wait age usage) ≡ true)
+    (id task : ℕ) {k : ℕ} (found : k ≡ firstFrom (λ j. eqb (nth ids j) id) n 0) where
+  -- The place in the column of ids is the plan's.
+  place-here : k ≡ placeOf p id
+  unfolding placeOf
+  place-here = found ∙ rw (S .count) (first-ext _ _ n 0 (λ z l. rw (S .id z (omega arith)) refl))
+
+  -- No such guest.
+  pub told-7 : n ≤ k → ReleaseTold (stateOf p left position rest wait age usage) (stateOf p left position rest wait age usage) id task 7
+  told-7 h =
+      refused-told _ id task 7 (omega arith)
+      (aims-none _ id task (missed 7) ok place-here refl (omega (arith, S .count)))
+
+  module _ (h : k < n) where
+    -- The guest's own refusals.
+    own : {x : ℕ} → 1 ≤ x → AimsAt (guestAt (p .guests) k) k task rest wait (missed x)
+        → ReleaseTold (stateOf p left position rest wait age usage) (stateOf p left position rest wait age usage) id task x
+    own {x} l a =
+        refused-told _ id task x l (aims-on _ id task (missed x) ok place-here (omega (arith, S .count)) a)
+
+    -- No task has number 0.
+    pub told-8 : task < 1 → ReleaseTold (stateOf p left position rest wait age usage) (stateOf p left position rest wait age usage) id task 8
+    told-8 l = own (omega arith) (no-task _ k task rest wait (missed 8) refl l)
+
+    -- The guest has fewer tasks.
+    pub told-8-past : nth tasks k < task → ReleaseTold (stateOf p left position rest wait age usage) (stateOf p left position rest wait age usage) id task 8
+    told-8-past l = own (omega arith) (past-tasks _ k task rest wait (missed 8) refl (omega (arith, S .many k h)))
+
+    module _ (one : 1 ≤ task) (most : task ≤ nth tasks k) where
+      inside : task ≤ guestAt (p .guests) k .tasks
+      inside = omega (arith, S .many k h)
+
+      -- The task's period has not passed.
+      pub told-9 : 0 < nth wait (placeAt k (task - 1)) → ReleaseTold (stateOf p left position rest wait age usage) (stateOf p left position rest wait age usage) id task 9
+      told-9 w = own (omega arith) (too-soon _ k task rest wait (missed 9) one inside refl w)
+
+      module _ (due : nth wait (placeAt k (task - 1)) ≤ 0) where
+        -- Its last job is unfinished.
+        pub told-10 : 0 < nth rest (placeAt k (task - 1)) → ReleaseTold (stateOf p left position rest wait age usage) (stateOf p left position rest wait age usage) id task 10
+        told-10 u = own (omega arith) (unfinished _ k task rest wait (missed 10) one inside due refl u)
+
+        -- It is taken.
+        pub told-0 :
+            placeAt k (task - 1) < 128
+            → nth rest (placeAt k (task - 1)) ≤ 0
+            → ReleaseTold (stateOf p left position rest wait age usage)
+            (stateOf p left position (set rest (placeAt k (task - 1)) (nth runs (placeAt k (task - 1))))
+            (set wait (placeAt k (task - 1)) (nth periods (placeAt k (task - 1))))
+            (set age (placeAt k (task - 1)) 0) usage)
+            id task 0
+        told-0 l free =
+            let at = placeAt k (task - 1) in
+            let r : Aim = record { number = 0; at = at; full = nth runs at; every = nth periods at } in
+            let in-plan : k < p .count = omega (arith, S .count) in
+            let t : task - 1 < guestAt (p .guests) k .tasks = omega (arith, inside) in
+            let a = takes-it (guestAt (p .guests) k) k task rest wait r one inside due refl free
+            record { place = refl; inside = l; run = S .jobs .run k (task - 1) in-plan t; period = S .jobs .period k (task - 1) in-plan t } in
+            let e = release-taken _ id task (aims-on (stateOf p left position rest wait age usage) id task r ok place-here in-plan a) (omega arith) in
+            record { answer = ap (λ (z : Released). z .refusal .number) e; state = ap (λ (z : Released). z .state) e }
