@@ -20,6 +20,8 @@ pub mod Stays
 pub mod Refused
 pub mod Since
 pub mod Clocks
+pub mod Again
+pub mod Settings
 -- The invariants that are kept.
 pub mod Share
 pub mod Accounts
@@ -32,6 +34,8 @@ pub mod Verdict
 -- The promises.
 pub mod Margin
 pub mod Sure
+pub mod ByResponse
+pub mod Above
 pub mod FinishedBy
 pub mod NeverLate
 pub mod NeverTurnedAway

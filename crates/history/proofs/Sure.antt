@@ -34,7 +34,7 @@ use Rattle.verdict_laws.proofs.Guests.{fitted-means}
 use Rattle.history.proofs.Clocks.{sound-start, sound-reached}
 
 -- whole periods and a rest come to a number in one way
-parts-one : (T q k u r : ℕ) → u < T → r < T → q * T + u ≡ k * T + r → (q ≡ k) × (u ≡ r)
+pub parts-one : (T q k u r : ℕ) → u < T → r < T → q * T + u ≡ k * T + r → (q ≡ k) × (u ≡ r)
 parts-one T q k u r hu hr e =
     elim (decLt q k) [
       | yes l ↦ absurd (omega (arith, mul-le-mul-right {m = suc q} {n = k} T l))

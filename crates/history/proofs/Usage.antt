@@ -14,7 +14,6 @@ use Rattle.arrays.specs.Usage.{wrap, idledAt, nobodys, oneMore, tallied}
 use Rattle.dispatcher.specs.declared.Dispatcher.{Dispatcher}
 use Rattle.dispatcher.specs.declared.Answer.{Answer}
 use Rattle.dispatcher.specs.State.{guestIn, restAt}
-use Rattle.dispatcher.specs.Valid.{tasksIn, guestInRange, taskInRange, rowOk, stateOk}
 use Rattle.dispatcher.specs.Tick.{holder, worker, usageAfter, next}
 use Rattle.dispatcher.specs.Answer.{holderId, answer}
 use Rattle.dispatcher.specs.Release.{taken}
@@ -164,10 +163,3 @@ pub usage-adds-up :
     → (cs : List Call)
     → (sumTo (nth (play cs (start p) .usage)) (p .count) + nth (play cs (start p) .usage) nobodys) % wrap ≡ ticksIn cs (start p) % wrap
 usage-adds-up p order cs = usage-counts p order cs .all ∙ ap (λ (n : ℕ). n % wrap) (answers-length cs (start p) (sound-start p order))
-
--- 14 does not look at them.
-pub usage-unseen :
-    (d : Dispatcher) (u : List ℕ)
-    → stateOk (record { plan = d .plan; left = d .left; position = d .position; rest = d .rest; wait = d .wait; age = d .age; usage = u }) ≡ stateOk d
-unfolding stateOk rowOk guestInRange taskInRange tasksIn
-usage-unseen d u = refl
