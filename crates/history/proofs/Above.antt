@@ -18,7 +18,7 @@ use Rattle.verdict_laws.proofs.Guests.{guest-verdict-means}
 use Rattle.verdict_laws.proofs.Tasks.{quoted-means}
 use Rattle.history.proofs.Sure.{sure-of-capacity}
 
--- a guest whose equation has a solution is called fitted
+-- A guest whose equation has a solution is called fitted.
 solved-fitted :
     (p : Plan) (id k x : ℕ)
     → GuestSolves p k x

@@ -1,51 +1,26 @@
 -- A further release of a task: when it is refused by 9, when by 10, and when it is taken. Strategy: the number goes by the wait and the run left, and
 -- the wait is what is left of the period since the last taken release. Assumes nothing.
 use mathlib.Core.Path.{_≡_, refl, sym, ap, subst, _∙_}
-use mathlib.Core.Bool.{true}
 use mathlib.Core.List.{List}
-use Prim.Native.Nat.{ℕ, suc, _-_, _≤_, _<_}
+use Prim.Native.Nat.{ℕ, _-_, _≤_, _<_}
 use native.Mathlib.Decide.{decLt, ℕ-discrete}
 use native.Mathlib.Omega.{arith}
-use borrow.Author.Tests.{lt-ltb, le-leb, eq-eqb, ne-eqb}
 use Rattle.plan.specs.declared.Plan.{Plan}
 use Rattle.plan.specs.Order.{planRefusal}
 use Rattle.plan.specs.Place.{placeOf}
 use Rattle.dispatcher.specs.declared.Dispatcher.{Dispatcher}
-use Rattle.dispatcher.specs.State.{guestIn, restAt, waitAt}
-use Rattle.dispatcher.specs.Valid.{stateOk}
 use Rattle.dispatcher.specs.Release.{releaseNumber, release}
 use Rattle.verdict_laws.specs.Tasks.{TaskThere}
 use Rattle.history.specs.Calls.{Call, releasing, start, play, released, ticksIn, NoneTaken}
 use Rattle.history.specs.Named.{everyBy, restBy, waitBy}
-use Rattle.lists.proofs.All.{and-true}
-use Rattle.lists.proofs.Refusals.{go-on, stop}
-use Rattle.history.proofs.Took.{release-number, free-number, waits-number}
-use Rattle.history.proofs.Play.{Sound, sound-after, sound-play}
-use Rattle.history.proofs.Clocks.{sound-reached, free-task, guest-in, task-in, id-is, wait-since, before-any}
-
--- a task that has run left and does not wait has 10
-left-number :
-    (d : Dispatcher) (id k t : ℕ)
-    → stateOk d ≡ true
-    → placeOf (d .plan) id ≡ k
-    → k < d .plan .count
-    → t < guestIn d k .tasks
-    → waitAt d k t ≡ 0
-    → 0 < restAt d k t
-    → releaseNumber d id (suc t) ≡ 10
-unfolding releaseNumber
-left-number d id k t ok g h l w r =
-    let q : suc t - 1 ≡ t = omega arith in
-    rw (g, q)
-    (go-on 14 _ ok
-    ∙ go-on 7 _ (lt-ltb k (d .plan .count) h)
-    ∙ go-on 8 _ (and-true (le-leb 1 (suc t) (omega arith)) (le-leb (suc t) (guestIn d k .tasks) l))
-    ∙ go-on 9 _ (eq-eqb (waitAt d k t) 0 w)
-    ∙ stop 10 _ (ne-eqb (restAt d k t) 0 (λ e. omega arith)))
+use Rattle.dispatcher_laws.proofs.Release.{release-number, free-number, waits-number, left-number}
+use Rattle.dispatcher_laws.proofs.Sound.{Sound, free-task, guest-in, task-in}
+use Rattle.history.proofs.Play.{sound-after, sound-play}
+use Rattle.history.proofs.Clocks.{sound-reached, id-is, wait-since, before-any}
 
 -- In a state of the plan the number of a release goes by the task's wait and its run left.
 module _ (p : Plan) (id number : ℕ) (T : TaskThere p id number) (d : Dispatcher) (D : Sound p d) where
-  -- it waits
+  -- While the task waits, the number is 9.
   waiting : 0 < waitBy p id number d → release d id number .refusal .number ≡ 9
   waiting h =
       release-number d id number
@@ -53,7 +28,7 @@ module _ (p : Plan) (id number : ℕ) (T : TaskThere p id number) (d : Dispatche
       (waits-number d id (placeOf p id) (number - 1) (D .ok) (ap (λ (z : Plan). placeOf z id) (D .plan))
       (rw (D .plan) (T .there .place)) (rw (D .plan) (T .in-guest)) h)
 
-  -- it does not wait, and has run left
+  -- Where it does not wait and has run left, the number is 10.
   unfinished : waitBy p id number d ≡ 0 → 0 < restBy p id number d → release d id number .refusal .number ≡ 10
   unfinished w r =
       release-number d id number
@@ -61,7 +36,7 @@ module _ (p : Plan) (id number : ℕ) (T : TaskThere p id number) (d : Dispatche
       (left-number d id (placeOf p id) (number - 1) (D .ok) (ap (λ (z : Plan). placeOf z id) (D .plan))
       (rw (D .plan) (T .there .place)) (rw (D .plan) (T .in-guest)) w r)
 
-  -- neither
+  -- Where it does not wait and has none left, the release is taken.
   accepted : waitBy p id number d ≡ 0 → restBy p id number d ≡ 0 → release d id number .refusal .number ≡ 0
   accepted w r =
       release-number d id number
@@ -77,13 +52,14 @@ module _ (p : Plan) (id number : ℕ) (T : TaskThere p id number) (d : Dispatche
         free = r;
       }))
 
--- The number n of a release m ticks after the last one taken, of a task with this period and this run left: 9, 10 or none, and each for its own cause.
+-- The number n of a release m ticks after the last one taken, of a task with this period and this run left: 9, 10 or none, each for its own cause.
+-- Inner: it serves the proofs of this file alone.
 record Again (n period m left : ℕ) : Type 0 where
   pub nine : ((n ≡ 9) → m < period) × ((m < period) → n ≡ 9)
   pub ten : ((n ≡ 10) → (period ≤ m) × (0 < left)) × ((period ≤ m) × (0 < left) → n ≡ 10)
   pub none : ((n ≡ 0) → (period ≤ m) × (left ≡ 0)) × ((period ≤ m) × (left ≡ 0) → n ≡ 0)
 
--- causes that shut each other out are exact
+-- Causes that shut each other out and leave nothing out are exact.
 exact :
     (n period m left : ℕ)
     → (m < period → n ≡ 9)
@@ -116,7 +92,7 @@ exact n period m left a b c =
 module _ (p : Plan) (order : planRefusal p .number ≡ 0) (id number : ℕ) (cs : List Call)
     (taken-it : release (play cs (start p)) id number .refusal .number ≡ 0) (ds : List Call)
     (none : NoneTaken id number ds (released p id number cs)) where
-  -- a task whose release was taken is there
+  -- A task whose release was taken is there.
   there : TaskThere p id number
   there =
       let D = sound-reached p order cs in
@@ -143,7 +119,7 @@ module _ (p : Plan) (order : planRefusal p .number ≡ 0) (id number : ℕ) (cs 
       (λ l r. unfinished p id number there (play ds (released p id number cs)) D (omega (arith, W)) r)
       (λ l r. accepted p id number there (play ds (released p id number cs)) D (omega (arith, W)) r)
 
-  -- 9 exactly while fewer ticks than the task's period were done since the last taken release.
+  -- It is refused by 9 exactly while fewer ticks than the task's period were done since the last taken release.
   pub nine-exactly :
       ((release (play ds (released p id number cs)) id number .refusal .number ≡ 9)
       → ticksIn ds (released p id number cs) < everyBy p id number)
@@ -151,7 +127,7 @@ module _ (p : Plan) (order : planRefusal p .number ≡ 0) (id number : ℕ) (cs 
       → release (play ds (released p id number cs)) id number .refusal .number ≡ 9)
   nine-exactly = again .nine
 
-  -- 10 exactly when its period has passed since, and the job is unfinished.
+  -- It is refused by 10 exactly when its period has passed since, and the job is unfinished.
   pub ten-exactly :
       ((release (play ds (released p id number cs)) id number .refusal .number ≡ 10)
       → (everyBy p id number ≤ ticksIn ds (released p id number cs)) × (0 < restBy p id number (play ds (released p id number cs))))
@@ -159,7 +135,7 @@ module _ (p : Plan) (order : planRefusal p .number ≡ 0) (id number : ℕ) (cs 
       → release (play ds (released p id number cs)) id number .refusal .number ≡ 10)
   ten-exactly = again .ten
 
-  -- Taken exactly otherwise: its period has passed since, and the job is finished.
+  -- It is taken exactly otherwise: its period has passed since, and the job is finished.
   pub taken-exactly :
       ((release (play ds (released p id number cs)) id number .refusal .number ≡ 0)
       → (everyBy p id number ≤ ticksIn ds (released p id number cs)) × (restBy p id number (play ds (released p id number cs)) ≡ 0))

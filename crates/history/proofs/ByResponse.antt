@@ -14,17 +14,17 @@ use Rattle.dispatcher.specs.declared.Answer.{Answer}
 use Rattle.dispatcher.specs.Tick.{next}
 use Rattle.dispatcher.specs.Answer.{answer}
 use Rattle.dispatcher.specs.Release.{taken}
-use Rattle.verdict.specs.declared.GuestVerdict.the-variants as guest
 use Rattle.verdict.specs.Verdict.{guestVerdict}
 use Rattle.verdict_laws.specs.Guests.{GuestSolves}
 use Rattle.windows.specs.GuestTick.{Fitted}
-use Rattle.history.specs.Calls.{Call, start, play, ticksIn, answers}
+use Rattle.history.specs.Calls.{Call, start, ticksIn, answers}
 use Rattle.history.specs.Named.{guestBy}
 use Rattle.history.specs.Share.{names, share}
 use Rattle.plan.proofs.Order.{PlanIn, plan-in}
-use Rattle.history.proofs.Seen.{capOf, perOf, posAt, heldAt}
-use Rattle.history.proofs.Play.{Sound, sound-next, Any, any, play-keeps, answers-length}
-use Rattle.history.proofs.Fresh.{fresh-idle}
+use Rattle.dispatcher_laws.proofs.Seen.{capOf, perOf, posAt, heldAt}
+use Rattle.dispatcher_laws.proofs.Sound.{Sound, sound-next}
+use Rattle.dispatcher_laws.proofs.Fresh.{fresh-idle}
+use Rattle.history.proofs.Play.{Any, any, play-keeps, answers-length}
 use Rattle.verdict_laws.proofs.Ids.{idOf}
 use Rattle.verdict_laws.proofs.Guests.{fitted-means}
 use Rattle.history.proofs.Share.{count-old}
@@ -32,9 +32,10 @@ use Rattle.history.proofs.Capacity.{Shares, shares-next, shares-taken, 
 use Rattle.history.proofs.Quote.{fitted-of}
 use Rattle.history.proofs.Clocks.{sound-start}
 use Rattle.history.proofs.Sure.{parts-one}
+use Rattle.verdict.specs.declared.GuestVerdict.the-variants as guest
 
 module _ (p : Plan) (P : PlanIn p) (g x : ℕ) (in-plan : g < p .count) (F : Fitted (capOf p) (perOf p) g x) where
-  -- at the end of the x-th tick of its k-th period, from 0, it has had its capacity
+  -- At the end of the x-th tick of its k-th period, from 0, the guest has had its capacity.
   at-x :
       (L : List Answer) (d : Dispatcher)
       → Sound p d
@@ -67,7 +68,7 @@ module _ (p : Plan) (P : PlanIn p) (g x : ℕ) (in-plan : g < p .count) (F : Fit
     shares : Shares p g x L d
     had : (k : ℕ) → k * perOf p g + x ≤ length L → share (idOf p g) L (k * perOf p g) x ≡ capOf p g
 
-  -- over a tick
+  -- This stands over a tick.
   by-x-next : (L : List Answer) (d : Dispatcher) → Sound p d → ByX L d → ByX (L ++ (answer d ∷ [])) (next d)
   by-x-next L d D H = record {
     shares = S;
@@ -84,11 +85,11 @@ module _ (p : Plan) (P : PlanIn p) (g x : ℕ) (in-plan : g < p .count) (F : Fit
       longer : length (L ++ (answer d ∷ [])) ≡ suc (length L)
       longer = simp length-append (omega arith)
 
-  -- over a taken release
+  -- This stands over a taken release.
   by-x-taken : (L : List Answer) (d : Dispatcher) (k t : ℕ) → ByX L d → ByX L (taken d k t)
   by-x-taken L d k t H = record { shares = shares-taken p P g x in-plan F L d k t (H .shares); had = H .had }
 
--- over a history
+-- After a history each period whose x-th tick is done has had its capacity by then.
 had-by : (p : Plan) (order : planRefusal p .number ≡ 0) (g x : ℕ) (in-plan : g < p .count) (G : GuestSolves p g x) (cs : List Call) (k : ℕ)
     → k * perOf p g + x ≤ ticksIn cs (start p)
     → share (idOf p g) (answers cs (start p)) (k * perOf p g) x ≡ capOf p g

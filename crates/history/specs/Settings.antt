@@ -3,16 +3,8 @@ use mathlib.Core.Path.{_≡_}
 use mathlib.Core.List.{List, [], _∷_}
 use Prim.Native.Nat.{ℕ}
 use Rattle.dispatcher.specs.declared.Dispatcher.{Dispatcher}
+use Rattle.dispatcher_laws.specs.Usage.{withUsage, SameButUsage}
 use Rattle.history.specs.Calls.{Call, after, ticksOf, answerOf, callNumber}
-
--- The state with these numbers beside it, all else unchanged.
-abbrev pub withUsage : Dispatcher → List ℕ → Dispatcher
-withUsage d u =
-    record { plan = d .plan; left = d .left; position = d .position; rest = d .rest; wait = d .wait; age = d .age; usage = u }
-
--- Two states are the same but for these numbers: with any numbers beside both, they are one state.
-abbrev pub SameButUsage : Dispatcher → Dispatcher → Type 0
-SameButUsage d e = (u : List ℕ) → withUsage d u ≡ withUsage e u
 
 -- A call of two states has one answer, one number, as many ticks, and leaves states that are the same but for these numbers.
 pub record SameOutcome (c : Call) (d e : Dispatcher) : Type 0 where

@@ -15,10 +15,11 @@ use Rattle.verdict_laws.specs.Tasks.{TaskThere}
 use Rattle.dispatcher.specs.declared.Dispatcher.{Dispatcher}
 use Rattle.dispatcher.specs.Release.{release}
 use Rattle.dispatcher.specs.Valid.{stateOk}
+use Rattle.dispatcher_laws.specs.Usage.{withUsage}
 use Rattle.history.specs.Calls.{Call, start, after, play, released, ticksIn, answers, callNumber, NoneTaken}
 use Rattle.history.specs.Named.{everyBy, restBy, waitBy, ageBy}
 use Rattle.history.specs.Runs.{RunIs}
-use Rattle.history.specs.Settings.{withUsage, SameOutcome, Step, handled, callsIn}
+use Rattle.history.specs.Settings.{SameOutcome, Step, handled, callsIn}
 use Rattle.history.specs.Usage.{Accounts}
 use Rattle.history.proofs.Again as again
 use Rattle.history.proofs.Clocks as clocks

@@ -10,10 +10,11 @@ use Rattle.dispatcher.specs.Release.{release}
 use Rattle.dispatcher.specs.State.{restAt}
 use Rattle.planfile_laws.specs.Exact.{_exactlyWhen_}
 use Rattle.verdict.specs.Quoted.{Quoted}
+use Rattle.dispatcher_laws.specs.Usage.{withUsage}
 use Rattle.history.specs.Calls.{Call, running, start, play, released, times, ticksIn, answers, NoneTaken}
 use Rattle.history.specs.Finished.{FinishedBy}
 use Rattle.history.specs.Named.{restBy, ageBy}
-use Rattle.history.specs.Settings.{withUsage, SameOutcome}
+use Rattle.history.specs.Settings.{SameOutcome}
 use Rattle.history.specs.Share.{share}
 use Rattle.worked.specs.Plans.{A, A35, planD}
 use Rattle.verdict.proofs.Quoted.{met-quoted, unmet-quoted}

@@ -14,7 +14,7 @@ use Rattle.capacity.specs.Answer.{smallestCapacity}
 use Rattle.dispatcher.specs.declared.Answer.the-variants.{Finished}
 use Rattle.dispatcher.specs.Release.{release}
 use Rattle.dispatcher.specs.Entries.{run}
-use Rattle.history.specs.Calls.{start, play, released, times}
+use Rattle.history.specs.Calls.{running, start, play, released, times}
 
 -- The list, case by case.
 pub record Numbers : Type 0 where
@@ -54,6 +54,6 @@ pub record Numbers : Type 0 where
   pub gap-again : release (play (times 10) (released planD 7 1 [])) 7 1 .refusal .number ≡ 10
   -- 8: In plan A guest 9's first task is released before tick 0, or before tick 14 instead, and then again after 49 ticks or after 50.
   pub released-at-0 : run (released A 9 1 []) 50 .answer ≡ Finished 9 1 24 (pos 26)
-  pub released-at-14 : run (released A 9 1 (times 14)) 50 .answer ≡ Finished 9 1 30 (pos 20)
-  pub again-after-49 : release (play (times 49) (released A 9 1 (times 14))) 9 1 .refusal .number ≡ 9
-  pub again-after-50 : release (play (times 50) (released A 9 1 (times 14))) 9 1 .refusal .number ≡ 0
+  pub released-at-14 : run (released A 9 1 (running 14 ∷ [])) 50 .answer ≡ Finished 9 1 30 (pos 20)
+  pub again-after-49 : release (play (times 49) (released A 9 1 (running 14 ∷ []))) 9 1 .refusal .number ≡ 9
+  pub again-after-50 : release (play (times 50) (released A 9 1 (running 14 ∷ []))) 9 1 .refusal .number ≡ 0

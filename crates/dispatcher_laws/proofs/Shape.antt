@@ -1,4 +1,4 @@
--- A state keeps its shape over ticks and releases, and a fresh one has it. Assumes nothing.
+-- A state keeps its shape over ticks and releases. Assumes nothing.
 use mathlib.Core.Path.{_≡_, ap, _∙_}
 use Prim.Native.Nat.{ℕ}
 use native.Mathlib.Decide.{decLt}
@@ -11,12 +11,12 @@ use Rattle.dispatcher.specs.Tick.{refilled, holder, worker, ageAfter, waitAfter
 use Rattle.dispatcher.specs.Release.{taken}
 use Rattle.lists.proofs.Places.{upTo-length}
 use Rattle.windows.proofs.GuestTick.{moved-inside}
-use Rattle.history.proofs.Seen.{Shaped}
-use Rattle.history.proofs.Next.{left-hit, left-miss, rest-hit, rest-idle, rest-miss}
-use Rattle.history.proofs.TickSeen.{refilled-long, guest-moved}
+use Rattle.dispatcher_laws.proofs.GuestTick.{refilled-long, guest-moved}
+use Rattle.dispatcher_laws.proofs.Seen.{Shaped}
+use Rattle.dispatcher_laws.proofs.Tick.{left-hit, left-miss, rest-hit, rest-idle, rest-miss}
 
 module _ (d : Dispatcher) (H : Shaped d) where
-  -- the capacities are as many as they were
+  -- The capacities are as many after a tick as before.
   left-long : length (next d .left) ≡ 8
   left-long =
       elim (decLt (holder d) (d .plan .count)) [
@@ -24,7 +24,7 @@ module _ (d : Dispatcher) (H : Shaped d) where
         | no n ↦ ap length (left-miss d (omega arith)) ∙ refilled-long d ∙ H .left-long
       ]
 
-  -- and so are the runs left
+  -- The runs left are as many after a tick as before.
   rest-long : length (next d .rest) ≡ 128
   rest-long =
       elim (decLt (holder d) (d .plan .count)) [
@@ -36,7 +36,7 @@ module _ (d : Dispatcher) (H : Shaped d) where
             ]
       ]
 
-  -- over a tick
+  -- A state keeps its shape over a tick.
   pub shaped-next : Shaped (next d)
   unfolding next positionAfter waitAfter ageAfter
   shaped-next = record {
@@ -50,7 +50,7 @@ module _ (d : Dispatcher) (H : Shaped d) where
     age-long = upTo-length _ 128 (d .age) ∙ H .age-long;
   }
 
-  -- over a taken release
+  -- A state keeps its shape over a taken release.
   pub shaped-taken : (k t : ℕ) → Shaped (taken d k t)
   unfolding taken
   shaped-taken k t = record {

@@ -1,70 +1,42 @@
--- One tick of the flat state, as the guest part and the task part of the windows see it. Assumes nothing.
-use mathlib.Core.Path.{_≡_, refl, ap, sym, subst, _∙_}
+-- One tick of the state, as the task part of the windows sees it. Assumes nothing.
+use mathlib.Core.Path.{_≡_, ap, subst, _∙_}
 use mathlib.Core.List.{List}
 use Prim.Native.Nat.{ℕ, suc, _-_, _+_, _≤_, _<_, min}
 use native.Mathlib.Decide.{decLt, ℕ-discrete}
 use native.Mathlib.Omega.{arith}
 use lib.Dec.{ltb}
-use lib.ListN.{length, set}
+use lib.ListN.{set}
 use lib.Seq.{getD-set-other}
 use Rattle.lists.specs.Places.{nth}
 use Rattle.lists.specs.Search.{firstFrom}
 use Rattle.dispatcher.specs.declared.Dispatcher.{Dispatcher}
 use Rattle.arrays.specs.Place.{placeAt}
 use Rattle.dispatcher.specs.State.{guestIn, restAt, waitAt, ageAt}
-use Rattle.dispatcher.specs.Tick.{refilled, holder, worker, next}
+use Rattle.dispatcher.specs.Tick.{holder, worker, next}
 use Rattle.windows.specs.Served.{ServedFirst}
-use Rattle.windows.specs.GuestTick.{Moved, GuestTick}
 use Rattle.windows.specs.TaskTick.{TaskTick}
-use Rattle.lists.proofs.Places.{upTo-length}
 use Rattle.lists.proofs.Sum.{sum-same}
-use Rattle.windows.proofs.Served.{served-as, served-one, served-le, served-last}
-use Rattle.history.proofs.Seen.{capOf, perOf, posAt, leftAt, heldAt, tasksAt, Shaped}
-use Rattle.history.proofs.First.{first-served}
-use Rattle.history.proofs.Next.{left-hit, left-miss, rest-hit, rest-idle, rest-miss, refilled-at, position-at, wait-falls, age-rises, moved-seen}
+use Rattle.windows.proofs.Served.{served-one, served-le, served-last}
+use Rattle.dispatcher_laws.proofs.Seen.{tasksAt, Shaped}
+use Rattle.dispatcher_laws.proofs.Served.{first-served}
+use Rattle.dispatcher_laws.proofs.Tick.{rest-hit, rest-idle, rest-miss, wait-falls, age-rises}
 
--- refilling makes no list longer
-pub refilled-long : (d : Dispatcher) → length (refilled d) ≡ length (d .left)
-unfolding refilled
-refilled-long d = upTo-length _ (d .plan .count) (d .left)
-
--- the task that has the tick, where guest g has it
+-- The task that has the tick, where guest g has it, is the first of g's with run left.
 worker-of : (d : Dispatcher) (g : ℕ) → holder d ≡ g → worker d ≡ firstFrom (λ t. ltb 0 (restAt d g t)) (guestIn d g .tasks) 0
 unfolding worker
 worker-of d g e = ap (λ (z : ℕ). firstFrom (λ t. ltb 0 (restAt d z t)) (guestIn d z .tasks) 0) e
 
--- The tick of the guests up to g.
-module _ (d : Dispatcher) (H : Shaped d) (g : ℕ) (in-plan : g < d .plan .count) where
-  -- the first guest that holds something has it
-  guest-served : ServedFirst g (holder d) (heldAt d) (leftAt (next d))
-  unfolding holder
-  guest-served =
-      served-as (λ j l. sym (refilled-at d H j (omega arith)))
-      (first-served (refilled d) (next d .left) (λ j. j) (d .plan .count) (holder d) g in-plan refl (left-hit d) (left-miss d)
-      (λ j l. omega (arith, refilled-long d, H .left-long, H .few)) (λ j k e. e))
-
-  -- each of them moves on
-  pub guest-moved : (j : ℕ) → j ≤ g → Moved (capOf (d .plan) j) (perOf (d .plan) j) (posAt d j) (leftAt (next d) j) (posAt (next d) j) (heldAt (next d) j)
-  unfolding next
-  guest-moved j l =
-      moved-seen (capOf (d .plan) j) (perOf (d .plan) j) (posAt d j) (leftAt (next d) j) (posAt (next d) j) (H .places j (omega arith))
-      (position-at d H j (omega arith))
-
-  -- both together
-  pub guest-tick : GuestTick (capOf (d .plan)) (perOf (d .plan)) g (holder d) (heldAt d) (posAt d) (leftAt (next d)) (heldAt (next d)) (posAt (next d))
-  guest-tick = record { served = guest-served; moved = guest-moved }
-
 -- The tick of the tasks of guest g, up to task i.
 module _ (d : Dispatcher) (H : Shaped d) (g i : ℕ) (in-plan : g < d .plan .count) (in-guest : i < guestIn d g .tasks) where
-  -- waits fall
+  -- Waits fall.
   waited : (j : ℕ) → j ≤ i → waitAt (next d) g j ≡ waitAt d g j - 1
   waited j l = wait-falls d H g j (omega (arith, H .few)) (omega (arith, H .tasks g in-plan))
 
-  -- an unfinished job's age rises
+  -- An unfinished job's age rises.
   older : 0 < restAt d g i → ageAt (next d) g i ≡ min (ageAt d g i + 1) 1000000
   older h = age-rises d H g i (omega (arith, H .few)) (omega (arith, H .tasks g in-plan)) h
 
-  -- another guest has it: no run left changes here
+  -- Where another guest has the tick, no run left changes here.
   pub rest-else : (holder d ≡ g → ⊥) → (j : ℕ) → j ≤ i → restAt (next d) g j ≡ restAt d g j
   rest-else n j l =
       elim (decLt (holder d) (d .plan .count)) [
@@ -79,7 +51,7 @@ module _ (d : Dispatcher) (H : Shaped d) (g i : ℕ) (in-plan : g < d .plan .cou
             ]
       ]
 
-  -- the tick of another guest
+  -- The tick of another guest is a tick of the task part that serves none.
   pub task-else : (holder d ≡ g → ⊥) → TaskTick i 0 (tasksAt d g) (tasksAt (next d) g)
   task-else n = record {
     worked = λ h. omega (arith, sum-same (restAt (next d) g) (restAt d g) (suc i) (λ j l. rest-else n j (omega arith)));
@@ -89,7 +61,7 @@ module _ (d : Dispatcher) (H : Shaped d) (g i : ℕ) (in-plan : g < d .plan .cou
     older = older;
   }
 
-  -- this guest has it: its first task with run left loses one
+  -- Where this guest has the tick, its first task with run left loses one.
   pub task-served : holder d ≡ g → ServedFirst i (worker d) (restAt d g) (restAt (next d) g)
   task-served e =
       first-served (d .rest) (next d .rest) (λ j. placeAt g j) (guestIn d g .tasks) (worker d) i in-guest
@@ -99,7 +71,7 @@ module _ (d : Dispatcher) (H : Shaped d) (g i : ℕ) (in-plan : g < d .plan .cou
       (λ l. rest-idle d (rw e l))
       (λ j l. omega (arith, H .few, H .tasks g in-plan, H .rest-long)) (λ j k q. omega arith)
 
-  -- the tick of this guest
+  -- The tick of this guest is a tick of the task part that serves one.
   pub task-mine : holder d ≡ g → TaskTick i 1 (tasksAt d g) (tasksAt (next d) g)
   task-mine e = record {
     worked = served-one (task-served e);
@@ -109,7 +81,7 @@ module _ (d : Dispatcher) (H : Shaped d) (g i : ℕ) (in-plan : g < d .plan .cou
     older = older;
   }
 
-  -- whoever has it
+  -- Whoever has it, the tick is one of the task part's ticks.
   pub task-tick : (a : ℕ) × TaskTick i a (tasksAt d g) (tasksAt (next d) g)
   task-tick =
       elim (ℕ-discrete (holder d) g) [

@@ -12,35 +12,35 @@ use Rattle.dispatcher.specs.declared.Dispatcher.{Dispatcher}
 use Rattle.dispatcher.specs.State.{guestIn, restAt, waitAt, ageAt}
 use Rattle.windows.specs.TaskTick.{Tasks}
 
--- capacity of guest k
+-- the capacity of guest k
 abbrev pub capOf : Plan → ℕ → ℕ
 capOf p k = guestAt (p .guests) k .capacity
 
--- period of guest k
+-- the period of guest k
 abbrev pub perOf : Plan → ℕ → ℕ
 perOf p k = guestAt (p .guests) k .period
 
--- charged run of task j of guest g
+-- the charged run of task j of guest g
 abbrev pub runIn : Plan → ℕ → ℕ → ℕ
 runIn p g j = charged (guestAt (p .guests) g) j
 
--- period of task j of guest g
+-- the period of task j of guest g
 abbrev pub everyIn : Plan → ℕ → ℕ → ℕ
 everyIn p g j = everyOf (guestAt (p .guests) g) j
 
--- position of guest k
+-- the position of guest k
 abbrev pub posAt : Dispatcher → ℕ → ℕ
 posAt d k = nth (d .position) k
 
--- what guest k has left
+-- the capacity left of guest k
 abbrev pub leftAt : Dispatcher → ℕ → ℕ
 leftAt d k = nth (d .left) k
 
--- what guest k holds once those at position 0 are filled
+-- the capacity left of guest k once those at position 0 are filled
 abbrev pub heldAt : Dispatcher → ℕ → ℕ
 heldAt d k = pick (eqb (posAt d k) 0) (guestIn d k .capacity) (leftAt d k)
 
--- the tasks of guest g
+-- the run left, wait and age of each task of guest g
 abbrev pub tasksAt : Dispatcher → ℕ → Tasks
 tasksAt d g = record { rest = restAt d g; wait = waitAt d g; age = ageAt d g }
 

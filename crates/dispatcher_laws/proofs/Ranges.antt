@@ -1,4 +1,4 @@
--- A state in its ranges, part by part, and how a guest's two numbers and a task's three stay in theirs. Assumes nothing.
+-- How a guest's two numbers and a task's three stay in their ranges. Assumes nothing.
 use mathlib.Core.Path.{_≡_, refl}
 use mathlib.Core.Bool.{Bool, true, false, _&&_}
 use Prim.Native.Nat.{ℕ, _≤_, _<_}
@@ -7,37 +7,10 @@ use lib.Dec.{leb, eqb}
 use borrow.Author.Tests.{ltb-true, leb-true, eqb-true, lt-ltb, le-leb, eq-eqb}
 use Rattle.lists.specs.Choice.{pick}
 use Rattle.plan.specs.Ranges.{longest}
-use Rattle.plan.specs.Order.{planRefusal}
-use Rattle.dispatcher.specs.declared.Dispatcher.{Dispatcher}
 use Rattle.arrays.specs.Ranges.{serverOk, noServer, jobOk, noJob}
-use Rattle.dispatcher.specs.Valid.{guestInRange, taskInRange, rowOk, stateOk}
-use Rattle.lists.proofs.All.{and-left, and-right, and-true, all-at, all-by}
+use Rattle.lists.proofs.All.{and-left, and-right, and-true}
 
--- each guest
-pub ok-guest : (d : Dispatcher) → stateOk d ≡ true → (k : ℕ) → k < 8 → guestInRange d k ≡ true
-unfolding stateOk rowOk
-ok-guest d e k h =
-    and-left (guestInRange d k) _ (all-at (rowOk d) 8 k h (and-right (eqb (planRefusal (d .plan) .number) 0) _ e))
-
--- and each task
-pub ok-task : (d : Dispatcher) → stateOk d ≡ true → (k t : ℕ) → k < 8 → t < 16 → taskInRange d k t ≡ true
-unfolding stateOk rowOk
-ok-task d e k t h l =
-    all-at (taskInRange d k) 16 t l (and-right (guestInRange d k) _ (all-at (rowOk d) 8 k h (and-right (eqb (planRefusal (d .plan) .number) 0) _ e)))
-
--- and from the parts the whole
-pub ok-by :
-    (d : Dispatcher)
-    → planRefusal (d .plan) .number ≡ 0
-    → ((k : ℕ) → k < 8 → guestInRange d k ≡ true)
-    → ((k t : ℕ) → k < 8 → t < 16 → taskInRange d k t ≡ true)
-    → stateOk d ≡ true
-unfolding stateOk rowOk
-ok-by d e g t =
-    and-true (eq-eqb _ 0 e)
-    (all-by (rowOk d) 8 (λ k h. and-true (g k h) (all-by (taskInRange d k) 16 (λ j l. t k j h l))))
-
--- by whether it is a guest
+-- A guest's two numbers stay in their ranges if they do for a guest, and stay 0 past the guests.
 pub server-by :
     (b : Bool) (c t l p l' p' : ℕ)
     → (b ≡ true → l ≤ c → p < t → (l' ≤ c) × (p' < t))
@@ -52,16 +25,16 @@ server-by false c t l p l' p' in-it past e =
     and-true (eq-eqb l' 0 (r .0)) (eq-eqb p' 0 (r .1))
 
 -- what a task's three numbers are within
-pub record JobIn (full every rest wait age : ℕ) : Type 0 where
+pub record JobWithin (full every rest wait age : ℕ) : Type 0 where
   pub work : rest ≤ full
   pub due : wait ≤ every
   pub old : age ≤ 1000000
 
--- by whether it is a task
+-- A task's three numbers stay in their ranges if they do for a task, and stay 0 past the tasks.
 pub job-by :
     (b : Bool) (full every r w a r' w' a' : ℕ)
-    → (b ≡ true → JobIn full every r w a → JobIn full every r' w' a')
-    → (b ≡ false → JobIn 0 0 r w a → a ≡ 0 → JobIn 0 0 r' w' 0 × (a' ≡ 0))
+    → (b ≡ true → JobWithin full every r w a → JobWithin full every r' w' a')
+    → (b ≡ false → JobWithin 0 0 r w a → a ≡ 0 → JobWithin 0 0 r' w' 0 × (a' ≡ 0))
     → pick b (jobOk full every r w a) (noJob r w a) ≡ true
     → pick b (jobOk full every r' w' a') (noJob r' w' a') ≡ true
 job-by true full every r w a r' w' a' in-it past e =
