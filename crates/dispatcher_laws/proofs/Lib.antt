@@ -16,3 +16,4 @@ pub mod Sound
 pub mod Fresh
 -- The calls, refused or not.
 pub mod Entries
+pub mod Usage

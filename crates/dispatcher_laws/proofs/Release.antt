@@ -103,6 +103,26 @@ waits-number d id k t ok g h l w =
     ∙ go-on 8 _ (and-true (le-leb 1 (suc t) (omega arith)) (le-leb (suc t) (guestIn d k .tasks) l))
     ∙ stop 9 _ (ne-eqb (waitAt d k t) 0 (λ e. omega arith)))
 
+-- A task that does not wait and has run left is refused by 10.
+pub left-number :
+    (d : Dispatcher) (id k t : ℕ)
+    → stateOk d ≡ true
+    → placeOf (d .plan) id ≡ k
+    → k < d .plan .count
+    → t < guestIn d k .tasks
+    → waitAt d k t ≡ 0
+    → 0 < restAt d k t
+    → releaseNumber d id (suc t) ≡ 10
+unfolding releaseNumber
+left-number d id k t ok g h l w r =
+    let q : suc t - 1 ≡ t = omega arith in
+    rw (g, q)
+    (go-on 14 _ ok
+    ∙ go-on 7 _ (lt-ltb k (d .plan .count) h)
+    ∙ go-on 8 _ (and-true (le-leb 1 (suc t) (omega arith)) (le-leb (suc t) (guestIn d k .tasks) l))
+    ∙ go-on 9 _ (eq-eqb (waitAt d k t) 0 w)
+    ∙ stop 10 _ (ne-eqb (restAt d k t) 0 (λ e. omega arith)))
+
 -- From the state d to the outcome r: the release is refused, or task t of guest k is released.
 pub data Took (d : Dispatcher) (id task : ℕ) (r : Released) : Type 0 where
   kept : (r .refusal .number ≡ 0 → ⊥) → r .state ≡ d → Took d id task r

@@ -225,11 +225,3 @@ module _ (d : Dispatcher) (k t : ℕ) (in-plan : k < d .plan .count) (in-guest :
                 rw (a, b) (task-new (rw (a, b) at (ok-task d e g j h l))))
             | no n ↦ task-other g j n (ok-task d e g j h l)
           ]
-
--- ---- where the ticks went
--- 14 does not look at where the ticks went.
-pub usage-unseen :
-    (d : Dispatcher) (u : List ℕ)
-    → stateOk (record { plan = d .plan; left = d .left; position = d .position; rest = d .rest; wait = d .wait; age = d .age; usage = u }) ≡ stateOk d
-unfolding stateOk rowOk guestInRange taskInRange tasksIn
-usage-unseen d u = refl

@@ -8,6 +8,8 @@ pub mod Stays
 pub mod Refused
 pub mod Since
 pub mod Clocks
+pub mod Again
+pub mod Settings
 -- The invariants that are kept.
 pub mod Share
 pub mod Answered
@@ -20,6 +22,8 @@ pub mod InTime
 pub mod Verdict
 -- The promises.
 pub mod Sure
+pub mod ByResponse
+pub mod Above
 pub mod FinishedBy
 pub mod NeverLate
 pub mod NeverTurnedAway

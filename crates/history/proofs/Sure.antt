@@ -35,7 +35,7 @@ use Rattle.dispatcher_laws.proofs.Seen.{capOf, perOf, posAt, leftAt, heldAt}
 use Rattle.dispatcher_laws.proofs.Sound.{Sound}
 
 -- Whole periods and a rest come to a number in one way.
-parts-one : (T q k u r : ℕ) → u < T → r < T → q * T + u ≡ k * T + r → (q ≡ k) × (u ≡ r)
+pub parts-one : (T q k u r : ℕ) → u < T → r < T → q * T + u ≡ k * T + r → (q ≡ k) × (u ≡ r)
 parts-one T q k u r hu hr e =
     elim (decLt q k) [
       | yes l ↦ absurd (omega (arith, mul-le-mul-right {m = suc q} {n = k} T l))
