@@ -153,7 +153,7 @@ unfolding releaseNumber
 release-14 d id task e = stop 14 _ e
 
 -- A number that no test refuses by is not the first refusal.
-other-number :
+pub other-number :
     (b : Bool) (n : ℕ) (ts : List Test) (x : ℕ)
     → (n ≡ x → ⊥)
     → (refusal ts ≡ x → ⊥)

@@ -65,7 +65,7 @@ module _ (d e : Dispatcher) (S : SameButUsage d e) where
   one-value f same = sym (same d) ∙ ap f (S []) ∙ same e
 
   -- Both are refused as 14, or neither is.
-  ok-one : stateOk d ≡ stateOk e
+  pub ok-one : stateOk d ≡ stateOk e
   ok-one = one-value stateOk (λ c. ok-unseen c [])
 
   -- A tick of both has one answer.

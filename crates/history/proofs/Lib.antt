@@ -3,6 +3,7 @@
 -- Histories: single ticks, runs, and what every history keeps.
 pub mod Ticks
 pub mod Play
+pub mod Sheets
 pub mod Told
 pub mod Stays
 pub mod Refused
@@ -27,3 +28,4 @@ pub mod Above
 pub mod FinishedBy
 pub mod NeverLate
 pub mod NeverTurnedAway
+pub mod Pairs

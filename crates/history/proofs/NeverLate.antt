@@ -15,7 +15,7 @@ use Rattle.verdict.specs.Quoted.{Quoted}
 use Rattle.history.specs.Calls.{Call, start, after, play, singles, ticksOf, answerOf}
 use Rattle.history.specs.Named.{deadlineBy}
 use Rattle.plan.proofs.Order.{PlanIn}
-use Rattle.history.proofs.Play.{Any, after-keeps}
+use Rattle.history.proofs.Play.{Any, any-call, after-keeps}
 use Rattle.verdict_laws.proofs.Ids.{idOf}
 use Rattle.history.proofs.InTime.{TimelyIn, timely-next, timely-release}
 use Rattle.history.proofs.Told.{told-last}
@@ -42,7 +42,7 @@ module _ (p : Plan) (id number R : ℕ) (quoted : Quoted p id number R) (cs : Li
       (after c (play cs (start p)))
   timely =
       after-keeps p (TimelyIn p P (J .fits)) Any (timely-next p P (J .fits))
-      (λ L e id' task k t D a F I. timely-release p P (J .fits) L e id' task k t D F I) c [] (play cs (start p)) tt
+      (λ L e id' task k t D a F I. timely-release p P (J .fits) L e id' task k t D F I) c [] (play cs (start p)) (any-call c (play cs (start p)))
       record {
         sound = sound-reached p (J .task .there .order) cs;
         holds = record { kept = kept-reached p id number R quoted cs; timely = λ m age margin q. none age margin q };

@@ -2,7 +2,7 @@
 use mathlib.Core.Path.{_≡_, refl, sym, ap, _∙_}
 use mathlib.Core.Bool.{true}
 use mathlib.Core.List.{List, [], _∷_, _++_, append-assoc, append-nil}
-use Prim.Native.Nat.{ℕ, zero, suc}
+use Prim.Native.Nat.{ℕ, zero, suc, _≤_, _<_}
 use native.Mathlib.Omega.{arith}
 use lib.ListN.{length, length-append}
 use Rattle.plan.specs.declared.Plan.{Plan}
@@ -13,7 +13,10 @@ use Rattle.dispatcher.specs.Tick.{next}
 use Rattle.dispatcher.specs.Answer.{answer}
 use Rattle.dispatcher.specs.Run.{ticks}
 use Rattle.dispatcher.specs.Release.{taken, release}
-use Rattle.history.specs.Calls.{Call, releasing, ticking, running, after, play, singles, ticksOf, ticksIn, answers, Throughout}
+use Rattle.lists.specs.Places.{nth}
+use Rattle.sheet.specs.Sheet.{guestOf, taskOf, stateAfter, sheet}
+use Rattle.sheet.proofs.Entry.{Sheeted, whole, each, sheet-sheeted}
+use Rattle.history.specs.Calls.{Call, releasing, ticking, running, sheeting, after, play, singles, ticksOf, ticksIn, answers, EachRelease, Throughout}
 use Rattle.history.proofs.Ticks.{tick-one, singles-next, singles-none, singles-length, run-state}
 use Rattle.dispatcher_laws.proofs.Entries.{tick-state}
 use Rattle.dispatcher_laws.proofs.Release.{Free, Took, release-took, kept, took}
@@ -34,13 +37,18 @@ releasing-none : (id task : ℕ) (d : Dispatcher) → singles (ticksOf (releasin
 unfolding ticksOf
 releasing-none id task d = singles-none d
 
+-- A sheet does no tick.
+sheeting-none : (pairs : List ℕ) (room : ℕ) (d : Dispatcher) → singles (ticksOf (sheeting pairs room) d) d ≡ []
+unfolding ticksOf
+sheeting-none pairs room d = singles-none d
+
 -- Something that goes by the answers so far and the state.
-module _ (p : Plan) (I : List Answer → Dispatcher → Type 0) (Allowed : Call → Dispatcher → Type 0)
+module _ (p : Plan) (I : List Answer → Dispatcher → Type 0) (Allowed : (id task : ℕ) → Dispatcher → Type 0)
     (on-tick : (L : List Answer) (d : Dispatcher) → Sound p d → I L d → I (L ++ (answer d ∷ [])) (next d))
     (on-taken :
     (L : List Answer) (d : Dispatcher) (id task k t : ℕ)
     → Sound p d
-    → Allowed (releasing id task) d
+    → Allowed id task d
     → Free d id task k t
     → I L d
     → I L (taken d k t)) where
@@ -60,7 +68,7 @@ module _ (p : Plan) (I : List Answer → Dispatcher → Type 0) (Allowed : Call 
   -- It stands over a release.
   took-keeps :
       (id task : ℕ) (L : List Answer) (d : Dispatcher)
-      → Allowed (releasing id task) d
+      → Allowed id task d
       → Stands L d
       → Took d id task (release d id task)
       → Stands L (release d id task .state)
@@ -68,13 +76,44 @@ module _ (p : Plan) (I : List Answer → Dispatcher → Type 0) (Allowed : Call 
   took-keeps id task L d a S (took k t F e) =
       rw e record { sound = sound-taken d id task k t (S .sound) F; holds = on-taken L d id task k t (S .sound) a F (S .holds) }
 
+  -- It stands over the first n pairs of a sheet.
+  pairs-keep :
+      (pairs : List ℕ) (L : List Answer) (d : Dispatcher)
+      → ((i : ℕ) → i < length pairs → Allowed (guestOf (nth pairs i)) (taskOf (nth pairs i)) (stateAfter d pairs i))
+      → Stands L d
+      → (n : ℕ)
+      → n ≤ length pairs
+      → Stands L (stateAfter d pairs n)
+  unfolding stateAfter
+  pairs-keep pairs L d a S zero h = S
+  pairs-keep pairs L d a S (suc n) h =
+      took-keeps (guestOf (nth pairs n)) (taskOf (nth pairs n)) L (stateAfter d pairs n) (a n (omega arith)) (pairs-keep pairs L d a S n (omega arith))
+      (release-took (stateAfter d pairs n) (guestOf (nth pairs n)) (taskOf (nth pairs n)))
+
+  -- It stands over a sheet.
+  sheet-keeps :
+      (pairs : List ℕ) (room : ℕ) (L : List Answer) (d : Dispatcher)
+      → EachRelease Allowed (sheeting pairs room) d
+      → Stands L d
+      → Sheeted d pairs (sheet d pairs room)
+      → Stands L (sheet d pairs room .state)
+  unfolding EachRelease
+  sheet-keeps pairs room L d a S (whole n e) = rw e S
+  sheet-keeps pairs room L d a S (each n e) = rw e (pairs-keep pairs L d (a n) S (length pairs) (omega arith))
+
   -- It stands over any call.
-  pub after-keeps : (c : Call) (L : List Answer) (d : Dispatcher) → Allowed c d → Stands L d → Stands (L ++ singles (ticksOf c d) d) (after c d)
-  unfolding after
+  pub after-keeps :
+      (c : Call) (L : List Answer) (d : Dispatcher)
+      → EachRelease Allowed c d
+      → Stands L d
+      → Stands (L ++ singles (ticksOf c d) d) (after c d)
+  unfolding after EachRelease
   after-keeps (releasing id task) L d a S =
       rw (releasing-none id task d, append-nil L) (took-keeps id task L d a S (release-took d id task))
   after-keeps ticking L d a S = rw (ticking-done d (S .sound .ok)) (ticks-keep (ticksOf ticking d) L d S)
   after-keeps (running n) L d a S = rw (running-done n d (S .sound .ok)) (ticks-keep (ticksOf (running n) d) L d S)
+  after-keeps (sheeting pairs room) L d a S =
+      rw (sheeting-none pairs room d, append-nil L) (sheet-keeps pairs room L d a S (sheet-sheeted d pairs room))
 
   -- It stands over any history.
   pub play-keeps : (cs : List Call) (L : List Answer) (d : Dispatcher) → Throughout Allowed cs d → Stands L d → Stands (L ++ answers cs d) (play cs d)
@@ -84,15 +123,23 @@ module _ (p : Plan) (I : List Answer → Dispatcher → Type 0) (Allowed : Call 
       rw (← append-assoc L (singles (ticksOf c d) d) (answers cs (after c d)))
       (play-keeps cs (L ++ singles (ticksOf c d) d) (after c d) (a .1) (after-keeps c L d (a .0) S))
 
--- nothing is asked of the calls
-abbrev pub Any : Call → Dispatcher → Type 0
-Any c d = Unit {0}
+-- Nothing is asked of the releases.
+abbrev pub Any : (id task : ℕ) → Dispatcher → Type 0
+Any id task d = Unit {0}
+
+-- Where nothing is asked, any call will do.
+pub any-call : (c : Call) (d : Dispatcher) → EachRelease Any c d
+unfolding EachRelease
+any-call (releasing id task) d = tt
+any-call ticking d = tt
+any-call (running n) d = tt
+any-call (sheeting pairs room) d = λ e i h. tt
 
 -- Where nothing is asked, any history will do.
 pub any : (cs : List Call) (d : Dispatcher) → Throughout Any cs d
 unfolding Throughout
 any [] d = tt
-any (c ∷ cs) d = (tt, any cs (after c d))
+any (c ∷ cs) d = (any-call c d, any cs (after c d))
 
 -- A state of the plan stays one over any history.
 pub sound-play : {p : Plan} (cs : List Call) (d : Dispatcher) → Sound p d → Sound p (play cs d)

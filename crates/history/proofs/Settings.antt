@@ -5,9 +5,10 @@ use Prim.Native.Nat.{ℕ}
 use lib.ListN.{length}
 use Rattle.dispatcher.specs.declared.Dispatcher.{Dispatcher}
 use Rattle.dispatcher_laws.specs.Usage.{withUsage, SameButUsage}
-use Rattle.history.specs.Calls.{Call, releasing, ticking, running, after, play, listed, ticksOf, answerOf, callNumber}
+use Rattle.history.specs.Calls.{Call, releasing, ticking, running, sheeting, after, play, listed, ticksOf, answerOf, callNumber}
 use Rattle.history.specs.Settings.{SameOutcome, Step, calling, setting, handled, callsIn}
 use Rattle.dispatcher_laws.proofs.Usage.{release-one, tick-one, run-one}
+use Rattle.sheet.proofs.Entry.{sheet-number-same, sheet-one}
 
 -- States that are the same but for these numbers.
 module _ (d e : Dispatcher) (S : SameButUsage d e) where
@@ -17,6 +18,7 @@ module _ (d e : Dispatcher) (S : SameButUsage d e) where
   answer-same (releasing id task) = refl
   answer-same ticking = tick-one d e S .answer-same
   answer-same (running n) = run-one d e S n .answer-same
+  answer-same (sheeting pairs room) = refl
 
   -- The number that a call is refused by is the same.
   number-same : (c : Call) → callNumber c d ≡ callNumber c e
@@ -24,6 +26,7 @@ module _ (d e : Dispatcher) (S : SameButUsage d e) where
   number-same (releasing id task) = ap (λ r. r .number) (release-one d e S id task .refusal-same)
   number-same ticking = ap (λ r. r .number) (tick-one d e S .refusal-same)
   number-same (running n) = ap (λ r. r .number) (run-one d e S n .refusal-same)
+  number-same (sheeting pairs room) = sheet-number-same d e S pairs room
 
   -- A call does as many ticks.
   ticks-same : (c : Call) → ticksOf c d ≡ ticksOf c e
@@ -31,6 +34,7 @@ module _ (d e : Dispatcher) (S : SameButUsage d e) where
   ticks-same (releasing id task) = refl
   ticks-same ticking = ap (λ a. length (listed a)) (tick-one d e S .answer-same)
   ticks-same (running n) = run-one d e S n .done-same
+  ticks-same (sheeting pairs room) = refl
 
   -- The states after a call are the same but for these numbers.
   after-same : (c : Call) → SameButUsage (after c d) (after c e)
@@ -38,6 +42,7 @@ module _ (d e : Dispatcher) (S : SameButUsage d e) where
   after-same (releasing id task) = release-one d e S id task .state-same
   after-same ticking = tick-one d e S .state-same
   after-same (running n) = run-one d e S n .state-same
+  after-same (sheeting pairs room) = sheet-one d e S pairs room
 
   -- A call of states that are the same but for these numbers comes to the same but for them.
   pub same-outcome : (c : Call) → SameOutcome c d e

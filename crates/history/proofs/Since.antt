@@ -38,11 +38,10 @@ module _ (p : Plan) (g i : ℕ) (in-plan : g < p .count) (in-guest : i < guestAt
   elsewhere :
       (d : Dispatcher) (id task k t : ℕ)
       → Sound p d
-      → (Takes (releasing id task) d (idOf p g) (suc i) → ⊥)
+      → (Takes id task d (idOf p g) (suc i) → ⊥)
       → Free d id task k t
       → placeAt g i ≡ placeAt k t
       → ⊥
-  unfolding Takes
   elsewhere d id task k t D n F e =
       let few : guestIn d k .tasks ≤ 16 = D .shaped .tasks k (F .in-plan) in
       let ours : guestIn d g .tasks ≤ 16 = D .shaped .tasks g (rw (D .plan) in-plan) in
@@ -98,7 +97,7 @@ module _ (p : Plan) (g i : ℕ) (in-plan : g < p .count) (in-guest : i < guestAt
       → Since p g i (m + ticksIn ds d) (play ds d)
   since-play ds m d D none S =
       subst (λ (z : ℕ). Since p g i (m + z) (play ds d)) (answers-length ds d D)
-      (play-keeps p (λ L e. Since p g i (m + length L) e) (λ c e. Takes c e (idOf p g) (suc i) → ⊥)
+      (play-keeps p (λ L e. Since p g i (m + length L) e) (λ a b e. Takes a b e (idOf p g) (suc i) → ⊥)
       (λ L e E I. subst (λ (z : ℕ). Since p g i z (next e)) (one-more m L (answer e)) (since-next (m + length L) e E I))
       (λ L e id task k t E n F I. since-else (m + length L) e k t E (F .in-plan) (F .in-guest) (elsewhere e id task k t E n F) I)
       ds [] d none (record { sound = D; holds = subst (λ (z : ℕ). Since p g i z d) (let q : m ≡ m + 0 = omega arith in q) S })
@@ -127,7 +126,7 @@ module _ (p : Plan) (g i : ℕ) (in-plan : g < p .count) (in-guest : i < guestAt
   -- Over a history in which no release of the task is taken, it has no job and no wait.
   pub never-play : (ds : List Call) (d : Dispatcher) → Sound p d → NoneTaken (idOf p g) (suc i) ds d → Never g i d → Never g i (play ds d)
   never-play ds d D none N =
-      play-keeps p (λ L e. Never g i e) (λ c e. Takes c e (idOf p g) (suc i) → ⊥) (λ L e E I. never-next e E I)
+      play-keeps p (λ L e. Never g i e) (λ a b e. Takes a b e (idOf p g) (suc i) → ⊥) (λ L e E I. never-next e E I)
       (λ L e id task k t E n F I. never-else e k t E (F .in-plan) (F .in-guest) (elsewhere e id task k t E n F) I)
       ds [] d none (record { sound = D; holds = N })
       .holds

@@ -15,7 +15,7 @@ use Rattle.dispatcher.specs.Tick.{next}
 use Rattle.dispatcher.specs.Run.{ticks}
 use Rattle.dispatcher.specs.Release.{release}
 use Rattle.dispatcher.specs.Entries.{run}
-use Rattle.history.specs.Calls.{Call, releasing, ticking, running, start, after, play, times, ticksOf, callNumber}
+use Rattle.history.specs.Calls.{Call, releasing, ticking, running, sheeting, start, after, play, times, ticksOf, callNumber}
 use Rattle.history.specs.Runs.{RunIs}
 use Rattle.history.proofs.Ticks.{singles-length, run-by}
 use Rattle.history.proofs.Play.{ticking-done, running-done}
@@ -23,6 +23,7 @@ use Rattle.dispatcher_laws.proofs.Entries.{tick-state, tick-fine, run-13}
 use Rattle.dispatcher_laws.proofs.Fresh.{fresh-idle, sound-idle}
 use Rattle.dispatcher_laws.proofs.Release.{release-number, release-took, not-number, ok-took}
 use Rattle.dispatcher_laws.proofs.Valid.{ok-next, ok-ticks}
+use Rattle.sheet.proofs.Entry.{sheet-ok, sheet-not-14}
 
 -- A state in its ranges stays so over any call.
 pub stays : (c : Call) (d : Dispatcher) → stateOk d ≡ true → stateOk (after c d) ≡ true
@@ -30,6 +31,7 @@ unfolding after
 stays (releasing id task) d ok = ok-took d id task (release d id task) ok (release-took d id task)
 stays ticking d ok = rw (ticking-done d ok) (ok-ticks (ticksOf ticking d) d ok)
 stays (running n) d ok = rw (running-done n d ok) (ok-ticks (ticksOf (running n) d) d ok)
+stays (sheeting pairs room) d ok = sheet-ok d pairs room ok
 
 -- A state in its ranges stays so over any history.
 pub stays-played : (cs : List Call) (d : Dispatcher) → stateOk d ≡ true → stateOk (play cs d) ≡ true
@@ -42,6 +44,7 @@ pub not-14 : (c : Call) (d : Dispatcher) → stateOk d ≡ true → callNumber c
 unfolding callNumber
 not-14 (releasing id task) d ok e = not-number d id task ok (sym (release-number d id task) ∙ e)
 not-14 ticking d ok e = omega (arith, tick-fine d ok)
+not-14 (sheeting pairs room) d ok e = sheet-not-14 d pairs room ok e
 not-14 (running n) d ok e =
     elim (decLe n 1000000) [
       | yes h ↦ omega (arith, run-by n d ok h .fine)

@@ -14,7 +14,7 @@ use Rattle.dispatcher.specs.declared.Ran.{Ran}
 use Rattle.dispatcher.specs.Valid.{stateOk}
 use Rattle.dispatcher.specs.Answer.{answer, finishes}
 use Rattle.dispatcher.specs.Entries.{run}
-use Rattle.history.specs.Calls.{Call, releasing, ticking, running, after, play, singles, ticksOf, ticksIn, answers, answerOf}
+use Rattle.history.specs.Calls.{Call, releasing, ticking, running, sheeting, after, play, singles, ticksOf, ticksIn, answers, answerOf}
 use Rattle.history.specs.Share.{answerAt}
 use Rattle.history.specs.Finished.{Told}
 use Rattle.history.proofs.Ticks.{tick-one, singles-next, RunBy, run-by}
@@ -32,6 +32,7 @@ pub finish-last :
     → (ticksOf c d ≡ suc m) × (answerOf c d ≡ answerAt (singles (ticksOf c d) d) m)
 unfolding ticksOf answerOf
 finish-last (releasing id task) d m ok h e = absurd (omega arith)
+finish-last (sheeting pairs room) d m ok h e = absurd (omega arith)
 finish-last ticking d m ok h e =
     let one = tick-one d ok in
     let z : m ≡ 0 = omega arith in
@@ -87,6 +88,7 @@ pub told-last :
     → (m : ℕ) × (m < ticksOf c d) × (answerAt (singles (ticksOf c d) d) m ≡ answerOf c d)
 unfolding ticksOf answerOf finishes
 told-last (releasing id task) d ok e = absurd (false≢true e)
+told-last (sheeting pairs room) d ok e = absurd (false≢true e)
 told-last ticking d ok e =
     let one = tick-one d ok in
     (0, omega arith, rw (one, singles-next 0 d ok) (sym (tick-answer d ok)))

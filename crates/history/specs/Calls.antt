@@ -1,7 +1,7 @@
--- Histories of calls: releases, ticks and runs in any order, with any arguments, refused or not.
+-- Histories of calls: releases, sheets of them, ticks and runs in any order, with any arguments, refused or not.
 use mathlib.Core.Path.{_≡_}
 use mathlib.Core.List.{List, [], _∷_, _++_}
-use Prim.Native.Nat.{ℕ, zero, suc, _+_}
+use Prim.Native.Nat.{ℕ, zero, suc, _+_, _<_}
 use lib.ListN.{length}
 use Rattle.plan.specs.declared.Plan.{Plan}
 use Rattle.dispatcher.specs.declared.Dispatcher.{Dispatcher}
@@ -10,6 +10,8 @@ use Rattle.dispatcher.specs.declared.Answer.the-variants.{Silent, Nobody, Idled
 use Rattle.dispatcher.specs.Fresh.{fresh}
 use Rattle.dispatcher.specs.Release.{release}
 use Rattle.dispatcher.specs.Entries.{tick, run}
+use Rattle.lists.specs.Places.{nth}
+use Rattle.sheet.specs.Sheet.{guestOf, taskOf, stateAfter, sheet}
 
 -- the fresh dispatcher of a plan's records
 abbrev pub start : Plan → Dispatcher
@@ -20,12 +22,14 @@ pub data Call : Type 0 where
   releasing : (guest task : ℕ) → Call
   ticking : Call
   running : (budget : ℕ) → Call
+  sheeting : (pairs : List ℕ) (room : ℕ) → Call
 
 -- the state after a call
 unfoldable pub after : Call → Dispatcher → Dispatcher
 after (releasing guest task) d = release d guest task .state
 after ticking d = tick d .state
 after (running n) d = run d n .state
+after (sheeting pairs room) d = sheet d pairs room .state
 
 -- the state after a history of calls
 unfoldable pub play : List Call → Dispatcher → Dispatcher
@@ -59,6 +63,7 @@ unfoldable pub ticksOf : Call → Dispatcher → ℕ
 ticksOf (releasing guest task) d = 0
 ticksOf ticking d = length (listed (tick d .answer))
 ticksOf (running n) d = run d n .done
+ticksOf (sheeting pairs room) d = 0
 
 -- how many ticks a history does
 unfoldable pub ticksIn : List Call → Dispatcher → ℕ
@@ -75,24 +80,36 @@ unfoldable pub answerOf : Call → Dispatcher → Answer
 answerOf (releasing guest task) d = Silent
 answerOf ticking d = tick d .answer
 answerOf (running n) d = run d n .answer
+answerOf (sheeting pairs room) d = Silent
 
 -- the number that a call is refused by, 0 where it is not
 unfoldable pub callNumber : Call → Dispatcher → ℕ
 callNumber (releasing guest task) d = release d guest task .refusal .number
 callNumber ticking d = tick d .refusal .number
 callNumber (running n) d = run d n .refusal .number
+callNumber (sheeting pairs room) d = sheet d pairs room .refusal .number
 
--- the call is a release of that task, and it is taken
-unfoldable pub Takes : Call → Dispatcher → (guest task : ℕ) → Type 0
-Takes (releasing g t) d guest task = (g ≡ guest) × ((t ≡ task) × (release d g t .refusal .number ≡ 0))
-Takes ticking d guest task = ⊥
-Takes (running n) d guest task = ⊥
+-- Something holds of each release of a call and the state that it meets: of the release, or of each pair of a sheet, in order. A sheet that is refused
+-- whole holds none.
+unfoldable pub EachRelease : ((guest task : ℕ) → Dispatcher → Type 0) → Call → Dispatcher → Type 0
+EachRelease P (releasing guest task) d = P guest task d
+EachRelease P ticking d = Unit {0}
+EachRelease P (running n) d = Unit {0}
+EachRelease P (sheeting pairs room) d =
+    sheet d pairs room .refusal .number ≡ 0
+    → (i : ℕ)
+    → i < length pairs
+    → P (guestOf (nth pairs i)) (taskOf (nth pairs i)) (stateAfter d pairs i)
 
--- something holds of each call of a history and the state that it meets
-unfoldable pub Throughout : (Call → Dispatcher → Type 0) → List Call → Dispatcher → Type 0
+-- Something holds of each release of a history and the state that it meets.
+unfoldable pub Throughout : ((guest task : ℕ) → Dispatcher → Type 0) → List Call → Dispatcher → Type 0
 Throughout P [] d = Unit {0}
-Throughout P (c ∷ cs) d = P c d × Throughout P cs (after c d)
+Throughout P (c ∷ cs) d = EachRelease P c d × Throughout P cs (after c d)
 
--- no release of that task is taken in the history
+-- A release is one of that task, and it is taken.
+abbrev pub Takes : (g t : ℕ) → Dispatcher → (guest task : ℕ) → Type 0
+Takes g t d guest task = (g ≡ guest) × ((t ≡ task) × (release d g t .refusal .number ≡ 0))
+
+-- No release of that task is taken in the history.
 abbrev pub NoneTaken : (guest task : ℕ) → List Call → Dispatcher → Type 0
-NoneTaken guest task = Throughout (λ c d. Takes c d guest task → ⊥)
+NoneTaken guest task = Throughout (λ g t d. Takes g t d guest task → ⊥)

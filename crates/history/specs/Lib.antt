@@ -1,4 +1,5 @@
 pub mod Calls
+pub mod Sheets
 pub mod Named
 pub mod Share
 pub mod Runs

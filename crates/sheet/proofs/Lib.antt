@@ -3,3 +3,5 @@ pub mod Rows
 pub mod Pair
 pub mod Sheet
 pub mod Whole
+pub mod Entry
+pub mod Promises
