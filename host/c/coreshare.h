@@ -1,7 +1,7 @@
 /* The core-sharing library's C interface, for x86-64. Link libcoreshare.a, which `rt staticlib coreshare` writes.
  *
  * On one core, up to 8 guests share the time, each with up to 16 tasks. Every rule stands in document 01,
- * as the requests P1 to P4 of document 02 change it.
+ * as the requests P1 to P5 of document 02 change it.
  *
  * - Records and states cross by value, and bytes are lent for the call alone: the library keeps no pointer and
  *   no state of its own, so calls from several threads need no lock.
@@ -166,6 +166,21 @@ CsStart cs_fresh(CsPlan plan);
  * Refusals: 14 a state outside its ranges (usage has none), 7 no such guest, 8 no such task, 9 before its period
  * has passed, 10 while its last job is unfinished. */
 CsReleased cs_release(CsDispatcher dispatcher, uint32_t id, uint32_t task);
+
+/* A pair of a sheet: a guest's id and a task's number from 1, which is below 65,536. */
+#define CS_PAIR(id, task) (((uint64_t)(id) << 16) + (uint16_t)(task))
+
+/* The most pairs of a sheet. */
+#define CS_MOST_PAIRS 256
+
+/* Releases many tasks in one call: pair i is guest id * 65536 + task number; answer i is 0 for taken, or the refusal's
+ * number. The pairs are released one by one in order, each into the state that those before it left. Answers are
+ * written for the pairs alone: places past their count stay as they were. The two lists must not overlap.
+ * Refusals of a pair, in its answer alone: 7 no such guest (a guest part beyond 32 bits names none), 8 no such task,
+ * 9 before its period has passed, 10 while its last job is unfinished.
+ * Refusals of the whole sheet, with no pair released, no answer written and place 0: 14 a state outside its ranges
+ * (usage has none), 15 more than 256 pairs, 12 fewer answer places (room) than pairs (count). */
+CsReleased cs_sheet(CsDispatcher dispatcher, const uint64_t *pairs, size_t count, uint32_t *answers, size_t room);
 
 /* One tick.
  * Refusal: 14 a state outside its ranges (usage has none). */

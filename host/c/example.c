@@ -1,5 +1,5 @@
 /* Plan A of document 01 from C: its blocks written, read and judged, and its dispatcher run until a job finishes;
- * last, where the ticks went.
+ * then where the ticks went, and last a sheet of releases.
  * From this folder: cc -O2 example.c ../../target/staticlib/libcoreshare.a -o example */
 #include "coreshare.h"
 
@@ -70,6 +70,18 @@ static void print_usage(const CsDispatcher *dispatcher) {
     printf("nobody had %" PRIu64 "\n", dispatcher->usage[CS_NOBODYS]);
 }
 
+/* Task 2 of guest 9 is due, but not twice; task 1 was released too lately; there is no guest 8. */
+static int release_a_sheet(const CsDispatcher *dispatcher) {
+    uint64_t pairs[] = {CS_PAIR(9, 2), CS_PAIR(9, 2), CS_PAIR(9, 1), CS_PAIR(8, 1)};
+    uint32_t answers[4];
+    CsReleased released = cs_sheet(*dispatcher, pairs, 4, answers, 4);
+    if (refused("sheet", released.refusal)) {
+        return 1;
+    }
+    printf("sheet answered %u %u %u %u\n", answers[0], answers[1], answers[2], answers[3]);
+    return 0;
+}
+
 static int run_until_finished(const CsPlan *plan) {
     CsStart start = cs_fresh(*plan);
     if (refused("start", start.refusal)) {
@@ -86,7 +98,7 @@ static int run_until_finished(const CsPlan *plan) {
     printf("after %u ticks guest %u finished task %u: age %u, margin %d\n", run.done, run.answer.guest, run.answer.task,
            run.answer.age, run.answer.margin);
     print_usage(&run.dispatcher);
-    return 0;
+    return release_a_sheet(&run.dispatcher);
 }
 
 int main(void) {

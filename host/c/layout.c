@@ -1,7 +1,8 @@
-/* Prints the size, the alignment and each field's offset of every struct, as a C compiler lays them out.
+/* Prints the size, the alignment and each field's offset of every struct, as a C compiler lays them out, and some pairs.
  * The wrapper's layout test prints the same from Rust and compares. */
 #include "coreshare.h"
 
+#include <inttypes.h>
 #include <stdio.h>
 
 #define STRUCT(name) printf(#name " size %zu align %zu\n", sizeof(name), _Alignof(name))
@@ -66,8 +67,14 @@ static void dispatcher(void) {
     FIELD(CsRun, dispatcher);
 }
 
+static void pairs(void) {
+    printf("pair %" PRIu64 "\n", CS_PAIR(9, 2));
+    printf("pair %" PRIu64 "\n", CS_PAIR(UINT32_MAX, UINT16_MAX));
+}
+
 int main(void) {
     records();
     dispatcher();
+    pairs();
     return 0;
 }

@@ -1,10 +1,15 @@
 //! What is measured: the same call on the same input, of the library, of plain Rust behind the same
 //! interface, and of plain Rust by reference and in place.
 
+mod dispatcher;
+mod sheets;
+
 use crate::inputs;
 use coreshare::exports as ours;
+use dispatcher::{release, run, tick};
 use plain::exports as same;
 use plain::verdict::TaskVerdict;
+use sheets::{sheet, singles};
 use std::hint::black_box;
 
 /// A call to be made again and again; what it gives shows that all sides do the same.
@@ -54,6 +59,9 @@ pub fn all() -> Vec<Case> {
         ),
         capacity("capacity-none", inputs::no_capacity(), 4, Err(11)),
         release("release-full", inputs::endless()),
+        singles("release-256-single", inputs::twice()),
+        sheet("sheet-256", inputs::twice()),
+        sheet("sheet-16", inputs::last_guests()),
         tick("tick-plan-a", inputs::plan_a()),
         tick("tick-full", inputs::endless()),
         run("run-million-plan-a-idle", inputs::plan_a(), false),
@@ -178,88 +186,5 @@ fn capacity(name: &'static str, bytes: Vec<u8>, id: u32, found: Result<u32, u32>
         move || u64::from(ours::smallest_capacity(black_box(&product), id).ticks),
         move || u64::from(same::smallest_capacity(*black_box(&plain), id).ticks),
         move || u64::from(black_box(&plain).smallest_capacity(id).unwrap_or(0)),
-    )
-}
-
-/// A fresh state of each side, with a job of every task if asked for.
-fn states(bytes: &[u8], busy: bool) -> (coreshare::Dispatcher, plain::Dispatcher) {
-    let (ours, plain) = plans(bytes);
-    let mut ours = coreshare::Dispatcher::fresh(&ours).expect("a start");
-    let mut plain = plain::Dispatcher::fresh(&plain).expect("a start");
-    for guest in plain.plan.listed().to_vec() {
-        for task in (1..=guest.tasks).filter(|_| busy) {
-            ours.release(guest.id, task).expect("taken");
-            plain.release(guest.id, task).expect("taken");
-        }
-    }
-    (ours, plain)
-}
-
-/// A release into a fresh state each time; in place, the job is taken back.
-fn release(name: &'static str, bytes: Vec<u8>) -> Case {
-    let (product, plain) = states(&bytes, false);
-    let mut placed = plain;
-    case(
-        name,
-        DISPATCHER,
-        move || {
-            let next = ours::release(black_box(&product), 8, 16).dispatcher;
-            u64::from(next.rest[127])
-        },
-        move || {
-            let next = same::release(*black_box(&plain), 8, 16).dispatcher;
-            u64::from(next.rest[127])
-        },
-        move || {
-            let state = black_box(&mut placed);
-            state.release(8, 16).expect("taken");
-            let rest = std::mem::take(&mut state.rest[127]);
-            state.wait[127] = 0;
-            u64::from(rest)
-        },
-    )
-}
-
-/// One tick after another.
-fn tick(name: &'static str, bytes: Vec<u8>) -> Case {
-    let (mut product, mut plain) = states(&bytes, true);
-    let mut placed = plain;
-    case(
-        name,
-        DISPATCHER,
-        move || {
-            product = ours::tick(black_box(&product)).dispatcher;
-            u64::from(product.position[0])
-        },
-        move || {
-            plain = same::tick(*black_box(&plain)).dispatcher;
-            u64::from(plain.position[0])
-        },
-        move || {
-            black_box(&mut placed).tick().expect("in range");
-            u64::from(placed.position[0])
-        },
-    )
-}
-
-/// 1,000,000 ticks that finish no job: in place, a loop that checks nothing.
-fn run(name: &'static str, bytes: Vec<u8>, busy: bool) -> Case {
-    let (product, plain) = states(&bytes, busy);
-    case(
-        name,
-        DISPATCHER,
-        move || {
-            let outcome = ours::run(black_box(&product), 1_000_000);
-            u64::from(outcome.done + outcome.dispatcher.position[0])
-        },
-        move || {
-            let outcome = same::run(*black_box(&plain), 1_000_000);
-            u64::from(outcome.done + outcome.dispatcher.position[0])
-        },
-        move || {
-            let mut next = *black_box(&plain);
-            let (done, _) = next.unchecked(1_000_000);
-            u64::from(done + next.position[0])
-        },
     )
 }

@@ -1,5 +1,6 @@
-//! The plans that are measured, as blocks: each side reads them by its own reader.
+//! The plans that are measured, as blocks: each side reads them by its own reader. Beside them the sheets.
 
+use coreshare::pair;
 use plain::Guest;
 use plain::block::{BLOCK, write};
 
@@ -100,6 +101,17 @@ pub fn endless() -> Vec<u8> {
         guest.charge = 65_535;
     }
     blocks(&guests)
+}
+
+/// The pairs of all tasks of a full plan, and then the same again.
+pub fn twice() -> Vec<u64> {
+    let once = (1..=8).flat_map(|id| (1..=16).map(move |task| pair(id, task)));
+    once.clone().chain(once).collect()
+}
+
+/// The pairs of the last guest's tasks.
+pub fn last_guests() -> Vec<u64> {
+    (1..=16).map(|task| pair(8, task)).collect()
 }
 
 fn full(task: impl Fn(u32, u32) -> [u32; 3]) -> Vec<u8> {

@@ -6,7 +6,7 @@ use reference::plan::{Guest, Plan, Read, Refusal};
 use reference::verdict::Verdict;
 
 /// The exports' names, in the order of [`Call`].
-pub const EXPORTS: [&str; 12] = [
+pub const EXPORTS: [&str; 13] = [
     "cs_read",
     "cs_check",
     "cs_write",
@@ -17,6 +17,7 @@ pub const EXPORTS: [&str; 12] = [
     "cs_smallest_capacity",
     "cs_fresh",
     "cs_release",
+    "cs_sheet",
     "cs_tick",
     "cs_run",
 ];
@@ -33,11 +34,12 @@ pub enum Call {
     SmallestCapacity(Box<Plan>, u32),
     Fresh(Box<Plan>),
     Release(Box<Dispatcher>, u32, u32),
+    Sheet(Box<Dispatcher>, Vec<u64>, Vec<u32>),
     Tick(Box<Dispatcher>),
     Run(Box<Dispatcher>, u32),
 }
 
-/// All that a call gives back: the answer, the next state, and every lent byte that it may write.
+/// All that a call gives back: the answer, the next state, and every lent byte and answer place that it may write.
 #[derive(Clone, Debug, PartialEq)]
 pub enum Outcome {
     Read(Box<Read>),
@@ -46,6 +48,7 @@ pub enum Outcome {
     Verdict(Verdict),
     Start(Box<Start>),
     Released(Box<Released>),
+    Sheet(Box<Released>, Vec<u32>),
     Ticked(Box<Ticked>),
     Run(Box<Run>),
 }
@@ -64,8 +67,9 @@ impl Call {
             Call::SmallestCapacity(..) => 7,
             Call::Fresh(..) => 8,
             Call::Release(..) => 9,
-            Call::Tick(..) => 10,
-            Call::Run(..) => 11,
+            Call::Sheet(..) => 10,
+            Call::Tick(..) => 11,
+            Call::Run(..) => 12,
         }
     }
 
@@ -88,8 +92,21 @@ impl Call {
             Call::Release(state, id, task) => {
                 Outcome::Released((side.release)(state, *id, *task).into())
             }
+            Call::Sheet(state, pairs, answers) => answered(side, state, pairs, answers),
             Call::Tick(state) => Outcome::Ticked((side.tick)(state).into()),
             Call::Run(state, ticks) => Outcome::Run((side.run)(state, *ticks).into()),
+        }
+    }
+
+    /// The answers to the pairs of a sheet that is not refused whole.
+    pub fn answers<'a>(&self, outcome: &'a Outcome) -> &'a [u32] {
+        match (self, outcome) {
+            (Call::Sheet(_, pairs, _), Outcome::Sheet(next, answers))
+                if next.refusal.number == 0 =>
+            {
+                &answers[..pairs.len()]
+            }
+            _ => &[],
         }
     }
 }
@@ -100,6 +117,16 @@ fn written(side: &Side, guest: &Guest, place: u32, buffer: &[u8]) -> Outcome {
     Outcome::Written(refusal, lent)
 }
 
+/// Places behind the lent answers that no call may write.
+const GUARDS: [u32; 4] = [0xA5A5_A5A5; 4];
+
+/// The answer places are a part of a longer list, and the whole list is kept.
+fn answered(side: &Side, state: &Dispatcher, pairs: &[u64], answers: &[u32]) -> Outcome {
+    let mut kept = [answers, &GUARDS].concat();
+    let outcome = (side.sheet)(state, pairs, &mut kept[..answers.len()]);
+    Outcome::Sheet(outcome.into(), kept)
+}
+
 impl Outcome {
     /// The refusal's number, 0 for none.
     pub fn number(&self) -> u32 {
@@ -108,7 +135,7 @@ impl Outcome {
             Outcome::Refusal(refusal) | Outcome::Written(refusal, _) => refusal.number,
             Outcome::Verdict(verdict) => verdict.number,
             Outcome::Start(outcome) => outcome.refusal.number,
-            Outcome::Released(outcome) => outcome.refusal.number,
+            Outcome::Released(outcome) | Outcome::Sheet(outcome, _) => outcome.refusal.number,
             Outcome::Ticked(outcome) => outcome.refusal.number,
             Outcome::Run(outcome) => outcome.refusal.number,
         }
@@ -128,7 +155,7 @@ impl Outcome {
     pub fn state(&self) -> Option<&Dispatcher> {
         match self {
             Outcome::Start(outcome) => Some(&outcome.dispatcher),
-            Outcome::Released(outcome) => Some(&outcome.dispatcher),
+            Outcome::Released(outcome) | Outcome::Sheet(outcome, _) => Some(&outcome.dispatcher),
             Outcome::Ticked(outcome) => Some(&outcome.dispatcher),
             Outcome::Run(outcome) => Some(&outcome.dispatcher),
             _ => None,

@@ -3,9 +3,9 @@
 use crate::call::Call;
 use crate::random_calls::every_verdict;
 use crate::session::Session;
-use reference::dispatcher::{COUNTED, Dispatcher};
+use reference::dispatcher::{COUNTED, Dispatcher, pair};
 use reference::plan::{BLOCK, Guest, LONGEST_PLAN, Plan, blocks_of, seal};
-use reference::samples::{falling, long_gap, plan_a, unfit_above};
+use reference::samples::{falling, full, long_gap, plan_a, unfit_above};
 
 pub fn compare(session: &mut Session) {
     for plan in [plan_a(), falling(), long_gap(), unfit_above()] {
@@ -21,6 +21,7 @@ pub fn compare(session: &mut Session) {
     products_that_wrap(session);
     states_of_one_guest(session);
     states_of_two_guests(session);
+    sheets_of_all_lengths(session);
 }
 
 /// Every length from nothing to more than a plan, of zeros and of plan A's first bytes.
@@ -217,5 +218,30 @@ fn every_call(session: &mut Session, state: &Dispatcher) {
     }
     for (id, task) in [(0, 1), (1, 0), (1, 1), (1, 2), (2, 1)] {
         session.compare(Call::Release(Box::new(*state), id, task));
+    }
+    let pairs = [pair(1, 1), pair(2, 1), pair(1, 2), pair(1, 1) + (1 << 48)];
+    for first in pairs {
+        for second in pairs {
+            let answers = vec![0xA5A5_A5A5; 3];
+            session.compare(Call::Sheet(Box::new(*state), vec![first, second], answers));
+        }
+    }
+}
+
+/// The tasks of a full plan again and again: every number of pairs up to more than a sheet holds, with
+/// one answer place too few, just enough, and one more.
+fn sheets_of_all_lengths(session: &mut Session) {
+    let state = Dispatcher::with(full());
+    let once = (1..=8).flat_map(|id| (1..=16).map(move |task| pair(id, task)));
+    let pairs: Vec<u64> = once.collect::<Vec<u64>>().repeat(3);
+    for count in 0..=260_usize {
+        for room in [0, count.saturating_sub(1), count, count + 1] {
+            let answers = vec![0xA5A5_A5A5; room];
+            session.compare(Call::Sheet(
+                Box::new(state),
+                pairs[..count].to_vec(),
+                answers,
+            ));
+        }
     }
 }

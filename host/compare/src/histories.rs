@@ -4,6 +4,7 @@ use crate::call::Call;
 use crate::plans::{self, FULL, SMALL, TINY, some_id, some_task};
 use crate::random_calls::any_calls;
 use crate::session::Session;
+use crate::sheets;
 use crate::states;
 use reference::dispatcher::Dispatcher;
 
@@ -32,7 +33,7 @@ pub fn history(session: &mut Session) {
 fn step(session: &mut Session, state: &Dispatcher) -> Call {
     let random = &mut session.random;
     let state = Box::new(*state);
-    match random.below(10) {
+    match random.below(11) {
         0..=3 => Call::Tick(state),
         4 => Call::Run(state, random.from(0, 3)),
         5 => {
@@ -43,6 +44,7 @@ fn step(session: &mut Session, state: &Dispatcher) -> Call {
             };
             Call::Run(state, ticks)
         }
+        6 => sheets::sheet(random, &state),
         _ => {
             let id = some_id(random, &state.plan);
             let task = some_task(random, &state.plan, id);

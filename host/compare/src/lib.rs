@@ -12,6 +12,7 @@ mod promise;
 mod random;
 mod random_calls;
 pub mod session;
+mod sheets;
 mod show;
 mod shrink;
 pub mod side;

@@ -2,7 +2,7 @@
 
 use crate::call::Call;
 use crate::session::Session;
-use reference::dispatcher::{Dispatcher, place_of};
+use reference::dispatcher::{Dispatcher, pair, place_of};
 use reference::plan::{BLOCK, Guest, Plan, blocks_of, seal};
 use reference::samples::plan_a;
 
@@ -166,6 +166,19 @@ fn states(session: &mut Session) {
         }
         for (id, task) in [(9, 1), (9, 2), (9, 3), (9, 0), (8, 0), (7, 1)] {
             session.compare(Call::Release(Box::new(state), id, task));
+        }
+        sheets(session, &state);
+    }
+}
+
+/// Sheets with nothing wrong, with too many pairs, with too few answer places, and with both.
+fn sheets(session: &mut Session, state: &Dispatcher) {
+    let few = [(9, 1), (9, 1), (9, 2), (8, 1), (9, 3), (7, 1)].map(|(id, task)| pair(id, task));
+    let many = few.repeat(43);
+    for pairs in [&[], &few[..1], &few, &many[..256], &many[..257]] {
+        for room in [0, 1, 5, 6, 255, 256, 257, 260] {
+            let answers = vec![0xA5A5_A5A5; room];
+            session.compare(Call::Sheet(Box::new(*state), pairs.to_vec(), answers));
         }
     }
 }

@@ -17,6 +17,7 @@ pub const PRODUCT: Side = Side {
     smallest_capacity: |plan, id| verdict(exports::smallest_capacity(&plan_in(plan), id)),
     fresh: |plan| start(exports::fresh(&plan_in(plan))),
     release: |state, id, task| released(exports::release(&state_in(state), id, task)),
+    sheet: |state, pairs, answers| released(exports::sheet(&state_in(state), pairs, answers)),
     tick: |state| ticked(exports::tick(&state_in(state))),
     run: |state, ticks| run(exports::run(&state_in(state), ticks)),
 };

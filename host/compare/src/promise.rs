@@ -1,14 +1,20 @@
 //! The promise to a tenant, from outside: in every history a quoted task finishes by its response,
-//! and no release of it that is due is refused. The numbers beside the state are held to the history too.
+//! and no release of it that is due is refused, whether it comes alone or in a sheet. The numbers beside
+//! the state are held to the history too.
 
 mod play;
+mod script;
+
+#[cfg(test)]
+mod tests;
 
 use crate::plans::{self, SMALL, TINY};
 use crate::session::Session;
 use crate::show;
 use crate::side::Side;
-use play::{Quoted, Script, Seen, play};
-use reference::plan::{Guest, Plan};
+use play::{Quoted, Seen, play};
+use reference::plan::Plan;
+use script::{Script, fewest, script};
 
 /// One plan with quoted tasks, and some histories against it.
 pub fn histories(session: &mut Session) {
@@ -45,67 +51,12 @@ fn quoted(side: &Side, plan: &Plan) -> Vec<Quoted> {
     all
 }
 
-/// Releases that hurt: the tasks of a guest begin together, mostly just after it used up its capacity,
-/// and then come as soon as they are due, or at random.
-fn script(session: &mut Session, plan: &Plan) -> Script {
-    let longest = plan.listed().iter().map(longest_period).max();
-    let horizon = (6 * longest.unwrap_or(1)).clamp(40, 400);
-    let used_up = used_up(&session.subject, plan, horizon / 3);
-    let random = &mut session.random;
-    let seldom = random.pick(&[1, 1, 1, 2, 5]);
-    let mut script = vec![Vec::new(); horizon as usize];
-    for (guest, own) in plan.listed().iter().enumerate() {
-        let begin = match random.below(5) {
-            0 => random.from(0, horizon / 3),
-            _ => random.pick(&used_up[guest]),
-        };
-        for task in own.places() {
-            let aside = if random.once_in(4) {
-                random.from(0, own.period)
-            } else {
-                0
-            };
-            let begin = (begin + aside) as usize;
-            for releases in script.iter_mut().skip(begin) {
-                if random.once_in(seldom) {
-                    releases.push((guest, task));
-                }
-            }
-        }
-    }
-    script
-}
-
-/// The longest period of a guest's tasks.
-fn longest_period(guest: &Guest) -> u32 {
-    guest.every[guest.places()]
-        .iter()
-        .copied()
-        .max()
-        .unwrap_or(1)
-}
-
-/// For each guest the times up to a horizon at which it has just used up its capacity, and 0.
-fn used_up(side: &Side, plan: &Plan, horizon: u32) -> Vec<Vec<u32>> {
-    let mut used_up = vec![vec![0]; plan.listed().len()];
-    let mut state = (side.fresh)(plan).dispatcher;
-    for time in 0..horizon {
-        let ticked = (side.tick)(&state);
-        state = ticked.dispatcher;
-        for (guest, times) in used_up.iter_mut().enumerate() {
-            let had_it = ticked.answer.guest == plan.guests[guest].id;
-            if had_it && state.left[guest] == 0 {
-                times.push(time + 1);
-            }
-        }
-    }
-    used_up
-}
-
 fn note(session: &mut Session, seen: &Seen) {
     session.note("promise: histories", true);
     session.note_many("promise: quoted jobs", seen.finished);
     session.count("promise: of them took R", seen.at_the_response);
+    session.count("promise: sheets", seen.sheets);
+    session.count("promise: refused whole", seen.refused_whole);
 }
 
 /// Prints the first history that breaks the promise, with as few releases as still do.
@@ -113,23 +64,16 @@ fn broken(session: &mut Session, plan: &Plan, quoted: &[Quoted], script: Script)
     if !session.note("promise: histories", false) {
         return;
     }
-    let mut fewest = script;
-    for time in (0..fewest.len()).rev() {
-        for at in (0..fewest[time].len()).rev() {
-            let mut fewer = fewest.clone();
-            fewer[time].remove(at);
-            if play(&session.subject, plan, quoted, &fewer).is_err() {
-                fewest = fewer;
-            }
-        }
-    }
+    let script = fewest(script, |fewer| {
+        play(&session.subject, plan, quoted, fewer).is_err()
+    });
     println!("BROKEN PROMISE: {}", show::plan(plan));
-    for (time, releases) in fewest.iter().enumerate() {
-        if !releases.is_empty() {
-            println!("  before tick {time}: releases of guest and task, from 0: {releases:?}");
+    for (time, tries) in script.iter().enumerate() {
+        for tried in tries {
+            println!("  before tick {time}: {tried}");
         }
     }
-    if let Err(how) = play(&session.subject, plan, quoted, &fewest) {
+    if let Err(how) = play(&session.subject, plan, quoted, &script) {
         println!("  {how}");
     }
 }

@@ -4,6 +4,7 @@ use crate::blocks;
 use crate::call::Call;
 use crate::plans::{self, FULL, LARGE, MEDIUM, SMALL, Size, TINY, some_id, some_task};
 use crate::session::Session;
+use crate::sheets;
 use crate::states;
 use reference::dispatcher::Dispatcher;
 use reference::plan::{MOST_GUESTS, Plan, blocks_of};
@@ -129,13 +130,15 @@ fn state_calls(session: &mut Session) {
     any_calls(session, &state, ticks);
 }
 
-/// A tick, a run and a release of one state.
+/// A tick, a run, a release and a sheet of one state.
 pub fn any_calls(session: &mut Session, state: &Dispatcher, ticks: u32) {
     let id = some_id(&mut session.random, &state.plan);
     let task = some_task(&mut session.random, &state.plan, id);
     session.compare(Call::Tick(Box::new(*state)));
     session.compare(Call::Run(Box::new(*state), ticks));
     session.compare(Call::Release(Box::new(*state), id, task));
+    let sheet = sheets::sheet(&mut session.random, state);
+    session.compare(sheet);
 }
 
 /// A plan with numbers up to the largest: the reference takes its time here.

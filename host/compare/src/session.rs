@@ -6,8 +6,11 @@ use crate::show;
 use crate::shrink::shrink;
 use crate::side::{REFERENCE, Side};
 
-/// The numbers of document 01's refusals, and 0 for none.
-const NUMBERS: usize = 15;
+/// The numbers of document 01's refusals and document 02's as far as it has landed, and 0 for none.
+const NUMBERS: usize = 16;
+
+/// The numbers that a pair of a sheet is answered by.
+const ANSWERS: [usize; 5] = [0, 7, 8, 9, 10];
 
 /// Verdicts, and kinds of answers, and 0 for none.
 const KINDS: usize = 5;
@@ -20,6 +23,8 @@ pub struct Session {
     seen: [[u64; NUMBERS]; EXPORTS.len()],
     kinds: [[u64; KINDS]; EXPORTS.len()],
     different: [u64; EXPORTS.len()],
+    /// How often a pair of a sheet was answered by each number.
+    answers: [u64; NUMBERS],
     /// Checks that are not one call: their name, how often they held, how often not.
     others: Vec<(&'static str, u64, u64)>,
     /// What else is worth knowing; it is printed, and counts neither as passed nor as failed.
@@ -35,6 +40,7 @@ impl Session {
             seen: [[0; NUMBERS]; EXPORTS.len()],
             kinds: [[0; KINDS]; EXPORTS.len()],
             different: [0; EXPORTS.len()],
+            answers: [0; NUMBERS],
             others: Vec::new(),
             facts: Vec::new(),
         }
@@ -47,6 +53,9 @@ impl Session {
         if call.on(&self.subject) == expected {
             self.seen[export][expected.number() as usize] += 1;
             self.kinds[export][expected.kind() as usize] += 1;
+            for answer in call.answers(&expected) {
+                self.answers[*answer as usize] += 1;
+            }
         } else {
             self.different[export] += 1;
             if self.different[export] == 1 {
@@ -72,6 +81,13 @@ impl Session {
     /// Notes that a check held some number of times.
     pub(crate) fn note_many(&mut self, name: &'static str, times: u64) {
         self.other(name).1 += times;
+    }
+
+    /// Whether a check that is not one call held each time.
+    #[cfg(test)]
+    pub(crate) fn held(&self, name: &str) -> bool {
+        let mut others = self.others.iter().filter(|other| other.0 == name);
+        others.any(|(_, right, wrong)| *right > 0 && *wrong == 0)
     }
 
     /// Adds to a fact that is no check.
@@ -102,6 +118,13 @@ impl Session {
                 println!("refusal {number} was not seen");
             }
         }
+        for number in ANSWERS {
+            let seen = self.answers[number] > 0;
+            self.note("each pair's answer seen", seen);
+            if !seen {
+                println!("no pair of a sheet was answered by {number}");
+            }
+        }
         self.print_calls();
         for (name, right, wrong) in &self.others {
             println!("{name:<24} {right:>10}{}", failures(*wrong));
@@ -122,6 +145,8 @@ impl Session {
             let wrong = failures(self.different[export]);
             println!("{name:<24} {compared:>10}  {each}{wrong}");
         }
+        let each = counts(&self.answers, 0);
+        println!("{:<35}  {each}", "pairs of sheets by answer");
         println!("export                                by verdict, or kind of answer");
         for (export, name) in EXPORTS.iter().enumerate() {
             let each = counts(&self.kinds[export], 1);

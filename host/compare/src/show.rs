@@ -2,7 +2,7 @@
 
 use crate::call::{Call, EXPORTS, Outcome};
 use crate::side::{REFERENCE, Side};
-use reference::dispatcher::Dispatcher;
+use reference::dispatcher::{Dispatcher, parts};
 use reference::plan::{Guest, MOST_TASKS, Plan};
 use std::fmt::Display;
 
@@ -27,6 +27,10 @@ fn input(call: &Call) -> String {
         }
         Call::TaskVerdict(of, id, task) => format!("{name} id {id} task {task} {}", plan(of)),
         Call::Release(of, id, task) => format!("{name} id {id} task {task} {}", state(of)),
+        Call::Sheet(of, all, answers) => {
+            let all = pairs(all);
+            format!("{name} pairs {all} answers {answers:?} {}", state(of))
+        }
         Call::Tick(of) => format!("{name} {}", state(of)),
         Call::Run(of, ticks) => format!("{name} ticks {ticks} {}", state(of)),
     }
@@ -40,6 +44,13 @@ fn outcome(outcome: &Outcome) -> String {
         Outcome::Verdict(verdict) => format!("{verdict:?}"),
         Outcome::Start(start) => format!("{:?} {}", start.refusal, state(&start.dispatcher)),
         Outcome::Released(next) => format!("{:?} {}", next.refusal, state(&next.dispatcher)),
+        Outcome::Sheet(next, answers) => {
+            let then = state(&next.dispatcher);
+            format!(
+                "{:?} answers and behind them {answers:?} {then}",
+                next.refusal
+            )
+        }
         Outcome::Ticked(next) => {
             let then = state(&next.dispatcher);
             format!("{:?} {:?} {then}", next.refusal, next.answer)
@@ -52,6 +63,18 @@ fn outcome(outcome: &Outcome) -> String {
             )
         }
     }
+}
+
+/// Each pair as guest part/task.
+pub fn pairs(of: &[u64]) -> String {
+    let each: Vec<String> = of
+        .iter()
+        .map(|pair| {
+            let (guest, task) = parts(*pair);
+            format!("{guest}/{task}")
+        })
+        .collect();
+    format!("[{}]", each.join(" "))
 }
 
 /// The length and each byte that is not zero, with its place.

@@ -1,8 +1,12 @@
 //! Makes an input smaller as long as the two sides still differ.
 
+mod sheets;
+mod states;
+
 use crate::call::Call;
-use reference::dispatcher::{COUNTED, Dispatcher, IDLED_FROM, place_of};
+use reference::dispatcher::Dispatcher;
 use reference::plan::{BLOCK, Guest, MOST_GUESTS, MOST_TASKS, Plan, seal};
+use states::smaller_states;
 use std::time::{Duration, Instant};
 
 /// How long to try.
@@ -35,6 +39,7 @@ fn smaller(call: &Call) -> Vec<Call> {
         Call::SmallestCapacity(plan, id) => of_plan(plan, |plan| Call::SmallestCapacity(plan, *id)),
         Call::Fresh(plan) => of_plan(plan, Call::Fresh),
         Call::Release(state, id, task) => of_state(state, |state| Call::Release(state, *id, *task)),
+        Call::Sheet(state, pairs, answers) => sheets::smaller(state, pairs, answers),
         Call::Tick(state) => of_state(state, Call::Tick),
         Call::Run(state, ticks) => smaller_runs(state, *ticks),
     }
@@ -201,61 +206,6 @@ fn without_task(guest: &Guest, gone: usize) -> Guest {
     for column in [&mut fewer.run, &mut fewer.every, &mut fewer.deadline] {
         column.copy_within(gone + 1.., gone);
         column[MOST_TASKS - 1] = 0;
-    }
-    fewer
-}
-
-fn smaller_states(state: &Dispatcher) -> Vec<Dispatcher> {
-    let mut all: Vec<Dispatcher> = (0..listed(&state.plan))
-        .map(|gone| state_without_guest(state, gone))
-        .collect();
-    all.extend(with_a_smaller_number(state, state_numbers));
-    all.extend(with_less_counted(state));
-    all.extend(
-        smaller_plans(&state.plan)
-            .into_iter()
-            .map(|plan| Dispatcher { plan, ..*state }),
-    );
-    all
-}
-
-/// Copies of a state with a number of ticks made zero.
-fn with_less_counted(state: &Dispatcher) -> Vec<Dispatcher> {
-    let counted = (0..COUNTED).filter(|at| state.usage[*at] != 0);
-    counted
-        .map(|at| {
-            let mut less = *state;
-            less.usage[at] = 0;
-            less
-        })
-        .collect()
-}
-
-fn state_numbers(state: &mut Dispatcher) -> Vec<&mut u32> {
-    let guests = state.left.iter_mut().chain(&mut state.position);
-    let tasks = state
-        .rest
-        .iter_mut()
-        .chain(&mut state.wait)
-        .chain(&mut state.age);
-    guests.chain(tasks).collect()
-}
-
-fn state_without_guest(state: &Dispatcher, gone: usize) -> Dispatcher {
-    let mut fewer = *state;
-    fewer.plan = without_guest(&state.plan, gone);
-    for column in [&mut fewer.left, &mut fewer.position] {
-        column.copy_within(gone + 1.., gone);
-        column[MOST_GUESTS - 1] = 0;
-    }
-    for first in [0, IDLED_FROM] {
-        let column = &mut fewer.usage[first..first + MOST_GUESTS];
-        column.copy_within(gone + 1.., gone);
-        column[MOST_GUESTS - 1] = 0;
-    }
-    for column in [&mut fewer.rest, &mut fewer.wait, &mut fewer.age] {
-        column.copy_within(place_of(gone + 1, 0).., place_of(gone, 0));
-        column[place_of(MOST_GUESTS - 1, 0)..].fill(0);
     }
     fewer
 }

@@ -17,6 +17,7 @@ pub struct Side {
     pub smallest_capacity: fn(&Plan, u32) -> Verdict,
     pub fresh: fn(&Plan) -> Start,
     pub release: fn(&Dispatcher, u32, u32) -> Released,
+    pub sheet: fn(&Dispatcher, &[u64], &mut [u32]) -> Released,
     pub tick: fn(&Dispatcher) -> Ticked,
     pub run: fn(&Dispatcher, u32) -> Run,
 }
@@ -33,6 +34,7 @@ pub const REFERENCE: Side = Side {
     smallest_capacity: verdict::smallest_capacity,
     fresh: dispatcher::fresh,
     release: dispatcher::release,
+    sheet: dispatcher::sheet,
     tick: dispatcher::tick,
     run: dispatcher::run,
 };

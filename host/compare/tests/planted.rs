@@ -1,5 +1,8 @@
 //! The comparison itself is tried: each wrong implementation that document 01 names must be found, two of
-//! its errors that look reasonable, and some of P1's and P2's.
+//! its errors that look reasonable, and some of P1's, P2's and P5's.
+
+#[path = "planted/sheets.rs"]
+mod sheets;
 
 use compare::session::Session;
 use compare::side::{REFERENCE, Side};

@@ -1,5 +1,6 @@
-//! The dispatcher: its state, release, tick and run.
+//! The dispatcher: its state, release, tick and run, and the sheet of releases.
 
+mod sheet;
 mod step;
 
 #[cfg(test)]
@@ -9,6 +10,8 @@ use crate::plan::{
     Guest, LONGEST, MOST_GUESTS, MOST_TASKS, Plan, Refusal, task_place, well_formed,
 };
 use step::step;
+
+pub use sheet::{LONGEST_SHEET, pair, parts, sheet};
 
 /// The most tasks in a plan.
 pub const PLACES: usize = MOST_GUESTS * MOST_TASKS;

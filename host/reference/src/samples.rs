@@ -1,4 +1,4 @@
-//! Plans that document 01 works out by hand, and one with a fitted guest below an unfit one.
+//! Plans that document 01 works out by hand, one with a fitted guest below an unfit one, and one that is full.
 
 use crate::plan::{Guest, Plan};
 
@@ -30,4 +30,9 @@ pub fn unfit_above() -> Plan {
         Guest::new(2, 2, 4, &[[1, 100, 100]]),
         Guest::new(3, 1, 20, &[[1, 100, 100]]),
     ])
+}
+
+/// All guests and tasks that a plan can have, ids from 1, every task 1/300/300.
+pub fn full() -> Plan {
+    Plan::new(&[1, 2, 3, 4, 5, 6, 7, 8].map(|id| Guest::new(id, 3, 30, &[[1, 300, 300]; 16])))
 }

@@ -27,6 +27,15 @@ pub struct Progress {
     pub last: Option<Tick>,
 }
 
+/// A pair of a sheet: a guest's id and a task's number from 1.
+///
+/// ```
+/// assert_eq!(coreshare::pair(9, 2), 9 * 65_536 + 2);
+/// ```
+pub const fn pair(guest: u32, task: u16) -> u64 {
+    (guest as u64) << 16 | task as u64
+}
+
 impl Answer {
     /// The answer as an enum, or none.
     pub fn tick(self) -> Option<Tick> {
@@ -82,6 +91,32 @@ impl Dispatcher {
     /// ```
     pub fn release(&mut self, id: u32, task: u32) -> Result<(), Refusal> {
         let outcome = exports::release(self, id, task);
+        *self = outcome.dispatcher;
+        outcome.refusal.or(())
+    }
+
+    /// Releases a job of each [`pair`] in order, at most 256, as if by [`Dispatcher::release`] one by one, and
+    /// writes an answer for each: 0 for taken, or the refusal's number. Answer places past the pairs stay as they
+    /// were. A sheet refused whole changes nothing and writes no answer.
+    ///
+    /// ```
+    /// use coreshare::{Dispatcher, Guest, Plan, pair};
+    ///
+    /// let plan = Plan::new(&[
+    ///     Guest::new(7, 2, 5, &[[1, 20, 20]]),
+    ///     Guest::new(9, 8, 20, &[[10, 50, 50], [8, 100, 100]]),
+    /// ]);
+    /// let mut dispatcher = Dispatcher::fresh(&plan)?;
+    /// let mut answers = [99; 6];
+    /// let pairs = [pair(9, 1), pair(7, 1), pair(9, 1), pair(9, 3), pair(8, 1)];
+    /// dispatcher.sheet(&pairs, &mut answers)?;
+    /// assert_eq!(answers, [0, 0, 9, 8, 7, 99]);
+    /// assert_eq!(dispatcher.sheet(&pairs, &mut answers[..4]).unwrap_err().number, 12);
+    /// assert_eq!(dispatcher.sheet(&[0; 257], &mut answers).unwrap_err().number, 15);
+    /// # Ok::<(), coreshare::Refusal>(())
+    /// ```
+    pub fn sheet(&mut self, pairs: &[u64], answers: &mut [u32]) -> Result<(), Refusal> {
+        let outcome = exports::sheet(self, pairs, answers);
         *self = outcome.dispatcher;
         outcome.refusal.or(())
     }

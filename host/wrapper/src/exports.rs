@@ -13,6 +13,13 @@ mod library {
         fn cs_read(bytes: *const u8, length: usize) -> Read;
         fn cs_find(bytes: *const u8, length: usize, id: u32) -> Refusal;
         fn cs_write(guest: Guest, place: u32, buffer: *mut u8, length: usize) -> Refusal;
+        fn cs_sheet(
+            dispatcher: Dispatcher,
+            pairs: *const u64,
+            count: usize,
+            answers: *mut u32,
+            room: usize,
+        ) -> Released;
         pub safe fn cs_check(plan: Plan) -> Refusal;
         pub safe fn cs_guest_verdict(plan: Plan, id: u32) -> Verdict;
         pub safe fn cs_task_verdict(plan: Plan, id: u32, task: u32) -> Verdict;
@@ -37,6 +44,14 @@ mod library {
     pub fn write(guest: Guest, place: u32, buffer: &mut [u8]) -> Refusal {
         // SAFETY: the slice is ours alone for its length during the call, and nothing keeps it.
         unsafe { cs_write(guest, place, buffer.as_mut_ptr(), buffer.len()) }
+    }
+
+    pub fn sheet(dispatcher: Dispatcher, pairs: &[u64], answers: &mut [u32]) -> Released {
+        let (pairs, count) = (pairs.as_ptr(), pairs.len());
+        let (answers, room) = (answers.as_mut_ptr(), answers.len());
+        // SAFETY: the pairs are readable and the answers ours alone, each for its length during the
+        // call; they do not overlap, and nothing keeps them.
+        unsafe { cs_sheet(dispatcher, pairs, count, answers, room) }
     }
 }
 
@@ -89,6 +104,12 @@ pub fn fresh(plan: &Plan) -> Start {
 /// Releases a task. Refusals: 14, 7, 8, 9, 10.
 pub fn release(dispatcher: &Dispatcher, id: u32, task: u32) -> Released {
     library::cs_release(*dispatcher, id, task)
+}
+
+/// Releases each pair in order and answers it: 0 for taken, or 7, 8, 9, 10.
+/// Refusals of the whole sheet: 14, 15, 12.
+pub fn sheet(dispatcher: &Dispatcher, pairs: &[u64], answers: &mut [u32]) -> Released {
+    library::sheet(*dispatcher, pairs, answers)
 }
 
 /// One tick. Refusal: 14.

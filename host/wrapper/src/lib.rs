@@ -2,7 +2,7 @@
 //!
 //! On one core, up to 8 guests share the time, each with up to 16 tasks. The library reads and
 //! writes plan blocks, judges guests and tasks, searches the smallest capacity, and dispatches.
-//! Every rule stands in document 01, as the requests P1 to P4 of document 02 change it; a refusal carries
+//! Every rule stands in document 01, as the requests P1 to P5 of document 02 change it; a refusal carries
 //! document 01's number and place.
 //!
 //! The root of this crate has the calls as Rust has them, with `Result` and enums. [`exports`] has
@@ -27,7 +27,7 @@ pub mod exports;
 mod plan;
 mod records;
 
-pub use dispatcher::{Progress, Tick};
+pub use dispatcher::{Progress, Tick, pair};
 pub use plan::{BLOCK, GuestVerdict, TaskVerdict, find};
 pub use records::{
     Answer, Dispatcher, Guest, Plan, Read, Refusal, Released, Run, Start, Ticked, Verdict,

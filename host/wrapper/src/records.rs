@@ -36,7 +36,7 @@ pub struct Plan {
     pub guests: [Guest; 8],
 }
 
-/// A refusal's number and place, as document 01 lists them; number 0 is no refusal.
+/// A refusal's number and place, as documents 01 and 02 list them; number 0 is no refusal.
 #[repr(C)]
 #[derive(Clone, Copy, Debug, Default, PartialEq, Eq)]
 pub struct Refusal {
@@ -106,7 +106,7 @@ pub struct Start {
     pub dispatcher: Dispatcher,
 }
 
-/// What a release gives. The state of a refused release is unchanged.
+/// What a release or a sheet of releases gives. The state of a refused call is unchanged.
 #[repr(C)]
 #[derive(Clone, Copy, Debug, PartialEq, Eq)]
 pub struct Released {
@@ -157,10 +157,11 @@ impl Refusal {
             9 => "release before the task's period has passed",
             10 => "release while the task's last job is unfinished",
             11 => "no capacity works",
-            12 => "the writer's buffer is shorter than 512",
+            12 => "a buffer shorter than 512, or fewer answer places than pairs",
             13 => "a run of more than 1,000,000 ticks",
             14 => "a state outside its ranges",
-            _ => "no number of document 01",
+            15 => "a sheet of more than 256 pairs",
+            _ => "no number of document 01 or 02",
         }
     }
 }

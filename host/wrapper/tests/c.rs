@@ -6,7 +6,7 @@ use std::path::{Path, PathBuf};
 use std::process::Command;
 
 use coreshare::{
-    Answer, Dispatcher, Guest, Plan, Read, Refusal, Released, Run, Start, Ticked, Verdict,
+    Answer, Dispatcher, Guest, Plan, Read, Refusal, Released, Run, Start, Ticked, Verdict, pair,
 };
 
 /// Compiles a C file of the folder `c` beside this crate, runs it and gives what it wrote.
@@ -63,6 +63,9 @@ fn layout() -> String {
     lines!(to, "CsAnswer", Answer, kind guest task age margin);
     lines!(to, "CsTicked", Ticked, dispatcher refusal answer);
     lines!(to, "CsRun", Run, refusal done answer dispatcher);
+    for pair in [pair(9, 2), pair(u32::MAX, u16::MAX)] {
+        writeln!(to, "pair {pair}").unwrap();
+    }
     to
 }
 
@@ -97,6 +100,7 @@ after 24 ticks guest 9 finished task 1: age 24, margin 26
 guest 7 had 10 ticks and idled 10 of them away
 guest 9 had 10 ticks and idled 0 of them away
 nobody had 4
+sheet answered 0 9 9 7
 ";
     assert_eq!(output_of("example", &[archive]), text);
 }

@@ -47,6 +47,30 @@ impl Dispatcher {
 
     pub fn release(&mut self, id: u32, task: u32) -> Result<(), Refusal> {
         self.check()?;
+        self.take(id, task)
+    }
+
+    /// Releases the pairs one by one, the state being checked once.
+    pub fn sheet(&mut self, pairs: &[u64], answers: &mut [u32]) -> Result<(), Refusal> {
+        self.check()?;
+        if pairs.len() > 256 {
+            return Err(Refusal::new(15, 0));
+        }
+        if answers.len() < pairs.len() {
+            return Err(Refusal::new(12, 0));
+        }
+        for (pair, answer) in pairs.iter().zip(answers) {
+            let taken = match u32::try_from(pair >> 16) {
+                Ok(id) => self.take(id, (pair & 0xFFFF) as u32),
+                Err(_) => Err(Refusal::new(7, 0)),
+            };
+            *answer = taken.err().unwrap_or_default().number;
+        }
+        Ok(())
+    }
+
+    /// A release into a state that is known to be in range.
+    fn take(&mut self, id: u32, task: u32) -> Result<(), Refusal> {
         let guest = self.plan.place_of(id)?;
         let own = &self.plan.guests[guest];
         let task = own.task_place(task)?;

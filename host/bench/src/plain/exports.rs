@@ -114,6 +114,19 @@ pub extern "C" fn release(mut dispatcher: Dispatcher, id: u32, task: u32) -> Rel
 }
 
 #[inline(never)]
+pub extern "C" fn sheet(
+    mut dispatcher: Dispatcher,
+    pairs: &[u64],
+    answers: &mut [u32],
+) -> Released {
+    let refusal = dispatcher.sheet(pairs, answers).err().unwrap_or_default();
+    Released {
+        refusal,
+        dispatcher,
+    }
+}
+
+#[inline(never)]
 pub extern "C" fn tick(mut dispatcher: Dispatcher) -> Ticked {
     let (refusal, answer) = match dispatcher.tick() {
         Ok(tick) => (Refusal::default(), answer(tick)),

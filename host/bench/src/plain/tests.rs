@@ -20,6 +20,7 @@ const PLAIN: Side = Side {
     smallest_capacity: |plan, id| verdict(exports::smallest_capacity(plan_in(plan), id)),
     fresh,
     release,
+    sheet,
     tick,
     run,
 };
@@ -148,7 +149,18 @@ fn fresh(plan: &Plan) -> dispatching::Start {
 }
 
 fn release(from: &dispatching::Dispatcher, id: u32, task: u32) -> dispatching::Released {
-    let outcome = exports::release(state_in(from), id, task);
+    released(exports::release(state_in(from), id, task))
+}
+
+fn sheet(
+    from: &dispatching::Dispatcher,
+    pairs: &[u64],
+    answers: &mut [u32],
+) -> dispatching::Released {
+    released(exports::sheet(state_in(from), pairs, answers))
+}
+
+fn released(outcome: exports::Released) -> dispatching::Released {
     dispatching::Released {
         refusal: refusal(outcome.refusal),
         dispatcher: state(&outcome.dispatcher),

@@ -1,8 +1,10 @@
 //! Plays a script of releases, watches the clock itself and counts where the ticks went.
 
+use super::script::{Script, Tried};
 use crate::side::Side;
 use reference::dispatcher::{
-    Answer, COUNTED, Dispatcher, FINISHED, IDLED, IDLED_FROM, NOBODY, NOBODYS, PLACES, place_of,
+    Answer, COUNTED, Dispatcher, FINISHED, IDLED, IDLED_FROM, LONGEST_SHEET, NOBODY, NOBODYS,
+    PLACES, parts, place_of,
 };
 use reference::plan::Plan;
 
@@ -14,14 +16,14 @@ pub struct Quoted {
     pub response: u32,
 }
 
-/// The releases tried before each tick, by places of guest and task from 0.
-pub type Script = Vec<Vec<(usize, usize)>>;
-
-/// Jobs of quoted tasks that finished, and those of them that took all of their response.
+/// Jobs of quoted tasks that finished, and those of them that took all of their response; sheets, and
+/// those of them that were refused whole.
 #[derive(Default)]
 pub struct Seen {
     pub finished: u64,
     pub at_the_response: u64,
+    pub sheets: u64,
+    pub refused_whole: u64,
 }
 
 /// Plays a script from a fresh state; or says how the promise broke.
@@ -39,9 +41,12 @@ pub fn play(side: &Side, plan: &Plan, quoted: &[Quoted], script: &Script) -> Res
     for quote in quoted {
         play.response[place_of(quote.guest, quote.task)] = Some(quote.response);
     }
-    for (time, releases) in (0..).zip(script) {
-        for (guest, task) in releases {
-            play.release(time, *guest, *task)?;
+    for (time, tries) in (0..).zip(script) {
+        for tried in tries {
+            match tried {
+                Tried::Single(pair) => play.release(time, *pair)?,
+                Tried::Sheet(pairs, room) => play.sheet(time, pairs, *room)?,
+            }
         }
         play.tick(time)?;
     }
@@ -64,26 +69,71 @@ struct Play<'a> {
 
 impl Play<'_> {
     /// Tries a release that is due.
-    fn release(&mut self, time: u32, guest: usize, task: usize) -> Result<(), String> {
-        let own = &self.plan.guests[guest];
-        let place = place_of(guest, task);
-        if self.taken[place].is_some_and(|taken| time - taken < own.every[task]) {
+    fn release(&mut self, time: u32, pair: u64) -> Result<(), String> {
+        let Some((guest, task)) = self.named(pair).filter(|named| self.due(time, *named)) else {
             return Ok(());
-        }
-        let outcome = (self.side.release)(&self.state, own.id, task as u32 + 1);
+        };
+        let id = self.plan.guests[guest].id;
+        let outcome = (self.side.release)(&self.state, id, task as u32 + 1);
         self.state = outcome.dispatcher;
-        match outcome.refusal.number {
-            0 => {
+        self.answered(time, (guest, task), outcome.refusal.number)
+    }
+
+    /// Tries a sheet: each pair counts as a release, and none does if the sheet is refused whole.
+    fn sheet(&mut self, time: u32, pairs: &[u64], room: usize) -> Result<(), String> {
+        let mut answers = vec![u32::MAX; room];
+        let outcome = (self.side.sheet)(&self.state, pairs, &mut answers);
+        self.state = outcome.dispatcher;
+        self.seen.sheets += 1;
+        if outcome.refusal.number != 0 {
+            self.seen.refused_whole += 1;
+            return match pairs.len() > LONGEST_SHEET || room < pairs.len() {
+                true => Ok(()),
+                false => Err(format!(
+                    "tick {time}: sheet refused whole: {:?}",
+                    outcome.refusal
+                )),
+            };
+        }
+        for (pair, answer) in pairs.iter().zip(answers) {
+            if let Some(named) = self.named(*pair) {
+                self.answered(time, named, answer)?;
+            }
+        }
+        Ok(())
+    }
+
+    /// The places of guest and task that a pair names, if the plan has them.
+    fn named(&self, pair: u64) -> Option<(usize, usize)> {
+        let (guest, task) = parts(pair);
+        let mut guests = self.plan.listed().iter();
+        let at = guests.position(|own| u64::from(own.id) == guest)?;
+        let places = self.plan.guests[at].places();
+        let task = (task as usize).checked_sub(1)?;
+        places.contains(&task).then_some((at, task))
+    }
+
+    /// Whether the task's period has passed since its last taken release.
+    fn due(&self, time: u32, (guest, task): (usize, usize)) -> bool {
+        let every = self.plan.guests[guest].every[task];
+        self.taken[place_of(guest, task)].is_none_or(|taken| time - taken >= every)
+    }
+
+    /// Notes the answer to a release: 0 for taken, or the refusal's number.
+    fn answered(&mut self, time: u32, named: (usize, usize), number: u32) -> Result<(), String> {
+        let (guest, task) = named;
+        let place = place_of(guest, task);
+        let broken = |how: String| Err(format!("tick {time}: guest {guest} task {task}: {how}"));
+        match (self.due(time, named), number) {
+            (true, 0) => {
                 self.taken[place] = Some(time);
                 self.unfinished[place] = true;
                 Ok(())
             }
-            number if self.response[place].is_some() => {
-                let place = format!("guest {guest} task {task}");
-                Err(format!(
-                    "tick {time}: due release of {place} refused as {number}"
-                ))
+            (true, _) if self.response[place].is_some() => {
+                broken(format!("due release refused as {number}"))
             }
+            (false, 0) => broken("release taken that is not due".to_string()),
             _ => Ok(()),
         }
     }
