@@ -8,7 +8,7 @@
  * - No call asks anything of its input: any value of any field is taken, and what is out of range is
  *   refused by its number. Number 0 is no refusal; the place of a refusal 7 to 14 is 0.
  * - A pointer must be good for its length, for the whole call, and not be NULL even where the length is 0. The library
- *   cannot test that, and promises nothing where it does not hold.
+ *   does not test that, and promises nothing where it does not hold.
  * - A CsGuest is 212 bytes, a CsPlan 1,700, a CsDispatcher 3,440 and aligned to 8. They cross on the stack, there and
  *   back; docs/FIGURES.md has the stack that each call takes, as measured.
  * - CsGuest has two bytes of padding after charge, CsDispatcher four before usage, CsTicked four at its end. The library
