@@ -1,6 +1,7 @@
 #!/bin/sh
-# Prints the instructions of one call, of the library, of plain Rust behind the same interface and of plain Rust by reference,
-# for each case or the named ones. The count of a call is a twentieth of the difference between 30 calls and 10 (of a run: that between 2 and 1), so that the start of the program falls out.
+# Prints the instructions of one call, of the library, of plain Rust behind the same interface and of plain Rust by
+# reference, for each case or the named ones. The count of a call is a twentieth of the difference between 30 calls and
+# 10 (of a run: that between 2 and 1), so that the start of the program falls out.
 # From the folder host: bench/callgrind.sh [NAME..]
 set -eu
 cd "$(dirname "$0")/.."
@@ -33,5 +34,7 @@ for name in ${*:-$names}; do
     ours=$(per_call "$name" ours)
     same=$(per_call "$name" same)
     reference=$(per_call "$name" reference)
-    awk "BEGIN { printf \"%-26s %14s %14s %7.2f %14s %7.2f\n\", \"$name\", $ours, $same, $ours / $same, $reference, $ours / $reference }"
+    awk -v name="$name" -v ours="$ours" -v same="$same" -v by="$reference" 'BEGIN {
+        printf "%-26s %14s %14s %7.2f %14s %7.2f\n", name, ours, same, ours / same, by, ours / by
+    }'
 done

@@ -7,12 +7,13 @@
  *   no state of its own, so calls from several threads need no lock.
  * - No call asks anything of its input: any value of any field is taken, and what is out of range is
  *   refused by its number. Number 0 is no refusal; the place of a refusal 7 to 14 is 0.
- * - A pointer must be good for its length, for the whole call, and not be NULL even where the length is 0.
- * - CsGuest has two bytes of padding after charge. The library neither reads nor promises them: compare
- *   records field by field, not by memcmp, and clear a record before its bytes are sent anywhere.
- * - CsDispatcher has four bytes of padding before usage, and CsTicked four at its end: the same holds
- *   for them.
- * - A state is 3,440 bytes and crosses on the stack, there and back.
+ * - A pointer must be good for its length, for the whole call, and not be NULL even where the length is 0. The library
+ *   does not test that, and promises nothing where it does not hold.
+ * - A CsGuest is 212 bytes, a CsPlan 1,700, a CsDispatcher 3,440 and aligned to 8. They cross on the stack, there and
+ *   back; docs/FIGURES.md has the stack that each call takes, as measured.
+ * - CsGuest has two bytes of padding after charge, CsDispatcher four before usage, CsTicked four at its end. The library
+ *   neither reads nor promises them: compare records and states field by field, not by memcmp, and clear them before
+ *   their bytes are sent anywhere.
  * - Like any compiled C, the library may call memcpy, memmove, memset and memcmp, also where there is no C library.
  */
 #ifndef CORESHARE_H
@@ -145,8 +146,8 @@ CsRefusal cs_find(const uint8_t *bytes, size_t length, uint32_t id);
  * Refusals: those of cs_check, then 7 no such guest. */
 CsVerdict cs_guest_verdict(CsPlan plan, uint32_t id);
 
-/* Verdict of a task, by its number from 1: 1 met, ticks is its response; 2 unmet, ticks is its response, or 0 if that is
- * past the task's period; 3 unjudged.
+/* Verdict of a task, by its number from 1: 1 met, ticks is its response; 2 unmet, ticks is its response, or 0 if no
+ * response is at most the task's period; 3 unjudged.
  * Refusals: those of cs_check, then 7 no such guest, 8 no such task. */
 CsVerdict cs_task_verdict(CsPlan plan, uint32_t id, uint32_t task);
 

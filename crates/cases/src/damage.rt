@@ -1,7 +1,7 @@
-// Words of a plan's bytes changed, the checks of their blocks made right again or left as they were.
+// Changes words of a plan's bytes, and makes the checks of their blocks right again or leaves them as they were.
 use draft::text::Row;
 
-// Word `word` of block `place` set.
+// Sets word `word` of block `place`, where both are in the bytes.
 fn put(buf: &mut [u8], place: usize, word: usize, value: u32) {
     if place < 8 {
         if word < 128 {
@@ -13,7 +13,7 @@ fn put(buf: &mut [u8], place: usize, word: usize, value: u32) {
     }
 }
 
-// The sum of the words before the check of a block that starts at a.
+// Sums the words before the check of the block that starts at `a`.
 fn sum_at(buf: &[u8], a: usize) -> u32 {
     if a <= buf.len() {
         let part = &buf[a..];
@@ -24,7 +24,7 @@ fn sum_at(buf: &[u8], a: usize) -> u32 {
     0
 }
 
-// The check of block `place` made right again.
+// Makes the check of block `place` right again.
 fn mend(buf: &mut [u8], place: usize) {
     if place < 8 {
         let sum = sum_at(buf, 512 * place);
@@ -32,7 +32,7 @@ fn mend(buf: &mut [u8], place: usize) {
     }
 }
 
-// A word set, and its block mended if that is asked and the word is not the check itself.
+// Sets a word, and mends its block if that is asked and the word is not the check itself.
 fn set(buf: &mut [u8], place: u32, word: u32, value: u32, mended: bool) {
     put(buf, place as usize, word as usize, value);
     if mended & (word < 127) {
@@ -40,7 +40,8 @@ fn set(buf: &mut [u8], place: u32, word: u32, value: u32, mended: bool) {
     }
 }
 
-// Block, word and value of one change, or of two.
+// Does what a line asks: one change or two, each with block, word and value; `damage` mends the block afterwards,
+// `unmended` does not.
 pub fn damage(buf: &mut [u8], row: Row) {
     let x = row.numbers;
     let first = row.first;

@@ -1,12 +1,13 @@
-// Lines written out again, and their outcomes after them.
+// Writes lines out again, and their outcomes after them.
 use draft::text::Row;
 use plan::Refusal;
 
+// Writes words as they are.
 pub fn text(words: &[u8]) {
     io::write_all(1, words);
 }
 
-// A byte of the line in hand.
+// Writes a byte of the line in hand, unless the line is left out.
 pub fn byte(row: Row, b: u8) {
     if row.first == b'#' {
         return;
@@ -14,7 +15,7 @@ pub fn byte(row: Row, b: u8) {
     io::write_all(1, &[b]);
 }
 
-// The end of a line whose answer, if any, starts on the next.
+// Ends a line that has no answer, or whose answer starts on the next.
 pub fn end(row: Row) {
     let first = row.first;
     match first {
@@ -23,13 +24,13 @@ pub fn end(row: Row) {
     }
 }
 
-// Some words, and a number after them.
+// Writes words, and a number after them.
 pub fn number(words: &[u8], n: u32) {
     io::write_all(1, words);
     io::print_decimal(1, n as u64);
 }
 
-// A refusal, or that there is none.
+// Writes a refusal, or that there is none.
 pub fn refusal(r: Refusal) {
     if 0 < r.number {
         number(b": refused ", r.number);

@@ -1,4 +1,4 @@
--- What each promise permits is one outcome. Assumes nothing.
+-- Each promise permits one outcome, since it is an equality with a definition. Assumes nothing.
 use mathlib.Core.Path.{_≡_}
 use Prim.Native.Nat.{ℕ}
 use Rattle.plan.specs.declared.Plan.{Plan}
@@ -9,26 +9,26 @@ use Rattle.coreshare.specs.declared.Run.{Run}
 use Rattle.coreshare.specs.Promises.{TellsGuest, TellsTask, TellsPlan, TellsCapacity, TellsTick, TellsRun}
 use Rattle.plan.proofs.Promises.{one-outcome}
 
--- cs_guest_verdict
+-- Two outcomes that the promise of `cs_guest_verdict` permits coincide.
 pub tells-guest-once : (p : Plan) (id : ℕ) (r s : Verdict) → TellsGuest p id r → TellsGuest p id s → r ≡ s
 tells-guest-once p id r s = one-outcome
 
--- cs_task_verdict
+-- Two outcomes that the promise of `cs_task_verdict` permits coincide.
 pub tells-task-once : (p : Plan) (id number : ℕ) (r s : Verdict) → TellsTask p id number r → TellsTask p id number s → r ≡ s
 tells-task-once p id number r s = one-outcome
 
--- cs_accept
+-- Two outcomes that the promise of `cs_accept` permits coincide.
 pub tells-plan-once : (p : Plan) (r s : Verdict) → TellsPlan p r → TellsPlan p s → r ≡ s
 tells-plan-once p r s = one-outcome
 
--- cs_smallest_capacity
+-- Two outcomes that the promise of `cs_smallest_capacity` permits coincide.
 pub tells-capacity-once : (p : Plan) (id : ℕ) (r s : Verdict) → TellsCapacity p id r → TellsCapacity p id s → r ≡ s
 tells-capacity-once p id r s = one-outcome
 
--- cs_tick
+-- Two outcomes that the promise of `cs_tick` permits coincide.
 pub tells-tick-once : (d : Dispatcher) (r s : Tick) → TellsTick d r → TellsTick d s → r ≡ s
 tells-tick-once d r s = one-outcome
 
--- cs_run
+-- Two outcomes that the promise of `cs_run` permits coincide.
 pub tells-run-once : (d : Dispatcher) (n : ℕ) (r s : Run) → TellsRun d n r → TellsRun d n s → r ≡ s
 tells-run-once d n r s = one-outcome

@@ -1,4 +1,4 @@
-// Plan blocks and records. A found part does not cross to C: its place does.
+// Plan blocks and records. A found part of the bytes does not cross to C; its place does.
 ghost use Rattle.plan.specs.Promises.{Checks};
 ghost use Rattle.block.specs.Promises.{Writes};
 ghost use Rattle.planfile.specs.Promises.{Reads, FindsPlace};

@@ -1,4 +1,4 @@
-// The dispatcher's calls.
+// The dispatcher's calls. A fresh start and a release cross as they are; a tick's answer is told in numbers.
 ghost use mathlib.Core.Path.{_≡_};
 ghost use Rattle.dispatcher.specs.Promises.{Starts, Releases};
 ghost use Rattle.coreshare.specs.Told.{told};
@@ -12,7 +12,7 @@ use dispatcher::Released;
 use dispatcher::Started;
 use plan::Plan;
 
-// What a tick's answer says.
+// A tick's answer is told as a number for its case, with the case's values.
 fn tell(answer: Answer) -> Told
     ensures { λ r. ⌜ r ≡ told answer ⌝ }
 {

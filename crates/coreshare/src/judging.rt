@@ -1,4 +1,4 @@
-// The verdicts, and the smallest capacity.
+// The verdicts and the smallest capacity, with each case of an answer told as a number.
 ghost use mathlib.Core.Path.{_≡_};
 ghost use Rattle.coreshare.specs.Told.{refusing, saying};
 ghost use Rattle.coreshare.specs.Promises.{TellsGuest, TellsTask, TellsPlan, TellsCapacity};
@@ -9,6 +9,7 @@ use verdict::Acceptance;
 use verdict::GuestVerdict;
 use verdict::TaskVerdict;
 
+// A refusal is told by its number and place.
 fn refuse(number: u32, place: u32) -> Verdict
     ensures { λ r. ⌜ r ≡ refusing number place ⌝ }
 {
@@ -20,6 +21,7 @@ fn refuse(number: u32, place: u32) -> Verdict
     }
 }
 
+// A verdict is told by its number, with its ticks.
 fn say(verdict: u32, ticks: u32) -> Verdict
     ensures { λ r. ⌜ r ≡ saying verdict ticks ⌝ }
 {

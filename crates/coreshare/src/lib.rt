@@ -1,4 +1,5 @@
-// The public entries for C and Rust, of the finder its place alone: numbers and structs by value, the case of an enum as a number.
+// The public entries for C and Rust: numbers and structs by value, the case of an enum as a number.
+// Of what the finder gives, the place alone crosses.
 use dispatcher::Dispatcher;
 use plan::Refusal;
 
@@ -6,7 +7,7 @@ mod blocks;
 mod dispatching;
 mod judging;
 
-// A refusal's number and place; or number 0, a verdict and its ticks.
+// A verdict with its ticks under number 0, or a refusal's number and place with both 0.
 #[repr(C)]
 pub struct Verdict {
     pub number: u32,
@@ -15,7 +16,7 @@ pub struct Verdict {
     pub ticks: u32,
 }
 
-// Who had a tick; what means nothing for its kind is 0.
+// Who had a tick, by its kind; a field that means nothing for the kind is 0.
 #[repr(C)]
 pub struct Told {
     pub kind: u32,
@@ -25,7 +26,7 @@ pub struct Told {
     pub margin: i32,
 }
 
-// One tick.
+// What one tick gives: the next state, the refusal or number 0, and who had the tick.
 #[repr(C)]
 pub struct Tick {
     pub state: Dispatcher,
@@ -33,7 +34,7 @@ pub struct Tick {
     pub answer: Told,
 }
 
-// A run of ticks.
+// What a run gives: the refusal or number 0, the ticks done, who had the last of them, and the next state.
 #[repr(C)]
 pub struct Run {
     pub refusal: Refusal,

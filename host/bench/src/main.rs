@@ -1,6 +1,6 @@
 //! Measures the exports against plain Rust on the same input, in one run.
 //!
-//!     bench [NAME..]                      a table of times, each the least of many rounds, of all cases or the named ones
+//!     bench [NAME..]                      times, each the least of many rounds, of all cases or the named ones
 //!     bench --list                        the cases' names
 //!     bench --one NAME SIDE --times N     one side of one case, to count its instructions: ours, same or reference
 //!

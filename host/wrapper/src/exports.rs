@@ -80,7 +80,7 @@ pub fn guest_verdict(plan: &Plan, id: u32) -> Verdict {
     library::cs_guest_verdict(*plan, id)
 }
 
-/// Verdict 1 met, with its response, 2 unmet, with its response or 0 if that is past its period, or 3 unjudged.
+/// Verdict 1 met, with its response, 2 unmet, with its response or 0 if none is at most its period, or 3 unjudged.
 /// Refusals: those of the records, 7, 8.
 pub fn task_verdict(plan: &Plan, id: u32, task: u32) -> Verdict {
     library::cs_task_verdict(*plan, id, task)

@@ -1,0 +1,162 @@
+/* Prints the bytes of stack that each export takes, on a full plan: 8 guests of 16 tasks.
+ *
+ * A call is made on a thread whose stack was painted first. What it takes is
+ * - its arguments by value, which the caller puts on the stack, and
+ * - below them everything from the return address down to the lowest byte that is no longer paint.
+ * The place of the result is the caller's and is not counted. Where the arguments end is told by a probe: a function of
+ * the same type that is called from the same place first.
+ *
+ * With a number as its argument the program fails where an export takes more bytes than that. A new export is one
+ * EXPORT line and one line of the table below. stack.sh builds and runs this. */
+#include "../c/coreshare.h"
+
+#include <pthread.h>
+#include <stdio.h>
+#include <stdlib.h>
+#include <string.h>
+
+enum { GUESTS = 8, TASKS = 16, PAINT = 0xA5 };
+
+static uint8_t bytes[GUESTS * CS_BLOCK];
+static uint8_t buffer[CS_BLOCK];
+static CsPlan plan;         /* full, all guests fitted, all tasks met */
+static CsPlan wide;         /* the last guest's period is the longest, so that the search for its capacity is deepest */
+static CsDispatcher states; /* of the full plan, with a job of every task released */
+
+static _Alignas(4096) uint8_t stack[1 << 20];
+static uint8_t *at_call;   /* where the stack ends just before the call, arguments included */
+static uint8_t *at_caller; /* the caller's frame: the same with the probe and with the export */
+
+/* An export, its type and parameters, and the arguments that it is called with here. */
+#define EXPORT(name, type, parameters, arguments)                                            \
+    static type result_of_##name;                                                            \
+    __attribute__((noinline)) static type probe_##name parameters {                          \
+        at_call = __builtin_dwarf_cfa();                                                     \
+        return result_of_##name;                                                             \
+    }                                                                                        \
+    static type(*volatile called_##name) parameters;                                         \
+    __attribute__((noinline)) static void call_##name(int probe) {                           \
+        at_caller = __builtin_frame_address(0);                                              \
+        called_##name = probe ? probe_##name : name;                                         \
+        result_of_##name = called_##name arguments;                                          \
+    }
+
+EXPORT(cs_read, CsRead, (const uint8_t *b, size_t n), (bytes, sizeof bytes))
+EXPORT(cs_check, CsRefusal, (CsPlan p), (plan))
+EXPORT(cs_write, CsRefusal, (CsGuest g, uint32_t at, uint8_t *b, size_t n), (plan.guests[7], 7, buffer, sizeof buffer))
+EXPORT(cs_find, CsRefusal, (const uint8_t *b, size_t n, uint32_t id), (bytes, sizeof bytes, GUESTS))
+EXPORT(cs_guest_verdict, CsVerdict, (CsPlan p, uint32_t id), (plan, GUESTS))
+EXPORT(cs_task_verdict, CsVerdict, (CsPlan p, uint32_t id, uint32_t task), (plan, GUESTS, TASKS))
+EXPORT(cs_accept, CsVerdict, (CsPlan p), (plan))
+EXPORT(cs_smallest_capacity, CsVerdict, (CsPlan p, uint32_t id), (wide, GUESTS))
+EXPORT(cs_fresh, CsStart, (CsPlan p), (plan))
+EXPORT(cs_release, CsReleased, (CsDispatcher d, uint32_t id, uint32_t task), (states, GUESTS, TASKS))
+EXPORT(cs_tick, CsTicked, (CsDispatcher d), (states))
+EXPORT(cs_run, CsRun, (CsDispatcher d, uint32_t ticks), (states, 1000000))
+
+static const struct {
+    const char *name;
+    void (*call)(int probe);
+    size_t arguments; /* on the stack: structs of more than 16 bytes by value */
+} exports[] = {
+    {"cs_read", call_cs_read, 0},
+    {"cs_check", call_cs_check, sizeof(CsPlan)},
+    {"cs_write", call_cs_write, sizeof(CsGuest)},
+    {"cs_find", call_cs_find, 0},
+    {"cs_guest_verdict", call_cs_guest_verdict, sizeof(CsPlan)},
+    {"cs_task_verdict", call_cs_task_verdict, sizeof(CsPlan)},
+    {"cs_accept", call_cs_accept, sizeof(CsPlan)},
+    {"cs_smallest_capacity", call_cs_smallest_capacity, sizeof(CsPlan)},
+    {"cs_fresh", call_cs_fresh, sizeof(CsPlan)},
+    {"cs_release", call_cs_release, sizeof(CsDispatcher)},
+    {"cs_tick", call_cs_tick, sizeof(CsDispatcher)},
+    {"cs_run", call_cs_run, sizeof(CsDispatcher)},
+};
+
+static void fail(const char *why) {
+    fprintf(stderr, "stack: %s\n", why);
+    exit(2);
+}
+
+/* Guests whose capacities leave room for all, with tasks that need all of their recurrences' turns. */
+static void make_plan(void) {
+    plan.count = GUESTS;
+    for (uint32_t g = 0; g < GUESTS; g++) {
+        CsGuest *guest = &plan.guests[g];
+        *guest = (CsGuest){.id = g + 1, .capacity = 1000, .period = 10000 + 997 * g, .tasks = TASKS, .charge = 1};
+        for (uint32_t t = 0; t < TASKS; t++) {
+            guest->run[t] = 20 + t;
+            guest->every[t] = guest->deadline[t] = 900000 + 6250 * t;
+        }
+        if (cs_write(*guest, g, bytes + CS_BLOCK * g, CS_BLOCK).number != 0) {
+            fail("a block of the full plan is refused");
+        }
+    }
+    wide = plan;
+    wide.guests[GUESTS - 1].period = 1000000;
+    if (cs_accept(plan).verdict != 1 || cs_smallest_capacity(wide, GUESTS).verdict != 1) {
+        fail("the full plan is not accepted");
+    }
+}
+
+static void make_state(void) {
+    states = cs_fresh(plan).dispatcher;
+    for (uint32_t g = 1; g <= GUESTS; g++) {
+        for (uint32_t t = 1; t < TASKS || (g < GUESTS && t == TASKS); t++) {
+            CsReleased released = cs_release(states, g, t);
+            if (released.refusal.number != 0) {
+                fail("a release of the full plan is refused");
+            }
+            states = released.dispatcher;
+        }
+    }
+}
+
+static void *on_thread(void *call) {
+    (*(void (**)(int))call)(at_call == NULL);
+    return NULL;
+}
+
+/* One call on a freshly painted stack. */
+static void run(void (*call)(int probe)) {
+    pthread_attr_t attributes;
+    pthread_t thread;
+    memset(stack, PAINT, sizeof stack);
+    if (pthread_attr_init(&attributes) != 0 || pthread_attr_setstack(&attributes, stack, sizeof stack) != 0 ||
+        pthread_create(&thread, &attributes, on_thread, &call) != 0 || pthread_join(thread, NULL) != 0) {
+        fail("no thread with a stack of its own");
+    }
+    pthread_attr_destroy(&attributes);
+}
+
+/* The bytes that a call takes below its arguments. */
+static size_t below(void (*call)(int probe)) {
+    at_call = NULL;
+    run(call);
+    uint8_t *caller = at_caller;
+    run(call);
+    if (caller != at_caller) {
+        fail("the probe was called from another place");
+    }
+    size_t untouched = 0;
+    while (untouched < sizeof stack && stack[untouched] == PAINT) {
+        untouched++;
+    }
+    return (size_t)(at_call - (stack + untouched));
+}
+
+int main(int count, char **words) {
+    size_t most = count > 1 ? strtoull(words[1], NULL, 10) : SIZE_MAX;
+    int failed = 0;
+    make_plan();
+    make_state();
+    printf("%-22s %10s %10s %10s\n", "export", "arguments", "below", "together");
+    for (size_t at = 0; at < sizeof exports / sizeof exports[0]; at++) {
+        size_t taken = below(exports[at].call);
+        size_t together = exports[at].arguments + taken;
+        printf("%-22s %10zu %10zu %10zu%s\n", exports[at].name, exports[at].arguments, taken, together,
+               together > most ? "  too much" : "");
+        failed |= together > most;
+    }
+    return failed;
+}

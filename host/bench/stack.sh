@@ -1,0 +1,9 @@
+#!/bin/sh
+# Prints the bytes of stack that each export takes; with a number, fails where one takes more bytes than that.
+# The library must be built: rt staticlib coreshare. From anywhere: host/bench/stack.sh [MOST]
+set -eu
+cd "$(dirname "$0")"
+made=../../target/host
+mkdir -p "$made"
+${CC:-cc} -O2 -Wall -pthread stack.c ../../target/staticlib/libcoreshare.a -o "$made/stack"
+"$made/stack" "$@"
