@@ -1,6 +1,7 @@
 // The dispatcher's calls. A fresh start and a release cross as they are; a tick's answer is told in numbers.
 ghost use mathlib.Core.Path.{_≡_};
 ghost use Rattle.dispatcher.specs.Promises.{Starts, Releases};
+ghost use Rattle.sheet.specs.Promises.{Sheets};
 ghost use Rattle.coreshare.specs.Told.{told};
 ghost use Rattle.coreshare.specs.Promises.{TellsTick, TellsRun};
 use crate::Run;
@@ -72,6 +73,13 @@ pub extern "C" fn cs_release(state: Dispatcher, guest: u32, task: u32) -> Releas
     ensures { λ r. ⌜ Releases state guest task r ⌝ }
 {
     state.release(guest, task)
+}
+
+#[no_mangle]
+pub extern "C" fn cs_sheet(state: Dispatcher, pairs: &[u64], answers: &mut [u32]) -> Released
+    ensures { λ r. ⌜ Sheets state (now (pairs .entry)) (now (answers .entry)) r (now (answers .exit)) ⌝ }
+{
+    sheet::release_all(state, pairs, answers)
 }
 
 #[no_mangle]

@@ -99,10 +99,11 @@ pub throughout-pairs :
 unfolding Throughout EachRelease releases stateAfter after
 throughout-pairs P pairs zero d h f = tt
 throughout-pairs P [] (suc n) d h f = absurd (omega arith)
-throughout-pairs P (pair ∷ pairs) (suc n) d h f =
-    (f 0 (omega arith),
-    throughout-pairs P pairs n (pairReleased d pair .state) (omega arith)
-    (λ j l. rw (← after-first pair pairs d j) (f (suc j) (omega arith))))
+throughout-pairs P (pair ∷ pairs) (suc n) d h f = (
+  f 0 (omega arith),
+  throughout-pairs P pairs n (pairReleased d pair .state) (omega arith)
+      (λ j l. rw (← after-first pair pairs d j) (f (suc j) (omega arith))),
+)
 
 -- No release before pair i is taken.
 pub none-up-to :
