@@ -27,3 +27,4 @@ pub mod Above
 pub mod FinishedBy
 pub mod NeverLate
 pub mod NeverTurnedAway
+pub mod Times
