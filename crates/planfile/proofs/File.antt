@@ -4,7 +4,8 @@ use mathlib.Core.Bool.{Bool, true, false}
 use mathlib.Core.List.{List}
 use Prim.Native.Nat.{ℕ, _+_, _*_, _-_, _%_, _≤_, _<_}
 use native.Mathlib.Omega.{arith}
-use lib.ListN.{length, take, drop}
+use lib.ListN.{length, take, drop, length-drop}
+use lib.Seq.{length-take-le}
 use borrow.Author.Tests.{eqb-true}
 use Rattle.plan.specs.Ranges.{within}
 use Rattle.plan.specs.First.{refused, firstRefused}
@@ -53,6 +54,10 @@ file-in s e =
       size = size-says (length s) (c .0);
       blocks = λ k h. none-refused (numberAt s) (blocksIn s) 0 (c .1) k (omega arith) (omega arith);
     }
+
+-- a block has 512 bytes
+pub block-long : (s : List ℕ) (k : ℕ) → k < blocksIn s → length (blockAt s k) ≡ 512
+block-long s k l = length-take-le 512 (drop (512 * k) s) (rw (length-drop (512 * k) s) (omega arith))
 
 -- a part of 512 bytes from block k's first on is block k
 pub part-at : (s : List ℕ) (k : ℕ) → take (512 * k + 512 - 512 * k) (drop (512 * k) s) ≡ blockAt s k

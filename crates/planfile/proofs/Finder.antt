@@ -2,9 +2,8 @@
 use mathlib.Core.Path.{_≡_, refl, sym, ap, _∙_}
 use mathlib.Core.Bool.{Bool}
 use mathlib.Core.List.{List, []}
-use Prim.Native.Nat.{ℕ, zero, suc, _+_, _*_, _/_, _≤_, _<_}
+use Prim.Native.Nat.{ℕ, zero, suc, _≤_, _<_}
 use native.Mathlib.Omega.{arith}
-use lib.ListN.{length}
 use lib.Dec.{eqb}
 use Rattle.lists.specs.declared.Found.{Found}
 use Rattle.lists.specs.declared.Found.the-variants.{At, Nothing}
@@ -63,12 +62,12 @@ placed-below : (p : ℕ → Bool) (n : ℕ) (f : Found) → Says p n 0 f → pla
 placed-below p n Nothing w e = absurd (omega arith)
 placed-below p n (At y) w e = let h = w .high in omega arith
 
--- so the block lies within the bytes
-pub found-within : (s : List ℕ) (id : ℕ) → foundPlace s id .number ≡ 0 → 512 * foundPlace s id .place + 512 ≤ length s
+-- so the place that was found is one of the blocks
+pub found-within : (s : List ℕ) (id : ℕ) → foundPlace s id .number ≡ 0 → foundPlace s id .place < blocksIn s
 unfolding foundPlace
 found-within s id e =
     let o = or-none (fileRefusal s .number) (fileRefusal s .place) (placed (firstWith s id)) e in
     let z : placed (firstWith s id) .number ≡ 0 = ap (λ (r : Refusal). r .number) (sym (o .1)) ∙ e in
-    let b : placed (firstWith s id) .place < length s / 512 = placed-below (λ k. eqb (idAt s k) id) (blocksIn s) (firstWith s id) (least-says (λ k. eqb (idAt s k) id) (blocksIn s) 0) z in
+    let b : placed (firstWith s id) .place < blocksIn s = placed-below (λ k. eqb (idAt s k) id) (blocksIn s) (firstWith s id) (least-says (λ k. eqb (idAt s k) id) (blocksIn s) 0) z in
     let q : foundPlace s id .place ≡ placed (firstWith s id) .place = ap (λ (r : Refusal). r .place) (o .1) in
     omega arith

@@ -1,11 +1,11 @@
 // The blocks of a plan one by one, in order.
 ghost use mathlib.Core.Path.{_≡_};
-ghost use Prim.Native.Nat.{_+_, _*_, _≤_, _<_};
-ghost use lib.ListN.{length};
+ghost use Prim.Native.Nat.{_≤_, _<_};
+ghost use Rattle.plan.specs.Ranges.{mostGuests};
 ghost use Rattle.plan.specs.First.{firstRefused};
 ghost use Rattle.plan.specs.Order.{newId};
 ghost use Rattle.block.specs.Reading.{guestOf};
-ghost use Rattle.planfile.specs.File.{blockAt, idAt, sizeOk, numberAt, fileRefusal};
+ghost use Rattle.planfile.specs.File.{blockAt, idAt, blocksIn, sizeOk, numberAt, fileRefusal};
 ghost use Rattle.planfile.specs.Records.{recordsOf};
 use plan::Guest;
 use plan::Refusal;
@@ -17,19 +17,27 @@ pub fn size_ok(n: usize) -> bool
     ((1 <= n) & (n <= 4096)) & (n % 512 == 0)
 }
 
-// The guest id in block k.
-pub fn id_at(s: &[u8], k: usize) -> u32
-    requires { ⌜ (k < 8) × (512 * k + 512 ≤ length (now s)) ⌝ }
-    ensures { λ r. ⌜ r ≡ idAt (now (s .entry)) k ⌝ }
+// Block k of the bytes, a part of them.
+pub fn block_at(s: &[u8], k: usize) -> &[u8]
+    requires { ⌜ k < blocksIn (now s) ⌝ }
+    ensures { λ r. ⌜ now r ≡ blockAt (now (s .entry)) k ⌝ }
 {
     let a = 512 * k;
     let e = a + 512;
-    block::id_of(&s[a..e])
+    &s[a..e]
+}
+
+// The guest id in block k.
+pub fn id_at(s: &[u8], k: usize) -> u32
+    requires { ⌜ k < blocksIn (now s) ⌝ }
+    ensures { λ r. ⌜ r ≡ idAt (now (s .entry)) k ⌝ }
+{
+    block::id_of(block_at(s, k))
 }
 
 // Whether block k's id is no earlier block's.
 fn is_new(s: &[u8], k: usize) -> bool
-    requires { ⌜ (k < 8) × (512 * k + 512 ≤ length (now s)) ⌝ }
+    requires { ⌜ k < blocksIn (now s) ⌝ }
     ensures { λ r. ⌜ r ≡ newId (idAt (now (s .entry))) k ⌝ }
 {
     let id = id_at(s, k);
@@ -44,28 +52,23 @@ fn is_new(s: &[u8], k: usize) -> bool
 
 // The number that block k is refused by.
 fn number_at(s: &[u8], k: usize) -> u32
-    requires { ⌜ (k < 8) × (512 * k + 512 ≤ length (now s)) ⌝ }
+    requires { ⌜ (k < mostGuests) × (k < blocksIn (now s)) ⌝ }
     ensures { λ r. ⌜ r ≡ numberAt (now (s .entry)) k ⌝ }
 {
-    let fresh = is_new(s, k);
-    let a = 512 * k;
-    let e = a + 512;
-    block::block_number(&s[a..e], k as u32, fresh)
+    block::block_number(block_at(s, k), k as u32, is_new(s, k))
 }
 
 // The record of block k.
 fn guest_at(s: &[u8], k: usize) -> Guest
-    requires { ⌜ (k < 8) × (512 * k + 512 ≤ length (now s)) ⌝ }
+    requires { ⌜ k < blocksIn (now s) ⌝ }
     ensures { λ r. ⌜ r ≡ guestOf (blockAt (now (s .entry)) k) ⌝ }
 {
-    let a = 512 * k;
-    let e = a + 512;
-    block::decode(&s[a..e])
+    block::decode(block_at(s, k))
 }
 
 // The records of the first n blocks, and records of zeros.
 pub fn records_of(s: &[u8], n: usize) -> [Guest; 8]
-    requires { ⌜ (n ≤ 8) × (512 * n ≤ length (now s)) ⌝ }
+    requires { ⌜ (n ≤ mostGuests) × (n ≤ blocksIn (now s)) ⌝ }
     ensures { λ r. ⌜ r ≡ recordsOf (now (s .entry)) n ⌝ }
 {
     let mut guests = [plan::blank_guest(); 8];
@@ -80,7 +83,7 @@ pub fn records_of(s: &[u8], n: usize) -> [Guest; 8]
 
 // The first refusal of the first n blocks.
 fn first_refused(s: &[u8], n: usize) -> Refusal
-    requires { ⌜ (n ≤ 8) × (512 * n ≤ length (now s)) ⌝ }
+    requires { ⌜ (n ≤ mostGuests) × (n ≤ blocksIn (now s)) ⌝ }
     ensures { λ r. ⌜ r ≡ firstRefused (numberAt (now (s .entry))) n 0 ⌝ }
 {
     let mut k: usize = 0;

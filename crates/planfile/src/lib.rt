@@ -1,7 +1,8 @@
 // Plan files: read into records, records checked, a guest's block written, and found by the guest's id.
 ghost use mathlib.Core.Path.{_≡_};
-ghost use Prim.Native.Nat.{_*_, _≤_};
-ghost use lib.ListN.{length};
+ghost use Prim.Native.Nat.{_≤_};
+ghost use Rattle.plan.specs.Ranges.{mostGuests};
+ghost use Rattle.planfile.specs.File.{blocksIn};
 ghost use Rattle.planfile.specs.Records.{recordsOf};
 ghost use Rattle.planfile.specs.Promises.{Reads, Finds, FindsPlace};
 use plan::Plan;
@@ -22,7 +23,7 @@ pub struct Reading {
 
 // The records of the first n blocks under a refusal.
 fn with_records(bytes: &[u8], n: usize, refusal: Refusal) -> Reading
-    requires { ⌜ (n ≤ 8) × (512 * n ≤ length (now bytes)) ⌝ }
+    requires { ⌜ (n ≤ mostGuests) × (n ≤ blocksIn (now bytes)) ⌝ }
     ensures { λ r. ⌜ r ≡ record { refusal = refusal; plan = record { count = n; guests = recordsOf (now (bytes .entry)) n } } ⌝ }
 {
     let guests = blocks::records_of(bytes, n);
@@ -65,7 +66,5 @@ pub fn find(bytes: &[u8], id: u32) -> &[u8]
     if 0 < r.number {
         return &bytes[..0];
     }
-    let a = 512 * (r.place as usize);
-    let e = a + 512;
-    &bytes[a..e]
+    blocks::block_at(bytes, r.place as usize)
 }

@@ -1,10 +1,10 @@
 // The search for a guest's block by the guest's id.
 ghost use mathlib.Core.Path.{_≡_};
-ghost use Prim.Native.Nat.{_*_, _≤_};
-ghost use lib.ListN.{length};
+ghost use Prim.Native.Nat.{_≤_};
 ghost use lib.Dec.{eqb};
 ghost use Rattle.lists.specs.Search.{least};
-ghost use Rattle.planfile.specs.File.{idAt};
+ghost use Rattle.plan.specs.Ranges.{mostGuests};
+ghost use Rattle.planfile.specs.File.{idAt, blocksIn};
 ghost use Rattle.planfile.specs.Finder.{placed};
 use crate::blocks::id_at;
 use lists::Found;
@@ -12,7 +12,7 @@ use plan::Refusal;
 
 // The first of the first n blocks that has the id.
 pub fn place_of(s: &[u8], id: u32, n: usize) -> Found
-    requires { ⌜ (n ≤ 8) × (512 * n ≤ length (now s)) ⌝ }
+    requires { ⌜ (n ≤ mostGuests) × (n ≤ blocksIn (now s)) ⌝ }
     ensures { λ r. ⌜ r ≡ least (λ k. eqb (idAt (now (s .entry)) k) id) n 0 ⌝ }
 {
     let mut k: usize = 0;

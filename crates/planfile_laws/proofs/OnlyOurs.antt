@@ -4,8 +4,8 @@ use mathlib.Core.List.{List}
 use Prim.Native.Nat.{ℕ, _+_, _*_, _<_}
 use native.Mathlib.Decide.{decLt}
 use native.Mathlib.Omega.{arith}
-use lib.ListN.{length, drop, replicate, length-take, length-drop, List·getD-eq-default}
-use lib.Seq.{take-all, length-take-le, getD-take, getD-drop}
+use lib.ListN.{drop, replicate, length-take, List·getD-eq-default}
+use lib.Seq.{take-all, getD-take, getD-drop}
 use Rattle.plan.specs.declared.Guest.{Guest}
 use Rattle.plan.specs.Records.{guestAt, absent, blank}
 use Rattle.plan.specs.First.{fine}
@@ -22,16 +22,13 @@ use Rattle.lists.proofs.Refusals.{none-left, go-on}
 use Rattle.block.proofs.Reading.{block-in}
 use Rattle.plan.proofs.First.{first-fine}
 use Rattle.lists.proofs.Table.{table-before}
-use Rattle.planfile.proofs.File.{FileIn, file-in}
+use Rattle.planfile.proofs.File.{FileIn, file-in, block-long}
 use Rattle.planfile_laws.proofs.BlockOnly.{written-again}
 use Rattle.planfile_laws.proofs.Joined.{joined-ext, blocks-joined}
 
 module _ (s : List ℕ) (ok : fileRefusal s .number ≡ 0) where
   inside : FileIn s
   inside = file-in s ok
-
-  block-long : (k : ℕ) → k < blocksIn s → length (blockAt s k) ≡ 512
-  block-long k l = length-take-le 512 (drop (512 * k) s) (rw (length-drop (512 * k) s) (omega arith))
 
   block-bytes : Bytes s → (k : ℕ) → Bytes (blockAt s k)
   block-bytes bytes k i =
@@ -42,7 +39,7 @@ module _ (s : List ℕ) (ok : fileRefusal s .number ≡ 0) where
 
   block-again : Bytes s → (k : ℕ) → k < blocksIn s → blockOf (guestOf (blockAt s k)) k ≡ blockAt s k
   unfolding numberAt
-  block-again bytes k l = written-again (blockAt s k) k (newId (idAt s) k) (block-long k l) (block-bytes bytes k) (inside .blocks k l)
+  block-again bytes k l = written-again (blockAt s k) k (newId (idAt s) k) (block-long s k l) (block-bytes bytes k) (inside .blocks k l)
 
   guest-at : (k : ℕ) → k < blocksIn s → guestAt (recordsOf s (blocksIn s)) k ≡ guestOf (blockAt s k)
   unfolding recordsOf

@@ -2,55 +2,37 @@
 use mathlib.Core.Path.{ap, _∙_}
 use mathlib.Core.List.{List}
 use Prim.Native.Nat.{ℕ}
+use lib.ListN.{length}
 use borrow.Author.Needs.{needs}
-use Rattle.planfile.specs.File.{blockAt, numberAt}
 use Rattle.block.specs.Reading.{blockNumber}
-use Rattle.planfile.proofs.File.{part-at}
+use Rattle.planfile.specs.File.{blockAt, numberAt}
+use Rattle.planfile.proofs.File.{block-long}
 use Rattle.planfile.proofs.blocks.number_at.Statement.{statement}
 use Rattle.planfile.proofs.blocks.number_at.Tie as tie
 
-is-new-requires : tie.Need-is-new-requires
-is-new-requires c κs = search needs
-
-mul-a : tie.Need-mul-a
-mul-a c = search needs
-
-add-e : tie.Need-add-e
-add-e c = search needs
-
-sub-block-number : tie.Need-sub-block-number
-sub-block-number c = search needs
-
-part-block-number-start : tie.Need-part-block-number-start
-part-block-number-start c = search needs
-
-part-block-number-end : tie.Need-part-block-number-end
-part-block-number-end c = search needs
+block-at-requires : tie.Need-block-at-requires
+block-at-requires c κs = search needs
 
 cast-block-number : tie.Need-cast-block-number
 cast-block-number c = search needs
 
+is-new-requires : tie.Need-is-new-requires
+is-new-requires c κs = search needs
+
 block-number-requires : tie.Need-block-number-requires
-block-number-requires c κs = search needs
+block-number-requires c κs = let b = c .before in let a = b .before .before in ap length (b .block-at .ensures) ∙ block-long (a .args .s .now) (a .args .k) (a .pre .1)
 
 returns : tie.Need-returns
 unfolding numberAt
 returns c =
-    let w = c .before .before in
-    let a = w .before .before .args in
-    c .block-number .ensures ∙ ap (λ (b : List ℕ). blockNumber b (a .k) (w .is-new .result)) (part-at (a .s .now) (a .k))
-    ∙ ap (blockNumber (blockAt (a .s .now) (a .k)) (a .k)) (w .is-new .ensures)
+    let n = c .before in
+    let b = n .before in
+    let a = b .before .before .args in
+    c .block-number .ensures
+    ∙ ap (λ (x : List ℕ). blockNumber x (a .k) (n .is-new .result)) (b .block-at .ensures)
+    ∙ ap (blockNumber (blockAt (a .s .now) (a .k)) (a .k)) (n .is-new .ensures)
 
 pub number-at-spec : {M : Type 1} → statement M
 number-at-spec =
     tie.close
-    (tie.spec
-    is-new-requires
-    mul-a
-    add-e
-    sub-block-number
-    part-block-number-start
-    part-block-number-end
-    cast-block-number
-    block-number-requires
-    returns)
+    (tie.spec block-at-requires cast-block-number is-new-requires block-number-requires returns)
