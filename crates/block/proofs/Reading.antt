@@ -6,9 +6,9 @@ use Prim.Native.Nat.{ℕ, _+_, _-_, _≤_, _<_}
 use native.Mathlib.Omega.{arith}
 use lib.Dec.{eqb}
 use borrow.Author.Tests.{eqb-true}
+use Rattle.plan.specs.Ranges.{mostTasks, guestOk, taskOk, tasksOk}
 use Rattle.lists.specs.Places.{nth}
 use Rattle.words.specs.Word.{word}
-use Rattle.plan.specs.Ranges.{guestOk, taskOk, tasksOk}
 use Rattle.block.specs.Reading.{taskCount, column, guestOf, sumsToZero, kindOk, ownPlace, zeroBetween, zerosOk, blockNumber}
 use Rattle.lists.specs.All.{allTo}
 use Rattle.block.specs.Layout.{runWord, everyWord, deadlineWord}
@@ -54,7 +54,7 @@ module _ (b : List ℕ) (p : ℕ) (new : Bool) where
           none e = sym (go-on 2 _ s ∙ go-on 3 _ k ∙ go-on 4 _ h ∙ go-on 5 _ z ∙ go-on 6 _ e ∙ none-left)
 
 -- so there are at most 16 tasks where the head passes
-pub few-in-block : (b : List ℕ) (new : Bool) → (guestOk (guestOf b) && new) ≡ true → taskCount b ≤ 16
+pub few-in-block : (b : List ℕ) (new : Bool) → (guestOk (guestOf b) && new) ≡ true → taskCount b ≤ mostTasks
 few-in-block b new e = head-says _ _ _ _ (and-left (guestOk (guestOf b)) new e) .few
 
 -- the tasks' test on columns that are the block's
@@ -89,6 +89,6 @@ zero-at b from to k l h e =
     rw q at (eqb-true (word b (from + (k - from))) 0 (all-at (λ i. eqb (word b (from + i)) 0) (to - from) (k - from) (omega arith) e))
 
 -- a column's number
-pub column-at : (b : List ℕ) (at : ℕ → ℕ) (i : ℕ) → i < 16 → nth (column b at) i ≡ word b (at i)
+pub column-at : (b : List ℕ) (at : ℕ → ℕ) (i : ℕ) → i < mostTasks → nth (column b at) i ≡ word b (at i)
 unfolding column
-column-at b at i h = table-at (λ k. word b (at k)) 0 16 i h
+column-at b at i h = table-at (λ k. word b (at k)) 0 mostTasks i h

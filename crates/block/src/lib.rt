@@ -5,7 +5,7 @@ ghost use Rattle.block.specs.Promises.{Writes};
 use plan::Guest;
 use plan::Refusal;
 
-mod layout;
+pub mod layout;
 mod reader;
 mod writer;
 

@@ -8,8 +8,9 @@ use lib.ListN.{length, take, drop, length-drop}
 use lib.Seq.{length-take-le}
 use borrow.Author.Tests.{eqb-true}
 use Rattle.plan.specs.Ranges.{within}
+use Rattle.block.specs.Layout.{blockSize}
 use Rattle.plan.specs.First.{refused, firstRefused}
-use Rattle.planfile.specs.File.{blockAt, blocksIn, sizeOk, numberAt, sizedBy, fileRefusal}
+use Rattle.planfile.specs.File.{blockAt, blocksIn, mostBytes, sizeOk, numberAt, sizedBy, fileRefusal}
 use Rattle.lists.proofs.All.{and-left, and-right}
 use Rattle.plan.proofs.Ranges.{within-says}
 use Rattle.plan.proofs.First.{none-refused}
@@ -17,13 +18,13 @@ use Rattle.plan.proofs.First.{none-refused}
 -- a right length
 pub record SizeIn (n : ℕ) : Type 0 where
   pub some : 1 ≤ n
-  pub most : n ≤ 4096
-  pub whole : n % 512 ≡ 0
+  pub most : n ≤ mostBytes
+  pub whole : n % blockSize ≡ 0
 
 pub size-says : (n : ℕ) → sizeOk n ≡ true → SizeIn n
 size-says n e =
-    let w = within-says 1 4096 n (and-left (within 1 4096 n) _ e) in
-    record { some = w .0; most = w .1; whole = eqb-true (n % 512) 0 (and-right (within 1 4096 n) _ e) }
+    let w = within-says 1 mostBytes n (and-left (within 1 mostBytes n) _ e) in
+    record { some = w .0; most = w .1; whole = eqb-true (n % blockSize) 0 (and-right (within 1 mostBytes n) _ e) }
 
 -- the length is right: the first refusal of the blocks
 pub sized : (s : List ℕ) → sizeOk (length s) ≡ true → firstRefused (numberAt s) (blocksIn s) 0 ≡ fileRefusal s
@@ -55,10 +56,10 @@ file-in s e =
       blocks = λ k h. none-refused (numberAt s) (blocksIn s) 0 (c .1) k (omega arith) (omega arith);
     }
 
--- a block has 512 bytes
-pub block-long : (s : List ℕ) (k : ℕ) → k < blocksIn s → length (blockAt s k) ≡ 512
-block-long s k l = length-take-le 512 (drop (512 * k) s) (rw (length-drop (512 * k) s) (omega arith))
+-- A part that is block k has the size of a block.
+pub part-long : (s part : List ℕ) (k : ℕ) → part ≡ blockAt s k → k < blocksIn s → length part ≡ blockSize
+part-long s part k e l = rw e (length-take-le blockSize (drop (blockSize * k) s) (rw (length-drop (blockSize * k) s) (omega arith)))
 
 -- a part of 512 bytes from block k's first on is block k
-pub part-at : (s : List ℕ) (k : ℕ) → take (512 * k + 512 - 512 * k) (drop (512 * k) s) ≡ blockAt s k
-part-at s k = let d : 512 * k + 512 - 512 * k ≡ 512 = omega arith in rw d refl
+pub part-at : (s : List ℕ) (k : ℕ) → take (blockSize * k + blockSize - blockSize * k) (drop (blockSize * k) s) ≡ blockAt s k
+part-at s k = let d : blockSize * k + blockSize - blockSize * k ≡ blockSize = omega arith in rw d refl

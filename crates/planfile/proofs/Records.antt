@@ -4,6 +4,7 @@ use mathlib.Core.List.{List}
 use Prim.Native.Nat.{ℕ, zero, suc, _+_, _≤_, _<_}
 use native.Mathlib.Omega.{arith}
 use lib.ListN.{set, replicate}
+use Rattle.plan.specs.Ranges.{mostGuests}
 use Rattle.lists.specs.Table.{table}
 use Rattle.plan.specs.declared.Guest.{Guest}
 use Rattle.plan.specs.declared.Plan.{Plan}
@@ -16,15 +17,15 @@ use Rattle.planfile.specs.Records.{recordsOf, planBy, readOf}
 use Rattle.lists.proofs.Table.{table-turn}
 
 -- no block is read yet
-pub no-records : (s : List ℕ) → replicate 8 blank ≡ recordsOf s 0
+pub no-records : (s : List ℕ) → replicate mostGuests blank ≡ recordsOf s 0
 unfolding recordsOf table
 no-records s = refl
 
 -- a loop's turn: block k's record is put in
-pub records-next : (s : List ℕ) (k : ℕ) (gs : List Guest) (g : Guest) → k < 8 → gs ≡ recordsOf s k → g ≡ guestOf (blockAt s k)
+pub records-next : (s : List ℕ) (k : ℕ) (gs : List Guest) (g : Guest) → k < mostGuests → gs ≡ recordsOf s k → g ≡ guestOf (blockAt s k)
     → set gs k g ≡ recordsOf s (k + 1)
 unfolding recordsOf
-records-next s k gs g h e q = table-turn (λ i. guestOf (blockAt s i)) blank k (replicate 8 blank) gs g h e q
+records-next s k gs g h e q = table-turn (λ i. guestOf (blockAt s i)) blank k (replicate mostGuests blank) gs g h e q
 
 -- a plan of zeros holds no block's record
 blank-plan : (n : ℕ) (s : List ℕ) → 0 < n → record { count = 0; guests = recordsOf s 0 } ≡ planBy n s

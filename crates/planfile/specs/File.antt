@@ -23,9 +23,13 @@ idAt s k = idIn (blockAt s k)
 abbrev pub blocksIn : List ℕ → ℕ
 blocksIn s = length s / blockSize
 
+-- the length of 8 blocks, 4,096
+abbrev pub mostBytes : ℕ
+mostBytes = blockSize * mostGuests
+
 -- passes 1: a length of 1 to 4,096, a multiple of 512
 abbrev pub sizeOk : ℕ → Bool
-sizeOk n = within 1 (blockSize * mostGuests) n && eqb (n % blockSize) 0
+sizeOk n = within 1 mostBytes n && eqb (n % blockSize) 0
 
 -- the number that block k is refused by
 unfoldable pub numberAt : List ℕ → ℕ → ℕ

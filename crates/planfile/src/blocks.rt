@@ -7,14 +7,18 @@ ghost use Rattle.plan.specs.Order.{newId};
 ghost use Rattle.block.specs.Reading.{guestOf};
 ghost use Rattle.planfile.specs.File.{blockAt, idAt, blocksIn, sizeOk, numberAt, fileRefusal};
 ghost use Rattle.planfile.specs.Records.{recordsOf};
+use block::layout;
 use plan::Guest;
 use plan::Refusal;
+
+// The length of 8 blocks.
+const MOST_BYTES: usize = 8 * layout::SIZE;
 
 // Refusal 1's test.
 pub fn size_ok(n: usize) -> bool
     ensures { λ r. ⌜ r ≡ sizeOk n ⌝ }
 {
-    ((1 <= n) & (n <= 4096)) & (n % 512 == 0)
+    ((1 <= n) & (n <= MOST_BYTES)) & (n % layout::SIZE == 0)
 }
 
 // Block k of the bytes, a part of them.
@@ -22,8 +26,8 @@ pub fn block_at(s: &[u8], k: usize) -> &[u8]
     requires { ⌜ k < blocksIn (now s) ⌝ }
     ensures { λ r. ⌜ now r ≡ blockAt (now (s .entry)) k ⌝ }
 {
-    let a = 512 * k;
-    let e = a + 512;
+    let a = layout::SIZE * k;
+    let e = a + layout::SIZE;
     &s[a..e]
 }
 
@@ -108,7 +112,7 @@ pub fn refusal_of(s: &[u8]) -> Refusal
     ensures { λ r. ⌜ r ≡ fileRefusal (now (s .entry)) ⌝ }
 {
     if size_ok(s.len()) {
-        first_refused(s, s.len() / 512)
+        first_refused(s, s.len() / layout::SIZE)
     } else {
         Refusal {
             number: 1,

@@ -5,6 +5,7 @@ ghost use Rattle.plan.specs.Ranges.{mostGuests};
 ghost use Rattle.planfile.specs.File.{blocksIn};
 ghost use Rattle.planfile.specs.Records.{recordsOf};
 ghost use Rattle.planfile.specs.Promises.{Reads, Finds, FindsPlace};
+use block::layout;
 use plan::Plan;
 use plan::Refusal;
 
@@ -44,7 +45,7 @@ pub fn read(bytes: &[u8]) -> Reading
     if 0 < refusal.number {
         return with_records(bytes, 0, refusal);
     }
-    with_records(bytes, bytes.len() / 512, refusal)
+    with_records(bytes, bytes.len() / layout::SIZE, refusal)
 }
 
 // The place of a guest's block, or the refusal: the reading order, then 7.
@@ -55,7 +56,7 @@ pub fn find_place(bytes: &[u8], id: u32) -> Refusal
     if 0 < r.number {
         return r;
     }
-    search::placed_at(search::place_of(bytes, id, bytes.len() / 512))
+    search::placed_at(search::place_of(bytes, id, bytes.len() / layout::SIZE))
 }
 
 // The guest's block as it stands in the bytes; an empty part on a refusal.

@@ -20,7 +20,8 @@ use Rattle.plan.specs.Ranges.{guestOk}
 use Rattle.block.specs.Reading.{guestOf, blockNumber}
 use Rattle.planfile.specs.Finder.{firstWith, placed, foundPlace, found}
 use Rattle.planfile.specs.File.{blockAt, idAt, blocksIn, sizeOk, numberAt, sizedBy, fileRefusal}
-use Rattle.planfile_laws.specs.Exact.{_exactlyWhen_, FirstAt}
+use Rattle.block.specs.Exactly.{_exactlyWhen_}
+use Rattle.planfile_laws.specs.Exact.{FirstAt}
 use Rattle.lists.proofs.All.{and-right, all-at}
 use Rattle.lists.proofs.Search.{Says, least-says, count-at, count-none}
 use Rattle.block.proofs.Reading.{block-in}

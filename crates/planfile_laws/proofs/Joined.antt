@@ -7,6 +7,7 @@ use native.Mathlib.Nat.{eq-or-lt-of-le}
 use native.Mathlib.Omega.{arith}
 use lib.ListN.{length, take, length-append}
 use lib.Seq.{take-at, drop-at, take-add}
+use Rattle.block.specs.Layout.{blockSize}
 use Rattle.planfile.specs.File.{blockAt}
 use Rattle.planfile_laws.specs.File.{joined}
 
@@ -16,8 +17,8 @@ unfolding joined
 joined-ext f g zero h = refl
 joined-ext f g (suc n) h = rw (joined-ext f g n (λ k l. h k (omega arith)), h n (omega arith)) refl
 
-module _ (f : ℕ → List ℕ) (long : (k : ℕ) → length (f k) ≡ 512) where
-  pub joined-length : (n : ℕ) → length (joined f n) ≡ 512 * n
+module _ (f : ℕ → List ℕ) (long : (k : ℕ) → length (f k) ≡ blockSize) where
+  pub joined-length : (n : ℕ) → length (joined f n) ≡ blockSize * n
   unfolding joined
   joined-length zero = refl
   joined-length (suc n) = simp length-append (omega (arith, joined-length n, long n))
@@ -30,7 +31,7 @@ module _ (f : ℕ → List ℕ) (long : (k : ℕ) → length (f k) ≡ 512) wher
       rw append-assoc
       (⊎-elim
       (λ (e : k ≡ n).
-      rw e (ap (take 512) (drop-at (joined f n) (f n ++ t) (512 * n) (joined-length n)) ∙ take-at (f n) t 512 (long n)))
+      rw e (ap (take blockSize) (drop-at (joined f n) (f n ++ t) (blockSize * n) (joined-length n)) ∙ take-at (f n) t blockSize (long n)))
       (λ (m : k < n). joined-before n (f n ++ t) k m)
       (eq-or-lt-of-le {n = k} {m = n} (omega arith)))
 
@@ -39,9 +40,9 @@ module _ (f : ℕ → List ℕ) (long : (k : ℕ) → length (f k) ≡ 512) wher
   joined-at n k l = rw (← append-nil (joined f n)) (joined-before n [] k l)
 
 -- the blocks of a list joined are its first bytes
-pub blocks-joined : (s : List ℕ) (n : ℕ) → joined (blockAt s) n ≡ take (512 * n) s
+pub blocks-joined : (s : List ℕ) (n : ℕ) → joined (blockAt s) n ≡ take (blockSize * n) s
 unfolding joined
 blocks-joined s zero = refl
 blocks-joined s (suc n) =
-    let e : 512 * suc n ≡ 512 * n + 512 = omega arith in
-    rw (e, blocks-joined s n) (sym (take-add (512 * n) 512 s))
+    let e : blockSize * suc n ≡ blockSize * n + blockSize = omega arith in
+    rw (e, blocks-joined s n) (sym (take-add (blockSize * n) blockSize s))

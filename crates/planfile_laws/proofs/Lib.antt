@@ -5,6 +5,5 @@ pub mod BlockOnly
 pub mod Joined
 pub mod ReadBack
 pub mod OnlyOurs
-pub mod LayoutBytes
 pub mod Exact
 pub mod Worked

@@ -6,15 +6,16 @@ use Prim.Native.Nat.{ℕ, _*_, _%_, _≤_, _<_}
 use native.Mathlib.Omega.{arith}
 use lib.ListN.{length, drop, replicate}
 use borrow.Author.Tests.{eq-eqb, le-leb}
+use Rattle.plan.specs.Ranges.{mostGuests, headOk, taskOk, tasksOk}
+use Rattle.block.specs.Layout.{blockSize}
+use Rattle.block.specs.Reading.{guestOf}
 use Rattle.plan.specs.declared.Guest.{Guest}
 use Rattle.plan.specs.declared.Plan.{Plan}
 use Rattle.plan.specs.Records.{guestAt, blank}
-use Rattle.plan.specs.Ranges.{headOk, taskOk, tasksOk}
 use Rattle.plan.specs.First.{fine}
 use Rattle.plan.specs.Order.{newId, planRefusal}
-use Rattle.block.specs.Reading.{guestOf}
 use Rattle.block.specs.Writing.{blockOf, writeNumber, writeRefusal, written}
-use Rattle.planfile.specs.File.{blockAt, idAt, blocksIn, sizeOk, numberAt, fileRefusal}
+use Rattle.planfile.specs.File.{blockAt, idAt, blocksIn, mostBytes, sizeOk, numberAt, fileRefusal}
 use Rattle.planfile.specs.Records.{recordsOf, readOf}
 use Rattle.planfile_laws.specs.File.{fileOf, clearedGuest, cleared}
 use Rattle.planfile_laws.specs.Fits.{PlanInTypes}
@@ -56,7 +57,7 @@ module _ (p : Plan) (fits : PlanInTypes p) (ok : planRefusal p .number ≡ 0) wh
   s : List ℕ
   s = fileOf p
 
-  size : length s ≡ 512 * p .count
+  size : length s ≡ blockSize * p .count
   unfolding s fileOf blocks
   size = joined-length blocks (λ k. block-length (guestAt (p .guests) k) k) (p .count)
 
@@ -91,7 +92,7 @@ module _ (p : Plan) (fits : PlanInTypes p) (ok : planRefusal p .number ≡ 0) wh
       let a = inside .some in
       let b = inside .few in
       rw size
-      (and-true (and-true (le-leb 1 (512 * p .count) (omega arith)) (le-leb (512 * p .count) 4096 (omega arith))) (eq-eqb (512 * p .count % 512) 0 (omega arith)))
+      (and-true (and-true (le-leb 1 (blockSize * p .count) (omega arith)) (le-leb (blockSize * p .count) mostBytes (omega arith))) (eq-eqb (blockSize * p .count % blockSize) 0 (omega arith)))
 
   nothing-refused : fine ≡ fileRefusal s
   nothing-refused =
@@ -99,7 +100,7 @@ module _ (p : Plan) (fits : PlanInTypes p) (ok : planRefusal p .number ≡ 0) wh
 
   records-are : recordsOf s (p .count) ≡ cleared p .guests
   unfolding recordsOf cleared
-  records-are = ap (λ (gs : List Guest). gs ++ drop (p .count) (replicate 8 blank)) (table-ext _ _ (p .count) guest-at)
+  records-are = ap (λ (gs : List Guest). gs ++ drop (p .count) (replicate mostGuests blank)) (table-ext _ _ (p .count) guest-at)
 
   -- the whole file
   back : readOf s ≡ reading fine (cleared p)
@@ -115,9 +116,9 @@ unfolding s
 read-back p fits ok = back p fits ok
 
 -- and each block of that file is what the writer, which refuses none of them, leaves in the first 512 of the lent bytes
-pub written-so : (p : Plan) → planRefusal p .number ≡ 0 → (k : ℕ) → k < p .count → (before : List ℕ) → 512 ≤ length before
+pub written-so : (p : Plan) → planRefusal p .number ≡ 0 → (k : ℕ) → k < p .count → (before : List ℕ) → blockSize ≤ length before
     → (writeRefusal (guestAt (p .guests) k) k (length before) ≡ fine)
-    × (written (guestAt (p .guests) k) k before ≡ blockOf (guestAt (p .guests) k) k ++ drop 512 before)
+    × (written (guestAt (p .guests) k) k before ≡ blockOf (guestAt (p .guests) k) k ++ drop blockSize before)
 written-so p ok k l before h =
     let i = plan-in p ok in
     let g : Guest = guestAt (p .guests) k in

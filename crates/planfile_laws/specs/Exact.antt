@@ -2,11 +2,6 @@
 use mathlib.Core.Path.{_≡_}
 use Prim.Native.Nat.{ℕ, _+_, _≤_, _<_}
 
--- each from the other
-infix 20 _exactlyWhen_
-abbrev pub _exactlyWhen_ : Type 0 → Type 0 → Type 0
-A exactlyWhen B = (A → B) × (B → A)
-
 -- number n at place z is the first refusal of the m places from k on
 pub record FirstAt (f : ℕ → ℕ) (m k n z : ℕ) : Type 0 where
   pub low : k ≤ z

@@ -2,15 +2,15 @@
 use mathlib.Core.Path.{_≡_, refl, sym, ap, _∙_}
 use mathlib.Core.Logic.{_≢_, ⊎-elim}
 use mathlib.Core.List.{List, [], _∷_, _++_, append-assoc}
-use Prim.Native.Nat.{ℕ, zero, suc, _+_, _*_, _/_, _%_, _^_, _≤_, _<_}
+use Prim.Native.Nat.{ℕ, zero, suc, _+_, _*_, _/_, _%_, _≤_, _<_}
 use native.Mathlib.Numerals.{add-one}
 use native.Mathlib.Omega.{arith}
 use native.Mathlib.Nat.{eq-or-lt-of-le, div-div-eq-div-mul, mod-eq-of-lt}
 use lib.ListN.{length, getD, set, take, drop, replicate, length-append, replicate-append-replicate}
 use lib.Seq.{getD-set-same, getD-set-other}
 use Rattle.lists.specs.Places.{nth}
-use Rattle.words.specs.Word.{u32At, word}
-use Rattle.words.specs.Bytes.{bytes4, withU32, bytesOf}
+use Rattle.words.specs.Bytes.{Bytes, bytes4, withU32, withWord, bytesOf}
+use Rattle.words.specs.Word.{wordWrap, u32At, word}
 
 -- four bytes a word
 pub length-bytesOf : (f : ℕ → ℕ) (n : ℕ) → length (bytesOf f n) ≡ 4 * n
@@ -37,13 +37,13 @@ by256 x = omega arith
 -- a number's four bytes say it modulo 2 to the 32
 digits4 : (w r0 r1 r2 r3 q1 q2 q3 q4 : ℕ) → w ≡ r0 + 256 * q1 → q1 ≡ r1 + 256 * q2 → q2 ≡ r2 + 256 * q3 → q3 ≡ r3 + 256 * q4 →
     r0 < 256 → r1 < 256 → r2 < 256 → r3 < 256 →
-    r0 + 256 * r1 + 65536 * r2 + 16777216 * r3 ≡ w % 2 ^ 32
+    r0 + 256 * r1 + 65536 * r2 + 16777216 * r3 ≡ w % wordWrap
 digits4 w r0 r1 r2 r3 q1 q2 q3 q4 h0 h1 h2 h3 l0 l1 l2 l3 = omega arith
 
 byte : (x : ℕ) → x % 256 < 256
 byte x = omega arith
 
-join4-mod : (w : ℕ) → w % 256 + 256 * (w / 256 % 256) + 65536 * (w / 65536 % 256) + 16777216 * (w / 16777216 % 256) ≡ w % 2 ^ 32
+join4-mod : (w : ℕ) → w % 256 + 256 * (w / 256 % 256) + 65536 * (w / 65536 % 256) + 16777216 * (w / 16777216 % 256) ≡ w % wordWrap
 join4-mod w =
     digits4 w (w % 256) (w / 256 % 256) (w / 65536 % 256) (w / 16777216 % 256) (w / 256) (w / 65536) (w / 16777216) (w / 16777216 / 256)
     (by256 w)
@@ -69,7 +69,7 @@ split4 a b c d ha hb hc hd =
     rw (e, q1, q2, q3, low a (b + 256 * (c + 256 * d)) ha, low b (c + 256 * d) hb, low c d hc, mod-eq-of-lt hd)
 
 -- words of the bytes of words, modulo 2 to the 32
-pub word-bytesOf-mod : (f : ℕ → ℕ) (n : ℕ) (t : List ℕ) (k : ℕ) → k < n → word (bytesOf f n ++ t) k ≡ f k % 2 ^ 32
+pub word-bytesOf-mod : (f : ℕ → ℕ) (n : ℕ) (t : List ℕ) (k : ℕ) → k < n → word (bytesOf f n ++ t) k ≡ f k % wordWrap
 unfolding word bytesOf
 word-bytesOf-mod f zero t k l = absurd (omega arith)
 word-bytesOf-mod f (suc n) t k l =
@@ -81,7 +81,7 @@ word-bytesOf-mod f (suc n) t k l =
     (eq-or-lt-of-le {n = k} {m = n} (omega arith)))
 
 -- and themselves where they fit
-pub word-bytesOf : (f : ℕ → ℕ) (n : ℕ) (t : List ℕ) (k : ℕ) → k < n → f k < 2 ^ 32 → word (bytesOf f n ++ t) k ≡ f k
+pub word-bytesOf : (f : ℕ → ℕ) (n : ℕ) (t : List ℕ) (k : ℕ) → k < n → f k < wordWrap → word (bytesOf f n ++ t) k ≡ f k
 word-bytesOf f n t k l h = word-bytesOf-mod f n t k l ∙ mod-eq-of-lt h
 
 -- the first elements, and four more
@@ -100,7 +100,7 @@ take4 (a ∷ b ∷ []) zero h = absurd (omega arith)
 take4 (a ∷ b ∷ c ∷ []) zero h = absurd (omega arith)
 
 -- the bytes of a list's words are the list's
-pub bytesOf-word : (b : List ℕ) (n : ℕ) → 4 * n ≤ length b → ((i : ℕ) → getD b i 0 < 256) → bytesOf (word b) n ≡ take (4 * n) b
+pub bytesOf-word : (b : List ℕ) (n : ℕ) → 4 * n ≤ length b → Bytes b → bytesOf (word b) n ≡ take (4 * n) b
 unfolding word bytesOf
 bytesOf-word b zero h bs = refl
 bytesOf-word b (suc n) h bs =
@@ -129,7 +129,7 @@ bytes-ext f g zero h = refl
 bytes-ext f g (suc n) h = rw (bytes-ext f g n (λ k l. h k (omega arith)), h n (omega arith))
 
 put-last : (f g : ℕ → ℕ) (n k w : ℕ) (t : List ℕ) → k ≡ n → g k ≡ w → ((j : ℕ) → j ≢ k → g j ≡ f j) →
-    withU32 (bytesOf f n ++ (bytes4 (f n) ++ t)) (4 * k) w ≡ bytesOf g n ++ (bytes4 (g n) ++ t)
+    withWord (bytesOf f n ++ (bytes4 (f n) ++ t)) k w ≡ bytesOf g n ++ (bytes4 (g n) ++ t)
 put-last f g n k w t q e o =
     let h : g n ≡ w = rw (← q) e in
     let s : bytesOf g n ≡ bytesOf f n = bytes-ext g f n (λ j l. o j (λ p. omega arith)) in
@@ -138,7 +138,7 @@ put-last f g n k w t q e o =
 
 -- a word put among the bytes of words
 put-among : (f g : ℕ → ℕ) (n k w : ℕ) (t : List ℕ) → k < n → g k ≡ w → ((j : ℕ) → j ≢ k → g j ≡ f j) →
-    withU32 (bytesOf f n ++ t) (4 * k) w ≡ bytesOf g n ++ t
+    withWord (bytesOf f n ++ t) k w ≡ bytesOf g n ++ t
 unfolding bytesOf
 put-among f g zero k w t l e o = absurd (omega arith)
 put-among f g (suc n) k w t l e o =
@@ -150,7 +150,7 @@ put-among f g (suc n) k w t l e o =
 
 -- word k of a list put in
 pub put-set : (x : List ℕ) (n k w : ℕ) (t : List ℕ) → length x ≡ n → k < n →
-    withU32 (bytesOf (nth x) n ++ t) (4 * k) w ≡ bytesOf (nth (set x k w)) n ++ t
+    withWord (bytesOf (nth x) n ++ t) k w ≡ bytesOf (nth (set x k w)) n ++ t
 put-set x n k w t e l = put-among (nth x) (nth (set x k w)) n k w t l (getD-set-same x k w 0 (omega arith)) (λ j o. getD-set-other x k j w 0 o)
 
 -- one byte more is zero

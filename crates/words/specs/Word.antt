@@ -1,7 +1,15 @@
 -- Little-endian 32-bit words in a list of bytes.
 use mathlib.Core.List.{List}
-use Prim.Native.Nat.{ℕ, _+_, _*_}
+use Prim.Native.Nat.{ℕ, _+_, _*_, _^_}
 use Rattle.lists.specs.Places.{nth}
+
+-- A word holds the numbers below 4,294,967,296.
+abbrev pub wordWrap : ℕ
+wordWrap = 2 ^ 32
+
+-- The number that the two bytes from i on say, least first.
+abbrev pub u16At : List ℕ → ℕ → ℕ
+u16At b i = nth b i + 256 * nth b (i + 1)
 
 -- the number that the four bytes from i on say, least first
 abbrev pub u32At : List ℕ → ℕ → ℕ

@@ -4,7 +4,7 @@ use mathlib.Core.Bool.{true}
 use Prim.Native.Nat.{_≤_}
 use borrow.Author.Needs.{needs}
 use borrow.Author.Tests.{not-true, not-false}
-use Rattle.plan.specs.Ranges.{guestOk, tasksOk}
+use Rattle.plan.specs.Ranges.{mostTasks, guestOk, tasksOk}
 use Rattle.plan.proofs.Ranges.{head-says}
 use Rattle.block.proofs.Writing.{twelve, three, four, six, none}
 use Rattle.block.proofs.writer.write_number.Statement.{statement}
@@ -25,7 +25,7 @@ head-is : (c : tie.Else3) → guestOk (start c .args .g) ≡ true
 head-is c = sym (c .before .head-ok .ensures) ∙ not-false _ (c .if3 .left)
 
 -- so there are at most 16 tasks
-few : (c : tie.Else3) → start c .args .g .tasks ≤ 16
+few : (c : tie.Else3) → start c .args .g .tasks ≤ mostTasks
 few c = head-says _ _ _ _ (head-is c) .few
 
 returns : tie.Need-returns

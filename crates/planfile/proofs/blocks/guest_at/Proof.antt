@@ -2,10 +2,9 @@
 use mathlib.Core.Path.{ap, _∙_}
 use mathlib.Core.List.{List}
 use Prim.Native.Nat.{ℕ}
-use lib.ListN.{length}
 use borrow.Author.Needs.{needs}
 use Rattle.block.specs.Reading.{guestOf}
-use Rattle.planfile.proofs.File.{block-long}
+use Rattle.planfile.proofs.File.{part-long}
 use Rattle.planfile.proofs.blocks.guest_at.Statement.{statement}
 use Rattle.planfile.proofs.blocks.guest_at.Tie as tie
 
@@ -13,7 +12,7 @@ block-at-requires : tie.Need-block-at-requires
 block-at-requires c κs = search needs
 
 decode-requires : tie.Need-decode-requires
-decode-requires c κs = let a = c .before .before in ap length (c .block-at .ensures) ∙ block-long (a .args .s .now) (a .args .k) (a .pre)
+decode-requires c κs = part-long _ _ _ (c .block-at .ensures) (c .before .before .pre)
 
 returns : tie.Need-returns
 returns c = c .decode .ensures ∙ ap (λ (b : List ℕ). guestOf b) (c .before .block-at .ensures)

@@ -1,9 +1,8 @@
 -- `planfile::blocks::id_at` meets its contract: the part is block k. Assumes nothing.
 use mathlib.Core.Path.{ap, _∙_}
-use lib.ListN.{length}
 use borrow.Author.Needs.{needs}
 use Rattle.block.specs.Reading.{idIn}
-use Rattle.planfile.proofs.File.{block-long}
+use Rattle.planfile.proofs.File.{part-long}
 use Rattle.planfile.proofs.blocks.id_at.Statement.{statement}
 use Rattle.planfile.proofs.blocks.id_at.Tie as tie
 
@@ -11,7 +10,7 @@ block-at-requires : tie.Need-block-at-requires
 block-at-requires c κs = search needs
 
 id-of-requires : tie.Need-id-of-requires
-id-of-requires c κs = let a = c .before .before in ap length (c .block-at .ensures) ∙ block-long (a .args .s .now) (a .args .k) (a .pre)
+id-of-requires c κs = part-long _ _ _ (c .block-at .ensures) (c .before .before .pre)
 
 returns : tie.Need-returns
 returns c = c .id-of .ensures ∙ ap idIn (c .before .block-at .ensures)

@@ -2,11 +2,10 @@
 use mathlib.Core.Path.{ap, _∙_}
 use mathlib.Core.List.{List}
 use Prim.Native.Nat.{ℕ}
-use lib.ListN.{length}
 use borrow.Author.Needs.{needs}
 use Rattle.block.specs.Reading.{blockNumber}
 use Rattle.planfile.specs.File.{blockAt, numberAt}
-use Rattle.planfile.proofs.File.{block-long}
+use Rattle.planfile.proofs.File.{part-long}
 use Rattle.planfile.proofs.blocks.number_at.Statement.{statement}
 use Rattle.planfile.proofs.blocks.number_at.Tie as tie
 
@@ -20,7 +19,7 @@ is-new-requires : tie.Need-is-new-requires
 is-new-requires c κs = search needs
 
 block-number-requires : tie.Need-block-number-requires
-block-number-requires c κs = let b = c .before in let a = b .before .before in ap length (b .block-at .ensures) ∙ block-long (a .args .s .now) (a .args .k) (a .pre .1)
+block-number-requires c κs = let b = c .before in part-long _ _ _ (b .block-at .ensures) (b .before .before .pre .1)
 
 returns : tie.Need-returns
 unfolding numberAt

@@ -4,13 +4,14 @@ use Prim.Native.Nat.{_-_, _≤_}
 use native.Mathlib.Omega.{arith}
 use lib.ListN.{length, replicate, length-set}
 use borrow.Author.Needs.{needs}
+use Rattle.plan.specs.Ranges.{mostGuests}
 use Rattle.planfile.specs.Records.{recordsOf}
 use Rattle.planfile.proofs.Records.{no-records, records-next}
 use Rattle.planfile.proofs.blocks.records_of.Statement.{statement}
 use Rattle.planfile.proofs.blocks.records_of.Tie as tie
 
 abbrev Inv-loop : tie.InvT-loop
-Inv-loop s n guests₀ k₀ guests k = (k ≤ n) × ((guests ≡ recordsOf s k) × (length guests ≡ 8))
+Inv-loop s n guests₀ k₀ guests k = (k ≤ n) × ((guests ≡ recordsOf s k) × (length guests ≡ mostGuests))
 
 abbrev μ-loop : tie.MeasureT-loop
 μ-loop s n guests₀ k₀ guests k = n - k
@@ -19,7 +20,7 @@ blank-guest-requires : tie.Need-blank-guest-requires Inv-loop μ-loop
 blank-guest-requires c κs = search needs
 
 loop-holds : tie.Need-loop-holds Inv-loop μ-loop
-loop-holds c = let a = c .before .before .args in (search needs, (ap (replicate 8) (c .blank-guest .ensures) ∙ no-records (a .s .now), refl))
+loop-holds c = let a = c .before .before .args in (search needs, (ap (replicate mostGuests) (c .blank-guest .ensures) ∙ no-records (a .s .now), refl))
 
 guest-at-requires : tie.Need-guest-at-requires Inv-loop μ-loop
 guest-at-requires c κs = search needs
