@@ -21,7 +21,7 @@ use Rattle.lists.proofs.Sum.{sum-last}
 use Rattle.block.proofs.Reading.{zero-at, column-at}
 
 -- A word is its four bytes, least first.
-word-bytes : (b : List ℕ) (k : ℕ) → word b k ≡ u32At b (4 * k)
+pub word-bytes : (b : List ℕ) (k : ℕ) → word b k ≡ u32At b (4 * k)
 unfolding word
 word-bytes b k = refl
 
@@ -49,7 +49,7 @@ byte-of : (b : List ℕ) (i : ℕ) → word b (i / 4) ≡ 0 → nth b i ≡ 0
 byte-of b i e = let q : 4 * (i / 4) + i % 4 ≡ i = omega arith in rw q at (byte-at b (i / 4) (i % 4) (omega arith) e)
 
 -- The words from one on, up to another, are zero exactly when their bytes are.
-zero-bytes : (b : List ℕ) (from to : ℕ) → (zeroBetween b from to ≡ true) exactlyWhen ZeroBytes b (4 * from) (4 * to)
+pub zero-bytes : (b : List ℕ) (from to : ℕ) → (zeroBetween b from to ≡ true) exactlyWhen ZeroBytes b (4 * from) (4 * to)
 unfolding zeroBetween
 zero-bytes b from to = (
   λ e i l h. byte-of b i (zero-at b from to (i / 4) (omega arith) (omega arith) e),

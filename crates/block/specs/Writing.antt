@@ -56,12 +56,12 @@ writeNumber g place size =
     ∷ [])
 
 -- numbers 2 to 6 come with the place, all others with place 0
-abbrev pub numbered : (number place : ℕ) → Refusal
-numbered number place = refused number (pick (within 2 6 number) place 0)
+abbrev pub withPlace : (number place : ℕ) → Refusal
+withPlace number place = refused number (pick (within 2 6 number) place 0)
 
 -- the writer's refusal
 abbrev pub writeRefusal : Guest → (place size : ℕ) → Refusal
-writeRefusal g place size = numbered (writeNumber g place size) place
+writeRefusal g place size = withPlace (writeNumber g place size) place
 
 -- the lent bytes: the block and what stood behind it, or on a refusal what stood there
 unfoldable pub writtenBy : (number : ℕ) → (block before : List ℕ) → List ℕ

@@ -10,7 +10,7 @@ use Rattle.lists.specs.declared.Found.the-variants.{At, Nothing}
 use Rattle.plan.specs.declared.Refusal.{Refusal}
 use Rattle.plan.specs.First.{refused, orElse}
 use Rattle.planfile.specs.File.{blockAt, idAt, blocksIn, fileRefusal}
-use Rattle.planfile.specs.Finder.{firstWith, placed, foundPlace, partBy, found}
+use Rattle.planfile.specs.Finder.{firstWith, placeOrSeven, foundPlace, partBy, found}
 use Rattle.lists.proofs.Search.{Says, least-says}
 
 -- a number other than 0 stands
@@ -40,12 +40,12 @@ module _ (s : List ℕ) (id : ℕ) where
   -- reading is refused: so is finding
   pub place-refused : (r : Refusal) → r ≡ fileRefusal s → 0 < r .number → r ≡ foundPlace s id
   unfolding foundPlace
-  place-refused r e h = rw (← e) (or-here (r .number) (r .place) (placed (firstWith s id)) h)
+  place-refused r e h = rw (← e) (or-here (r .number) (r .place) (placeOrSeven (firstWith s id)) h)
 
   -- it is not: the place, or 7
-  pub place-found : (r q : Refusal) → r ≡ fileRefusal s → r .number ≤ 0 → q ≡ placed (firstWith s id) → q ≡ foundPlace s id
+  pub place-found : (r q : Refusal) → r ≡ fileRefusal s → r .number ≤ 0 → q ≡ placeOrSeven (firstWith s id) → q ≡ foundPlace s id
   unfolding foundPlace
-  place-found r q e h p = p ∙ rw (← e) (or-after (r .number) (r .place) (placed (firstWith s id)) (omega arith))
+  place-found r q e h p = p ∙ rw (← e) (or-after (r .number) (r .place) (placeOrSeven (firstWith s id)) (omega arith))
 
   -- a refusal: nothing
   pub found-none : (r : Refusal) → r ≡ foundPlace s id → 0 < r .number → [] ≡ found s id
@@ -58,7 +58,7 @@ module _ (s : List ℕ) (id : ℕ) where
   found-there r e h = let z : r .number ≡ 0 = omega arith in rw (← e, z) refl
 
 -- a place that was found is one of the blocks
-placed-below : (p : ℕ → Bool) (n : ℕ) (f : Found) → Says p n 0 f → placed f .number ≡ 0 → placed f .place < n
+placed-below : (p : ℕ → Bool) (n : ℕ) (f : Found) → Says p n 0 f → placeOrSeven f .number ≡ 0 → placeOrSeven f .place < n
 placed-below p n Nothing w e = absurd (omega arith)
 placed-below p n (At y) w e = let h = w .high in omega arith
 
@@ -66,8 +66,8 @@ placed-below p n (At y) w e = let h = w .high in omega arith
 pub found-within : (s : List ℕ) (id : ℕ) → foundPlace s id .number ≡ 0 → foundPlace s id .place < blocksIn s
 unfolding foundPlace
 found-within s id e =
-    let o = or-none (fileRefusal s .number) (fileRefusal s .place) (placed (firstWith s id)) e in
-    let z : placed (firstWith s id) .number ≡ 0 = ap (λ (r : Refusal). r .number) (sym (o .1)) ∙ e in
-    let b : placed (firstWith s id) .place < blocksIn s = placed-below (λ k. eqb (idAt s k) id) (blocksIn s) (firstWith s id) (least-says (λ k. eqb (idAt s k) id) (blocksIn s) 0) z in
-    let q : foundPlace s id .place ≡ placed (firstWith s id) .place = ap (λ (r : Refusal). r .place) (o .1) in
+    let o = or-none (fileRefusal s .number) (fileRefusal s .place) (placeOrSeven (firstWith s id)) e in
+    let z : placeOrSeven (firstWith s id) .number ≡ 0 = ap (λ (r : Refusal). r .number) (sym (o .1)) ∙ e in
+    let b : placeOrSeven (firstWith s id) .place < blocksIn s = placed-below (λ k. eqb (idAt s k) id) (blocksIn s) (firstWith s id) (least-says (λ k. eqb (idAt s k) id) (blocksIn s) 0) z in
+    let q : foundPlace s id .place ≡ placeOrSeven (firstWith s id) .place = ap (λ (r : Refusal). r .place) (o .1) in
     omega arith

@@ -4,7 +4,7 @@ use Prim.Native.Nat.{ℕ}
 use native.Mathlib.Omega.{arith}
 use lib.ListN.{length}
 use borrow.Author.Needs.{needs}
-use Rattle.block.specs.Writing.{numbered, writeNumber, blockOf}
+use Rattle.block.specs.Writing.{withPlace, writeNumber, blockOf}
 use Rattle.block.proofs.Writing.{by-refused, by-none, WriteIn, write-in}
 use Rattle.plan.proofs.Ranges.{head-says}
 use Rattle.block.proofs.write.Statement.{statement}
@@ -31,7 +31,7 @@ returns : tie.Need-returns
 returns c =
     let n = c .before .before in
     let a = n .before .before .args in
-    (c .with-place .ensures ∙ ap (λ (x : ℕ). numbered x (a .place)) (n .write-number .ensures), by-refused _ (blockOf (a .guest) (a .place)) (a .buf .now) (rw (n .write-number .ensures) at (c .before .if1 .taken)))
+    (c .with-place .ensures ∙ ap (λ (x : ℕ). withPlace x (a .place)) (n .write-number .ensures), by-refused _ (blockOf (a .guest) (a .place)) (a .buf .now) (rw (n .write-number .ensures) at (c .before .if1 .taken)))
 
 put-block-requires : tie.Need-put-block-requires
 put-block-requires c κs = let i = inside (c .before) in (i .room, (i .low, head-says _ _ _ _ (i .head) .few))
@@ -47,7 +47,7 @@ returns-2 c =
     let w = c .before .before .before in
     let o = w .before .before in
     let a = start o .args in
-    (c .with-place2 .ensures ∙ ap (λ (x : ℕ). numbered x (a .place)) (sym (none o)), w .put-block .ensures ∙ by-none _ _ (a .buf .now) (none o))
+    (c .with-place2 .ensures ∙ ap (λ (x : ℕ). withPlace x (a .place)) (sym (none o)), w .put-block .ensures ∙ by-none _ _ (a .buf .now) (none o))
 
 pub write-spec : {M : Type 1} → statement M
 write-spec =

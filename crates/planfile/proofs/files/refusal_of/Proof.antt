@@ -1,11 +1,11 @@
--- `planfile::blocks::refusal_of` meets its contract, by whether the length is right. Assumes nothing.
+-- `planfile::files::refusal_of` meets its contract, by whether the length is right. Assumes nothing.
 use mathlib.Core.Path.{sym, _∙_}
 use native.Mathlib.Omega.{arith}
 use lib.ListN.{length}
 use borrow.Author.Needs.{needs}
 use Rattle.planfile.proofs.File.{size-says, sized, unsized}
-use Rattle.planfile.proofs.blocks.refusal_of.Statement.{statement}
-use Rattle.planfile.proofs.blocks.refusal_of.Tie as tie
+use Rattle.planfile.proofs.files.refusal_of.Statement.{statement}
+use Rattle.planfile.proofs.files.refusal_of.Tie as tie
 
 size-ok-requires : tie.Need-size-ok-requires
 size-ok-requires c κs = search needs

@@ -1,4 +1,4 @@
--- `planfile::blocks::first_refused` meets its contract: what is left to pass has the same first refusal. Assumes nothing.
+-- `planfile::files::first_refused` meets its contract: what is left to pass has the same first refusal. Assumes nothing.
 use mathlib.Core.Path.{_≡_, refl, _∙_}
 use Prim.Native.Nat.{_-_, _≤_}
 use native.Mathlib.Omega.{arith}
@@ -6,8 +6,8 @@ use borrow.Author.Needs.{needs}
 use Rattle.plan.specs.First.{firstRefused}
 use Rattle.planfile.specs.File.{numberAt}
 use Rattle.plan.proofs.First.{first-here, first-next, first-end}
-use Rattle.planfile.proofs.blocks.first_refused.Statement.{statement}
-use Rattle.planfile.proofs.blocks.first_refused.Tie as tie
+use Rattle.planfile.proofs.files.first_refused.Statement.{statement}
+use Rattle.planfile.proofs.files.first_refused.Tie as tie
 
 abbrev Inv-loop : tie.InvT-loop
 Inv-loop s n k₀ k = (k ≤ n) × (firstRefused (numberAt s) (n - k) k ≡ firstRefused (numberAt s) n 0)

@@ -1,4 +1,4 @@
--- `planfile::blocks::records_of` meets its contract: after k turns the first k records stand. Assumes nothing.
+-- `planfile::files::records_of` meets its contract: after k turns the first k records stand. Assumes nothing.
 use mathlib.Core.Path.{_≡_, refl, ap, _∙_}
 use Prim.Native.Nat.{_-_, _≤_}
 use native.Mathlib.Omega.{arith}
@@ -7,8 +7,8 @@ use borrow.Author.Needs.{needs}
 use Rattle.plan.specs.Ranges.{mostGuests}
 use Rattle.planfile.specs.Records.{recordsOf}
 use Rattle.planfile.proofs.Records.{no-records, records-next}
-use Rattle.planfile.proofs.blocks.records_of.Statement.{statement}
-use Rattle.planfile.proofs.blocks.records_of.Tie as tie
+use Rattle.planfile.proofs.files.records_of.Statement.{statement}
+use Rattle.planfile.proofs.files.records_of.Tie as tie
 
 abbrev Inv-loop : tie.InvT-loop
 Inv-loop s n guests₀ k₀ guests k = (k ≤ n) × ((guests ≡ recordsOf s k) × (length guests ≡ mostGuests))
