@@ -1,4 +1,5 @@
-// A plan's bytes block by block: the refusal of reading, and the records. It meets specs/File.antt and specs/Records.antt.
+// A plan's bytes block by block: the refusal of reading, and the records. It meets specs/File.antt and
+// specs/Records.antt.
 ghost use mathlib.Core.Path.{_≡_};
 ghost use Prim.Native.Nat.{_≤_, _<_};
 ghost use Rattle.plan.specs.Ranges.{mostGuests};

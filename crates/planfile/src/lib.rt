@@ -25,7 +25,9 @@ pub struct Reading {
 // The records of the first n blocks under a refusal.
 fn with_records(bytes: &[u8], n: usize, refusal: Refusal) -> Reading
     requires { ⌜ (n ≤ mostGuests) × (n ≤ blocksIn (now bytes)) ⌝ }
-    ensures { λ r. ⌜ r ≡ record { refusal = refusal; plan = record { count = n; guests = recordsOf (now (bytes .entry)) n } } ⌝ }
+    ensures { λ r. ⌜
+        r ≡ record { refusal = refusal; plan = record { count = n; guests = recordsOf (now (bytes .entry)) n } }
+        ⌝ }
 {
     let guests = files::records_of(bytes, n);
     Reading {

@@ -20,12 +20,13 @@ use Rattle.block.specs.Exactly.{_exactlyWhen_}
 use Rattle.block.specs.Layout.{blockSize, blockWords, guestKind, spareFrom, spareTo, unusedFrom, checkWord}
 use Rattle.block.specs.Reading.{kindIn, placeIn, taskCount, sumsToZero, kindOk, ownPlace, zeroBetween, zerosOk}
 use Rattle.planfile.specs.File.{mostBytes, sizeOk}
-use Rattle.planfile_laws.specs.Causes.{Outside, WrongLength, WrongSum, WrongOpening, WrongHead, Seen, WrongZero, WrongTask}
+use Rattle.planfile_laws.specs.Causes.{Outside, WrongLength, WrongSum, WrongOpening, WrongHead, Seen, WrongGuest, WrongZero, TaskOutside, WrongTask}
 use Rattle.lists.proofs.All.{all-false, all-fails}
 use Rattle.block.proofs.Table.{word-bytes, zero-bytes}
 
 -- One of two tests fails.
-both-fail : (a b : Bool) {A B : Type 0} → (a ≡ false) exactlyWhen A → (b ≡ false) exactlyWhen B → ((a && b) ≡ false) exactlyWhen (A ⊎ B)
+both-fail : (a b : Bool) {A B : Type 0} → (a ≡ false) exactlyWhen A → (b ≡ false) exactlyWhen B
+    → ((a && b) ≡ false) exactlyWhen (A ⊎ B)
 both-fail true b p q = (
   λ e. inr (q .0 e),
   λ h. ⊎-elim (λ x. absurd (false≢true (sym (p .1 x)))) (λ y. q .1 y) h,
@@ -33,7 +34,8 @@ both-fail true b p q = (
 both-fail false b p q = (λ e. inl (p .0 refl), λ h. refl)
 
 -- One of the first n tests fails.
-some-fails : (f : ℕ → Bool) (n : ℕ) (A : ℕ → Type 0) → ((i : ℕ) → (f i ≡ false) exactlyWhen A i) → (allTo f n ≡ false) exactlyWhen ((i : ℕ) × ((i < n) × A i))
+some-fails : (f : ℕ → Bool) (n : ℕ) (A : ℕ → Type 0) → ((i : ℕ) → (f i ≡ false) exactlyWhen A i)
+    → (allTo f n ≡ false) exactlyWhen ((i : ℕ) × ((i < n) × A i))
 some-fails f n A h = (
   λ e. let o = all-false f n e in (o .0, (o .1, h (o .0) .0 (o .2))),
   λ o. sym (all-fails f n (o .0) (o .1 .0) (h (o .0) .1 (o .1 .1))),
@@ -51,25 +53,28 @@ eqb-fails a b = (eqb-false a b, ne-eqb a b)
 pub within-fails : (low high x : ℕ) → (within low high x ≡ false) exactlyWhen Outside low high x
 within-fails low high x = both-fail (leb low x) (leb x high) (leb-fails low x) (leb-fails x high)
 
--- 1
+-- 1: the length.
 pub length-fails : (n : ℕ) → (sizeOk n ≡ false) exactlyWhen WrongLength n
 length-fails n =
-    let w = both-fail (within 1 mostBytes n) (eqb (n % blockSize) 0) (within-fails 1 mostBytes n) (eqb-fails (n % blockSize) 0) in (
+    let w =
+    both-fail (within 1 mostBytes n) (eqb (n % blockSize) 0) (within-fails 1 mostBytes n)
+    (eqb-fails (n % blockSize) 0) in (
       λ e.
           ⊎-elim (λ o. ⊎-elim (λ l. inl (omega arith)) (λ l. inr (inr l)) o) (λ d. inr (inl d)) (w .0 e),
       λ h.
           w .1 (⊎-elim (λ e. inl (inl (omega arith))) (λ o. ⊎-elim (λ d. inr d) (λ l. inl (inr l)) o) h),
     )
 
--- 2
+-- 2: the sum.
 pub sum-fails : (b : List ℕ) → (sumsToZero b ≡ false) exactlyWhen WrongSum b
 sum-fails b = eqb-fails (wrapped (word b) blockWords) 0
 
--- 3
+-- 3: kind and place.
 pub opening-fails : (b : List ℕ) (place : ℕ) → ((kindOk b && ownPlace b place) ≡ false) exactlyWhen WrongOpening b place
-opening-fails b place = both-fail (kindOk b) (ownPlace b place) (eqb-fails (kindIn b) guestKind) (eqb-fails (placeIn b) place)
+opening-fails b place =
+    both-fail (kindOk b) (ownPlace b place) (eqb-fails (kindIn b) guestKind) (eqb-fails (placeIn b) place)
 
--- 4, but for the ids of earlier places
+-- 4: the guest's own numbers.
 pub head-fails : (g : Guest) → (guestOk g ≡ false) exactlyWhen WrongHead g
 unfolding headOk
 head-fails g =
@@ -89,7 +94,7 @@ head-fails g =
           h),
     )
 
--- 4, the ids of earlier places
+-- 4: the ids of earlier places.
 pub id-fails : (id : ℕ → ℕ) (k : ℕ) → (newId id k ≡ false) exactlyWhen Seen id k
 unfolding newId
 id-fails id k = some-fails (λ j. not (eqb (id j) (id k))) k (λ j. id j ≡ id k) (λ j. same j)
@@ -97,8 +102,9 @@ id-fails id k = some-fails (λ j. not (eqb (id j) (id k))) k (λ j. id j ≡ id 
     same : (j : ℕ) → (not (eqb (id j) (id k)) ≡ false) exactlyWhen (id j ≡ id k)
     same j = (λ e. eqb-true (id j) (id k) (not-false (eqb (id j) (id k)) e), λ e. rw (eq-eqb (id j) (id k) e) refl)
 
--- 4, both
-pub guest-fails : (g : Guest) (id : ℕ → ℕ) (k : ℕ) → ((guestOk g && newId id k) ≡ false) exactlyWhen (WrongHead g ⊎ Seen id k)
+-- 4: both.
+pub guest-fails : (g : Guest) (id : ℕ → ℕ) (k : ℕ)
+    → ((guestOk g && newId id k) ≡ false) exactlyWhen WrongGuest g id k
 guest-fails g id k = both-fail (guestOk g) (newId id k) (head-fails g) (id-fails id k)
 
 -- A word that is not zero has a byte that is not.
@@ -138,7 +144,7 @@ between-none b from to true e o = absurd (o .1 .1 (zero-bytes b from to .0 e (o 
 between-fails : (b : List ℕ) (from to : ℕ) → (zeroBetween b from to ≡ false) exactlyWhen byte-between b from to
 between-fails b from to = (between-some b from to, between-none b from to (zeroBetween b from to) refl)
 
--- 5
+-- 5: the bytes that must be zero.
 pub zeros-fail : (b : List ℕ) → (zerosOk b ≡ false) exactlyWhen WrongZero b
 unfolding byte-between
 zeros-fail b =
@@ -158,10 +164,11 @@ zeros-fail b =
           (h .1 .0)),
     )
 
--- a task's numbers
+-- A task's numbers.
 task-fails :
     (run every deadline : ℕ)
-    → (taskOk run every deadline ≡ false) exactlyWhen (Outside 1 longest run ⊎ (Outside 1 longest every ⊎ Outside 1 every deadline))
+    → (taskOk run every deadline ≡ false)
+    exactlyWhen TaskOutside run every deadline
 unfolding taskOk
 task-fails run every deadline =
     let a = both-fail _ _ (within-fails 1 longest run) (within-fails 1 longest every) in
@@ -170,11 +177,11 @@ task-fails run every deadline =
       λ h. b .1 (⊎-elim (λ x. inl (inl x)) (λ x. ⊎-elim (λ y. inl (inr y)) (λ y. inr y) x) h),
     )
 
--- 6
+-- 6: the tasks.
 pub tasks-fail : (g : Guest) → (tasksOk g ≡ false) exactlyWhen WrongTask g
 unfolding tasksOk
 tasks-fail g =
     some-fails
     (λ i. taskOk (runOf g i) (everyOf g i) (deadlineOf g i)) (g .tasks)
-    (λ i. Outside 1 longest (runOf g i) ⊎ (Outside 1 longest (everyOf g i) ⊎ Outside 1 (everyOf g i) (deadlineOf g i)))
+    (λ i. TaskOutside (runOf g i) (everyOf g i) (deadlineOf g i))
     (λ i. task-fails (runOf g i) (everyOf g i) (deadlineOf g i))

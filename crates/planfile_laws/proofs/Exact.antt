@@ -12,7 +12,7 @@ use Rattle.lists.specs.declared.Found.{Found}
 use Rattle.lists.specs.declared.Found.the-variants.{At, Nothing}
 use Rattle.lists.specs.Refusals.{refusal, unless, _orRefuse_}
 use Rattle.plan.specs.declared.Refusal.{Refusal}
-use Rattle.plan.specs.First.{refused, orElse, firstRefused}
+use Rattle.plan.specs.First.{refused, orElse}
 use Rattle.plan.specs.Order.{newId}
 use Rattle.plan.specs.Ranges.{guestOk, tasksOk}
 use Rattle.block.specs.Exactly.{_exactlyWhen_}
@@ -20,17 +20,18 @@ use Rattle.block.specs.Reading.{guestOf, sumsToZero, kindOk, ownPlace, zerosOk,
 use Rattle.planfile.specs.Finder.{firstWith, placeOrSeven, foundPlace, found}
 use Rattle.planfile.specs.File.{blockAt, idAt, blocksIn, sizeOk, numberAt, sizedBy, fileRefusal}
 use Rattle.planfile_laws.specs.Exact.{_notBut_, FirstAt}
-use Rattle.planfile_laws.specs.Causes.{WrongLength, WrongSum, WrongOpening, WrongHead, Seen, WrongZero, WrongTask}
+use Rattle.planfile_laws.specs.Causes.{WrongLength, WrongSum, WrongOpening, WrongGuest, WrongZero, WrongTask}
 use Rattle.lists.proofs.All.{and-right, all-at}
 use Rattle.lists.proofs.Search.{Says, least-says, count-at, count-none}
 use Rattle.block.proofs.Reading.{block-in}
 use Rattle.planfile.proofs.File.{sized, unsized, file-in}
 use Rattle.planfile.proofs.Finder.{found-none, found-there}
 use Rattle.planfile_laws.proofs.Causes.{length-fails, sum-fails, opening-fails, guest-fails, zeros-fail, tasks-fail}
-use Rattle.planfile_laws.proofs.Order.{among, not-given, given-first, given-later, first-is, one-first, place-first}
+use Rattle.planfile_laws.proofs.Order.{among, not-given, given-first, given-later, first-most, one-first, place-first}
 
 -- A block is refused by no number above 6.
-most-six : (t2 t3 t4 t5 t6 : Bool) → refusal (t2 orRefuse 2 ∷ t3 orRefuse 3 ∷ t4 orRefuse 4 ∷ t5 orRefuse 5 ∷ t6 orRefuse 6 ∷ []) ≤ 6
+most-six : (t2 t3 t4 t5 t6 : Bool)
+    → refusal (t2 orRefuse 2 ∷ t3 orRefuse 3 ∷ t4 orRefuse 4 ∷ t5 orRefuse 5 ∷ t6 orRefuse 6 ∷ []) ≤ 6
 unfolding refusal unless
 most-six false t3 t4 t5 t6 = omega arith
 most-six true false t4 t5 t6 = omega arith
@@ -41,53 +42,61 @@ most-six true true true true true = omega arith
 
 -- The numbers of block k: each is given exactly when its cause holds and none of those before it does.
 module _ (s : List ℕ) (k : ℕ) where
-  -- 2: the block's words do not sum to zero
+  -- 2: the block's words do not sum to zero.
   pub two-exactly : (numberAt s k ≡ 2) exactlyWhen WrongSum (blockAt s k)
   unfolding numberAt blockNumber among
   two-exactly = given-first (sumsToZero (blockAt s k)) 2 _ (omega arith) refl (sum-fails (blockAt s k))
 
-  -- 3: the kind is not 1, or the place is not the block's own
+  -- 3: the kind is not 1, or the place is not the block's own.
   pub three-exactly : (numberAt s k ≡ 3) exactlyWhen (WrongSum (blockAt s k) notBut WrongOpening (blockAt s k) k)
   unfolding numberAt blockNumber among
   three-exactly =
       given-later (sumsToZero (blockAt s k)) 2 3 _ (λ q. omega arith) (sum-fails (blockAt s k))
       (given-first (kindOk (blockAt s k) && ownPlace (blockAt s k) k) 3 _ (omega arith) refl (opening-fails (blockAt s k) k))
 
-  -- 4: the id is 0 or already seen in an earlier block, or capacity, period or number of tasks is outside its range
+  -- 4: the id is 0 or already seen in an earlier block, or capacity, period or number of tasks is outside its range.
   pub four-exactly :
       (numberAt s k ≡ 4)
-      exactlyWhen (WrongSum (blockAt s k) notBut WrongOpening (blockAt s k) k notBut (WrongHead (guestOf (blockAt s k)) ⊎ Seen (idAt s) k))
+      exactlyWhen
+      (WrongSum (blockAt s k) notBut WrongOpening (blockAt s k) k notBut WrongGuest (guestOf (blockAt s k)) (idAt s) k)
   unfolding numberAt blockNumber among
   four-exactly =
       given-later (sumsToZero (blockAt s k)) 2 4 _ (λ q. omega arith) (sum-fails (blockAt s k))
       (given-later (kindOk (blockAt s k) && ownPlace (blockAt s k) k) 3 4 _ (λ q. omega arith) (opening-fails (blockAt s k) k)
-      (given-first (guestOk (guestOf (blockAt s k)) && newId (idAt s) k) 4 _ (omega arith) refl (guest-fails (guestOf (blockAt s k)) (idAt s) k)))
+      (given-first (guestOk (guestOf (blockAt s k)) && newId (idAt s) k) 4 _ (omega arith) refl
+      (guest-fails (guestOf (blockAt s k)) (idAt s) k)))
 
-  -- 5: a byte that must be zero is not
+  -- 5: a byte that must be zero is not.
   pub five-exactly :
       (numberAt s k ≡ 5)
-      exactlyWhen (WrongSum (blockAt s k) notBut WrongOpening (blockAt s k) k notBut (WrongHead (guestOf (blockAt s k)) ⊎ Seen (idAt s) k) notBut WrongZero (blockAt s k))
+      exactlyWhen
+      (WrongSum (blockAt s k)
+      notBut WrongOpening (blockAt s k) k
+      notBut WrongGuest (guestOf (blockAt s k)) (idAt s) k
+      notBut WrongZero (blockAt s k))
   unfolding numberAt blockNumber among
   five-exactly =
       given-later (sumsToZero (blockAt s k)) 2 5 _ (λ q. omega arith) (sum-fails (blockAt s k))
       (given-later (kindOk (blockAt s k) && ownPlace (blockAt s k) k) 3 5 _ (λ q. omega arith) (opening-fails (blockAt s k) k)
-      (given-later (guestOk (guestOf (blockAt s k)) && newId (idAt s) k) 4 5 _ (λ q. omega arith) (guest-fails (guestOf (blockAt s k)) (idAt s) k)
+      (given-later (guestOk (guestOf (blockAt s k)) && newId (idAt s) k) 4 5 _ (λ q. omega arith)
+      (guest-fails (guestOf (blockAt s k)) (idAt s) k)
       (given-first (zerosOk (blockAt s k)) 5 _ (omega arith) refl (zeros-fail (blockAt s k)))))
 
-  -- 6: a task's run, period or deadline is outside its range
+  -- 6: a task's run, period or deadline is outside its range.
   pub six-exactly :
       (numberAt s k ≡ 6)
       exactlyWhen (
       WrongSum (blockAt s k)
       notBut WrongOpening (blockAt s k) k
-      notBut (WrongHead (guestOf (blockAt s k)) ⊎ Seen (idAt s) k)
+      notBut WrongGuest (guestOf (blockAt s k)) (idAt s) k
       notBut WrongZero (blockAt s k)
       notBut WrongTask (guestOf (blockAt s k)))
   unfolding numberAt blockNumber among
   six-exactly =
       given-later (sumsToZero (blockAt s k)) 2 6 _ (λ q. omega arith) (sum-fails (blockAt s k))
       (given-later (kindOk (blockAt s k) && ownPlace (blockAt s k) k) 3 6 _ (λ q. omega arith) (opening-fails (blockAt s k) k)
-      (given-later (guestOk (guestOf (blockAt s k)) && newId (idAt s) k) 4 6 _ (λ q. omega arith) (guest-fails (guestOf (blockAt s k)) (idAt s) k)
+      (given-later (guestOk (guestOf (blockAt s k)) && newId (idAt s) k) 4 6 _ (λ q. omega arith)
+      (guest-fails (guestOf (blockAt s k)) (idAt s) k)
       (given-later (zerosOk (blockAt s k)) 5 6 _ (λ q. omega arith) (zeros-fail (blockAt s k))
       (given-first (tasksOk (guestOf (blockAt s k))) 6 [] (omega arith) refl (tasks-fail (guestOf (blockAt s k)))))))
 
@@ -96,7 +105,7 @@ module _ (s : List ℕ) (k : ℕ) where
   never-one = not-given _ 1 (omega arith) refl
 
 module _ (s : List ℕ) where
-  -- 1: the length is 0, not a multiple of 512, or above 4,096
+  -- 1: the length is 0, not a multiple of 512, or above 4,096.
   pub one-exactly : (fileRefusal s .number ≡ 1) exactlyWhen WrongLength (length s)
   one-exactly =
       one-first (numberAt s) (blocksIn s) (fileRefusal s) (never-one s) (sizeOk (length s))
@@ -107,7 +116,9 @@ module _ (s : List ℕ) where
   one-place e = sym (unsized s (length-fails (length s) .1 (one-exactly .0 e)))
 
   -- A number from 2 on at place k: the length is right, block k has that number, and every block before it has none.
-  pub block-exactly : (n k : ℕ) → (fileRefusal s ≡ refused (suc (suc n)) k) exactlyWhen (WrongLength (length s) notBut FirstAt (numberAt s) (blocksIn s) 0 (suc (suc n)) k)
+  pub block-exactly : (n k : ℕ)
+      → (fileRefusal s ≡ refused (suc (suc n)) k)
+      exactlyWhen (WrongLength (length s) notBut FirstAt (numberAt s) (blocksIn s) 0 (suc (suc n)) k)
   block-exactly n k =
       place-first (numberAt s) (blocksIn s) (fileRefusal s) (never-one s) (sizeOk (length s)) n k
       (λ e. sym (unsized s e)) (λ e. sym (sized s e)) (length-fails (length s))
@@ -116,51 +127,52 @@ module _ (s : List ℕ) where
   unfolding numberAt blockNumber
   number-most k = most-six _ _ _ _ _
 
-  -- no number of reading is above 6
+  -- No number of reading is above 6.
   most-by : (b : Bool) → sizedBy b s .number ≤ 6
   unfolding sizedBy
   most-by false = omega arith
-  most-by true = go (firstRefused (numberAt s) (blocksIn s) 0 .number) refl
-    where
-      go : (x : ℕ) → firstRefused (numberAt s) (blocksIn s) 0 .number ≡ x → firstRefused (numberAt s) (blocksIn s) 0 .number ≤ 6
-      go zero e = omega arith
-      go (suc n) e =
-          rw e (rw (first-is (numberAt s) (blocksIn s) 0 n (firstRefused (numberAt s) (blocksIn s) 0 .place) (λ i. record { number = e i; place = firstRefused (numberAt s) (blocksIn s) 0 .place }) .number) at (number-most (firstRefused (numberAt s) (blocksIn s) 0 .place)))
+  most-by true = first-most (numberAt s) 6 number-most (blocksIn s) 0
 
   most : fileRefusal s .number ≤ 6
   unfolding fileRefusal
   most = most-by (sizeOk (length s))
 
--- a number that the search gave: reading gave none
-past-file : (x q n k : ℕ) (r : Refusal) → x ≤ 6 → orElse x q r ≡ refused n k → (6 < n) ⊎ (n ≡ 0) → (x ≡ 0) × (r ≡ refused n k)
+-- Where the search gave the number, reading gave none.
+past-file : (x q n k : ℕ) (r : Refusal) → x ≤ 6 → orElse x q r ≡ refused n k → (6 < n) ⊎ (n ≡ 0)
+    → (x ≡ 0) × (r ≡ refused n k)
 unfolding orElse
 past-file zero q n k r l e h = (refl, e)
 past-file (suc x) q n k r l e h =
     absurd (let a : suc x ≡ n = ap (λ (r : Refusal). r .number) e in ⊎-elim (λ b. omega arith) (λ b. omega arith) h)
 
--- reading gave none: the search decides
+-- Where reading gave none, the search decides.
 orElse-zero : (x q : ℕ) (r : Refusal) → x ≡ 0 → orElse x q r ≡ r
 unfolding orElse
 orElse-zero x q r e = rw e refl
 
 module _ (s : List ℕ) (id : ℕ) where
-  searched : (n k : ℕ) → foundPlace s id ≡ refused n k → (6 < n) ⊎ (n ≡ 0) → (fileRefusal s .number ≡ 0) × (placeOrSeven (firstWith s id) ≡ refused n k)
+  searched : (n k : ℕ) → foundPlace s id ≡ refused n k → (6 < n) ⊎ (n ≡ 0)
+      → (fileRefusal s .number ≡ 0) × (placeOrSeven (firstWith s id) ≡ refused n k)
   unfolding foundPlace
-  searched n k e h = past-file (fileRefusal s .number) (fileRefusal s .place) n k (placeOrSeven (firstWith s id)) (most s) e h
+  searched n k e h =
+      past-file (fileRefusal s .number) (fileRefusal s .place) n k (placeOrSeven (firstWith s id)) (most s) e h
 
-  -- by what the search found
-  seven-by : (f : Found) → Says (λ k. eqb (idAt s k) id) (blocksIn s) 0 f → placeOrSeven f ≡ refused 7 0 → (k : ℕ) → k < blocksIn s → idAt s k ≡ id → ⊥
+  -- What 7 says, by what the search found.
+  seven-by : (f : Found) → Says (λ k. eqb (idAt s k) id) (blocksIn s) 0 f → placeOrSeven f ≡ refused 7 0 → (k : ℕ)
+      → k < blocksIn s → idAt s k ≡ id → ⊥
   seven-by Nothing w e k l q = false≢true (sym (w .never k (omega arith) (omega arith)) ∙ eq-eqb _ _ q)
   seven-by (At y) w e k l q = let z : _≡_ {A = ℕ} 0 7 = ap (λ (r : Refusal). r .number) e in omega arith
 
-  there-by : (f : Found) (k : ℕ) → Says (λ k. eqb (idAt s k) id) (blocksIn s) 0 f → placeOrSeven f ≡ refused 0 k → (k < blocksIn s) × (idAt s k ≡ id)
+  there-by : (f : Found) (k : ℕ) → Says (λ k. eqb (idAt s k) id) (blocksIn s) 0 f → placeOrSeven f ≡ refused 0 k
+      → (k < blocksIn s) × (idAt s k ≡ id)
   there-by Nothing k w e = absurd (let z : _≡_ {A = ℕ} 7 0 = ap (λ (r : Refusal). r .number) e in omega arith)
   there-by (At y) k w e =
       let q : y ≡ k = ap (λ (r : Refusal). r .place) e in
       (omega (arith, w .high), ap (idAt s) (sym q) ∙ eqb-true _ _ (w .holds))
 
-  -- 7: the plan is well formed, and no block has the id
-  pub seven-exactly : (foundPlace s id ≡ refused 7 0) exactlyWhen ((fileRefusal s .number ≡ 0) × ((k : ℕ) → k < blocksIn s → idAt s k ≡ id → ⊥))
+  -- 7: the plan is well formed, and no block has the id.
+  pub seven-exactly : (foundPlace s id ≡ refused 7 0)
+      exactlyWhen ((fileRefusal s .number ≡ 0) × ((k : ℕ) → k < blocksIn s → idAt s k ≡ id → ⊥))
   unfolding foundPlace
   seven-exactly = (
     λ e.
@@ -168,10 +180,11 @@ module _ (s : List ℕ) (id : ℕ) where
         (o .0, seven-by (firstWith s id) (least-says _ (blocksIn s) 0) (o .1)),
     λ h.
         orElse-zero (fileRefusal s .number) (fileRefusal s .place) (placeOrSeven (firstWith s id)) (h .0)
-        ∙ ap placeOrSeven (sym (count-none (λ k. eqb (idAt s k) id) (blocksIn s) (blocksIn s) (omega arith) (λ z l. ne-eqb _ _ (h .1 z l)))),
+        ∙ ap placeOrSeven
+        (sym (count-none (λ k. eqb (idAt s k) id) (blocksIn s) (blocksIn s) (omega arith) (λ z l. ne-eqb _ _ (h .1 z l)))),
   )
 
-  -- no two blocks of a well-formed plan have one id
+  -- No two blocks of a well-formed plan have one id.
   apart : fileRefusal s .number ≡ 0 → (j k : ℕ) → j < k → k < blocksIn s → idAt s j ≡ idAt s k → ⊥
   unfolding numberAt newId
   apart e j k l h q =
@@ -179,8 +192,9 @@ module _ (s : List ℕ) (id : ℕ) where
       let n = and-right (guestOk (guestOf (blockAt s k))) (newId (idAt s) k) (o .heads) in
       false≢true (sym (ap not (eq-eqb _ _ q)) ∙ all-at _ k j l n)
 
-  -- found at place k: the plan is well formed, and block k has the id
-  pub found-exactly : (k : ℕ) → (foundPlace s id ≡ refused 0 k) exactlyWhen ((fileRefusal s .number ≡ 0) × ((k < blocksIn s) × (idAt s k ≡ id)))
+  -- A block is found at place k: the plan is well formed, and block k has the id.
+  pub found-exactly : (k : ℕ)
+      → (foundPlace s id ≡ refused 0 k) exactlyWhen ((fileRefusal s .number ≡ 0) × ((k < blocksIn s) × (idAt s k ≡ id)))
   unfolding foundPlace
   found-exactly k = (
     λ e.
@@ -193,10 +207,10 @@ module _ (s : List ℕ) (id : ℕ) where
         (λ z l. ne-eqb _ _ (λ q. apart (h .0) z k l (h .1 .0) (q ∙ sym (h .1 .1)))) (eq-eqb _ _ (h .1 .1)))),
   )
 
-  -- so the finder hands back block k there
+  -- Where block k was found, the finder hands it back.
   pub found-block : (k : ℕ) → foundPlace s id ≡ refused 0 k → found s id ≡ blockAt s k
   found-block k e = sym (found-there s id (refused 0 k) (sym e) (omega arith))
 
-  -- and nothing on a refusal
+  -- On a refusal the finder hands back nothing.
   pub found-nothing : (n k : ℕ) → foundPlace s id ≡ refused (suc n) k → found s id ≡ []
   found-nothing n k e = sym (found-none s id (refused (suc n) k) (sym e) (omega arith))

@@ -1,4 +1,4 @@
--- `planfile::find_place` meets its contract: the reading's refusal, or the place that the search found. Assumes nothing.
+-- `planfile::find_place` meets its contract: reading's refusal, or what the search found. Assumes nothing.
 use mathlib.Core.Path.{ap, _∙_}
 use native.Mathlib.Omega.{arith}
 use borrow.Author.Needs.{needs}
@@ -12,7 +12,7 @@ use Rattle.planfile.proofs.find_place.Tie as tie
 abbrev start : tie.Else1 → tie.Start
 start c = c .before .before .before .before
 
--- past the test nothing is refused, so the length is right
+-- Past the test nothing is refused, so the length is right.
 inside : (c : tie.Else1) → FileIn (start c .args .bytes .now)
 inside c =
     let e = ap (λ (r : Refusal). r .number) (c .before .before .refusal-of .ensures) in

@@ -1,4 +1,4 @@
--- `planfile::files::first_refused` meets its contract: what is left to pass has the same first refusal. Assumes nothing.
+-- `planfile::files::first_refused` meets its contract: what is left has the same first refusal. Assumes nothing.
 use mathlib.Core.Path.{_≡_, refl, _∙_}
 use Prim.Native.Nat.{_-_, _≤_}
 use native.Mathlib.Omega.{arith}
@@ -29,7 +29,9 @@ returns c =
     let b = c .before in
     let l = b .before .before in
     let a = l .before .before .args in
-    first-here (numberAt (a .s .now)) (a .n) (l .loop .k) _ (b .before .loop-test .taken) (b .number-at .ensures) (c .if1 .taken) ∙ l .loop .inv .1
+    first-here (numberAt (a .s .now)) (a .n) (l .loop .k) _ (b .before .loop-test .taken) (b .number-at .ensures)
+    (c .if1 .taken)
+    ∙ l .loop .inv .1
 
 add-k : tie.Need-add-k Inv-loop μ-loop
 add-k c = search needs
@@ -41,8 +43,11 @@ loop-again : tie.Need-loop-again Inv-loop μ-loop
 loop-again c =
     let b = c .before in
     let l = b .before .before in
-    let a = l .before .before .args in
-    (search needs, first-next (numberAt (a .s .now)) (a .n) (l .loop .k) _ (b .before .loop-test .taken) (b .number-at .ensures) (c .if1 .left) ∙ l .loop .inv .1)
+    let a = l .before .before .args in (
+      search needs,
+      first-next (numberAt (a .s .now)) (a .n) (l .loop .k) _ (b .before .loop-test .taken) (b .number-at .ensures) (c .if1 .left)
+          ∙ l .loop .inv .1,
+    )
 
 returns-2 : tie.Need-returns-2 Inv-loop μ-loop
 returns-2 c = first-end _ _ _ (c .loop-test .left) ∙ c .before .loop .inv .1

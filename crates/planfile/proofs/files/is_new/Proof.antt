@@ -37,7 +37,8 @@ loop-less c = search needs
 loop-again : tie.Need-loop-again Inv-loop μ-loop
 loop-again c =
     let l = c .before .before in
-    (search needs, all-turn _ _ _ _ (l .loop .inv .1) (ap (λ (x : ℕ). not (eqb x (l .before .id-at .result))) (c .id-at2 .ensures)))
+    let other = ap (λ (x : ℕ). not (eqb x (l .before .id-at .result))) (c .id-at2 .ensures) in
+    (search needs, all-turn _ _ _ _ (l .loop .inv .1) other)
 
 returns : tie.Need-returns Inv-loop μ-loop
 unfolding newId

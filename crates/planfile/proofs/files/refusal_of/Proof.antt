@@ -11,7 +11,11 @@ size-ok-requires : tie.Need-size-ok-requires
 size-ok-requires c κs = search needs
 
 first-refused-requires : tie.Need-first-refused-requires
-first-refused-requires c κs = let z = size-says (length (c .before .before .before .args .s .now)) (sym (c .before .size-ok .ensures) ∙ c .if1 .taken) in omega arith
+first-refused-requires c κs =
+    let z =
+    size-says (length (c .before .before .before .args .s .now))
+    (sym (c .before .size-ok .ensures) ∙ c .if1 .taken) in
+    omega arith
 
 returns : tie.Need-returns
 returns c = c .first-refused .ensures ∙ sized _ (sym (c .before .before .size-ok .ensures) ∙ c .before .if1 .taken)

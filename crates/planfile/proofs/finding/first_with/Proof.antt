@@ -30,7 +30,8 @@ returns : tie.Need-returns Inv-loop μ-loop
 returns c =
     let l = c .before .before .before in
     let a = l .before .before .args in
-    count-at (λ i. eqb (idAt (a .s .now) i) (a .id)) (a .n) (l .loop .k) (c .before .before .loop-test .taken) (l .loop .inv .1)
+    count-at (λ i. eqb (idAt (a .s .now) i) (a .id)) (a .n) (l .loop .k) (c .before .before .loop-test .taken)
+    (l .loop .inv .1)
     (eq-eqb _ _ (sym (c .before .id-at .ensures) ∙ c .if1 .taken))
 
 add-k : tie.Need-add-k Inv-loop μ-loop
@@ -48,7 +49,8 @@ loop-again c =
 returns-2 : tie.Need-returns-2 Inv-loop μ-loop
 returns-2 c =
     let a = c .before .before .before .args in
-    count-none (λ i. eqb (idAt (a .s .now) i) (a .id)) (a .n) (c .before .loop .k) (c .loop-test .left) (c .before .loop .inv .1)
+    count-none (λ i. eqb (idAt (a .s .now) i) (a .id)) (a .n) (c .before .loop .k) (c .loop-test .left)
+    (c .before .loop .inv .1)
 
 pub first-with-spec : {M : Type 1} → statement M
 first-with-spec =
