@@ -1,11 +1,12 @@
 // Words of a plan's bytes changed, the checks of their blocks made right again or left as they were.
+use block::layout;
 use draft::text::Row;
 
 // Word `word` of block `place` set.
 fn put(buf: &mut [u8], place: usize, word: usize, value: u32) {
     if place < 8 {
-        if word < 128 {
-            let at = 512 * place + 4 * word;
+        if word < layout::WORDS {
+            let at = layout::SIZE * place + 4 * word;
             if at + 4 <= buf.len() {
                 words::put_u32(buf, at, value);
             }
@@ -17,8 +18,8 @@ fn put(buf: &mut [u8], place: usize, word: usize, value: u32) {
 fn sum_at(buf: &[u8], a: usize) -> u32 {
     if a <= buf.len() {
         let part = &buf[a..];
-        if 508 <= part.len() {
-            return words::sum_words(part, 127);
+        if 4 * layout::CHECK <= part.len() {
+            return words::sum_words(part, layout::CHECK);
         }
     }
     0
@@ -27,15 +28,16 @@ fn sum_at(buf: &[u8], a: usize) -> u32 {
 // The check of block `place` made right again.
 fn mend(buf: &mut [u8], place: usize) {
     if place < 8 {
-        let sum = sum_at(buf, 512 * place);
-        put(buf, place, 127, words::complement_of(sum));
+        let sum = sum_at(buf, layout::SIZE * place);
+        put(buf, place, layout::CHECK, words::complement_of(sum));
     }
 }
 
 // A word set, and its block mended if that is asked and the word is not the check itself.
 fn set(buf: &mut [u8], place: u32, word: u32, value: u32, mended: bool) {
-    put(buf, place as usize, word as usize, value);
-    if mended & (word < 127) {
+    let word = word as usize;
+    put(buf, place as usize, word, value);
+    if mended & (word < layout::CHECK) {
         mend(buf, place as usize);
     }
 }
