@@ -10,15 +10,15 @@ use Rattle.lists.specs.Sum.{sumTo}
 use Rattle.rounding.specs.Up.{up}
 use Rattle.equation.specs.Solve.{solve}
 use Rattle.plan.specs.Charge.{chargedRun}
-use Rattle.plan.specs.First.{orElse, firstRefused}
-use Rattle.plan.specs.Order.{newId, numberOf, guestNumber, countedBy, planRefusal}
-use Rattle.plan.specs.Place.{placeOf}
+use Rattle.plan.specs.First.{orElse, firstRefused, refusedBy}
+use Rattle.plan.specs.Order.{newId, numberOf, guestNumber, countedBy, planRefusal, recordsThen}
+use Rattle.plan.specs.Place.{placeOf, hasGuest, hasTask}
 use Rattle.plan.specs.Ranges.{headOk, taskOk, tasksOk}
 use Rattle.response.specs.Interference.{jitter, interference}
 use Rattle.response.specs.Guest.{guestRight, guestResponse, fitted, fittedTo}
 use Rattle.response.specs.Task.{gap, load, periods, taskRight, responseTo, limit, taskResponse}
 use Rattle.response.specs.Met.{met, allMet, accepted}
-use Rattle.verdict.specs.Verdict.{hasGuest, hasTask, recordsThen, refusedBy, guestVerdict, quotedBy, taskSays, taskVerdict, acceptSays, acceptance}
+use Rattle.verdict.specs.Verdict.{guestVerdict, quotedBy, taskSays, taskVerdict, acceptSays, acceptance}
 use Rattle.capacity.specs.Capacity.{withCapacity, works, smallest}
 use Rattle.capacity.specs.Answer.{smallestCapacity}
 use Rattle.dispatcher.specs.Valid.{tasksIn, guestInRange, taskInRange, rowOk, stateOk}

@@ -7,8 +7,8 @@ use borrow.Author.Tests.{eq-eqb, ne-eqb}
 use Rattle.lists.specs.Places.{nth}
 use Rattle.lists.specs.Search.{firstFrom}
 use Rattle.lists.proofs.Search.{first-hit, first-skip, first-none, first-all}
-use Rattle.plan.proofs.column.place_of.Statement.{statement}
-use Rattle.plan.proofs.column.place_of.Tie as tie
+use Rattle.plan.proofs.find.place_of.Statement.{statement}
+use Rattle.plan.proofs.find.place_of.Tie as tie
 
 abbrev Inv-loop : tie.InvT-loop
 Inv-loop ids n id k₀ k = (k ≤ n) × (firstFrom (λ j. eqb (nth ids j) id) (n - k) k ≡ firstFrom (λ j. eqb (nth ids j) id) n 0)
