@@ -69,7 +69,7 @@ exact :
 exact n period m left a b c =
     elim (decLt m period) [
       | yes l ↦ (let e = a l in record {
-        nine = (λ q. l, λ q. e);
+        nine = (λ q. omega arith, λ q. e);
         ten = (λ q. absurd (omega arith), λ q. absurd (omega (arith, q .0)));
         none = (λ q. absurd (omega arith), λ q. absurd (omega (arith, q .0)));
       })

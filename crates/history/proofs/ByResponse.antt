@@ -74,7 +74,7 @@ module _ (p : Plan) (P : PlanIn p) (g x : ℕ) (in-plan : g < p .count) (F : Fit
     shares = S;
     had = λ k h.
         elim (decLe (k * perOf p g + x) (length L)) [
-          | yes l ↦ count-old (names (idOf p g)) L (answer d ∷ []) (k * perOf p g) x l ∙ H .had k l
+          | yes l ↦ count-old (names (idOf p g)) L (answer d ∷ []) (k * perOf p g) x l ∙ H .had k (omega arith)
           | no n ↦ at-x (L ++ (answer d ∷ [])) (next d) (sound-next d D) S k (omega (arith, longer))
         ];
   }

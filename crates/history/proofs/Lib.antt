@@ -29,3 +29,4 @@ pub mod FinishedBy
 pub mod NeverLate
 pub mod NeverTurnedAway
 pub mod Pairs
+pub mod Times

@@ -60,7 +60,7 @@ pub never-14 : (p : Plan) → planRefusal p .number ≡ 0 → (cs : List Call) (
 never-14 p e cs c = not-14 c (play cs (start p)) (stays-played cs (start p) (start-ok p e))
 
 -- As many calls of a tick are as many ticks of the rule.
-pub times-ticks : (n : ℕ) (d : Dispatcher) → stateOk d ≡ true → play (times n) d ≡ ticks n d
+times-ticks : (n : ℕ) (d : Dispatcher) → stateOk d ≡ true → play (times n) d ≡ ticks n d
 unfolding play times ticks after
 times-ticks zero d ok = refl
 times-ticks (suc n) d ok = ap (play (times n)) (tick-state d ok) ∙ times-ticks n (next d) (ok-next d ok)

@@ -1,8 +1,6 @@
 -- All that is shown by computing, with the one list of definitions that are computed with. Inner: other files of this crate cite its parts.
-use mathlib.Core.Path.{_≡_, refl, ap, _∙_}
-use mathlib.Core.Bool.{true}
+use mathlib.Core.Path.{_≡_, refl}
 use mathlib.Core.List.{[], _∷_}
-use Prim.Native.Nat.{ℕ}
 use native.Mathlib.Omega.{arith}
 use lib.IntN.{negsuc}
 use Rattle.lists.specs.All.{allTo}
@@ -12,31 +10,30 @@ use Rattle.lists.specs.Sum.{sumTo}
 use Rattle.rounding.specs.Up.{up}
 use Rattle.equation.specs.Solve.{solve}
 use Rattle.plan.specs.Charge.{chargedRun}
-use Rattle.plan.specs.First.{orElse, firstRefused}
-use Rattle.plan.specs.Order.{newId, numberOf, guestNumber, countedBy, planRefusal}
-use Rattle.plan.specs.Place.{placeOf}
+use Rattle.plan.specs.First.{orElse, firstRefused, refusedBy}
+use Rattle.plan.specs.Order.{newId, numberOf, guestNumber, countedBy, planRefusal, recordsThen}
+use Rattle.plan.specs.Place.{placeOf, hasGuest, hasTask}
 use Rattle.plan.specs.Ranges.{headOk, taskOk, tasksOk}
 use Rattle.response.specs.Interference.{jitter, interference}
 use Rattle.response.specs.Guest.{guestRight, guestResponse, fitted, fittedTo}
 use Rattle.response.specs.Task.{gap, load, periods, taskRight, responseTo, limit, taskResponse}
 use Rattle.response.specs.Met.{met, allMet, accepted}
-use Rattle.verdict.specs.Verdict.{hasGuest, hasTask, recordsThen, refusedBy, guestVerdict, quotedBy, taskSays, taskVerdict, acceptSays, acceptance}
+use Rattle.verdict.specs.Verdict.{guestVerdict, quotedBy, taskSays, taskVerdict, acceptSays, acceptance}
 use Rattle.capacity.specs.Capacity.{withCapacity, works, smallest}
 use Rattle.capacity.specs.Answer.{smallestCapacity}
-use Rattle.dispatcher.specs.declared.Dispatcher.{Dispatcher}
 use Rattle.dispatcher.specs.Valid.{tasksIn, guestInRange, taskInRange, rowOk, stateOk}
 use Rattle.dispatcher.specs.Fresh.{idle, startedBy, fresh}
 use Rattle.dispatcher.specs.Release.{taken, releaseNumber, releasedBy, release}
 use Rattle.dispatcher.specs.Tick.{lessAt, refilled, holder, isHeld, leftAfter, worker, isWorked, restAfter, ageAfter, waitAfter, positionAfter, next}
 use Rattle.dispatcher.specs.Answer.{marginOf, answerBy, answer, finishes}
-use Rattle.dispatcher.specs.Run.{ticks, runFrom, runFor}
+use Rattle.dispatcher.specs.Run.{runFrom, runFor}
 use Rattle.dispatcher.specs.Entries.{tickedBy, tick, ranBy, run}
 use Rattle.lists.specs.Places.{upTo}
 use Rattle.results.specs.Numbers.{Numbers}
-use Rattle.history.specs.Calls.{running, start, after, play, released, times}
+use Rattle.history.specs.Calls.{running, start, after, play, times}
 use Rattle.verdict_laws.specs.Guests.{There}
 use Rattle.worked.specs.Plans.{A, A35, planB, planD}
-use Rattle.history.proofs.Stays.{times-ticks}
+use Rattle.history.proofs.Times.{early-again, due-again}
 
 -- The list of starred numbers, where guests stand in document 01's plans, their first releases, and a margin.
 pub record Computed : Type 0 where
@@ -63,17 +60,9 @@ pub record Computed : Type 0 where
   -- The margin of a job that is one tick late.
   pub late-margin : marginOf 35 36 ≡ negsuc 0
 
--- A release after n calls of a tick is computed by the rule's own n ticks, so that the state is not examined at each of them.
-after-ticks :
-    (n id task m : ℕ) (d : Dispatcher)
-    → stateOk d ≡ true
-    → release (ticks n d) id task .refusal .number ≡ m
-    → release (play (times n) d) id task .refusal .number ≡ m
-after-ticks n id task m d ok e = ap (λ (z : Dispatcher). release z id task .refusal .number) (times-ticks n d ok) ∙ e
-
--- Each part is computed by the definitions.
+-- Each part is computed by the definitions; what case 8 has after 49 and 50 ticks follows from the promises, without 99 ticks computed.
 pub computed : Computed
-unfolding allTo unless refusal least firstFrom sumTo up solve chargedRun orElse firstRefused newId numberOf guestNumber countedBy planRefusal placeOf headOk taskOk tasksOk jitter interference guestRight guestResponse fitted fittedTo gap load periods taskRight responseTo limit taskResponse hasGuest hasTask recordsThen refusedBy guestVerdict quotedBy taskSays taskVerdict met allMet accepted acceptSays acceptance withCapacity works smallest smallestCapacity upTo tasksIn guestInRange taskInRange rowOk stateOk idle startedBy fresh taken releaseNumber releasedBy release lessAt refilled holder isHeld leftAfter worker isWorked restAfter ageAfter waitAfter positionAfter next marginOf answerBy answer finishes ticks runFrom runFor ranBy run tickedBy tick after play times
+unfolding allTo unless refusal least firstFrom sumTo up solve chargedRun orElse firstRefused newId numberOf guestNumber countedBy planRefusal placeOf headOk taskOk tasksOk jitter interference guestRight guestResponse fitted fittedTo gap load periods taskRight responseTo limit taskResponse hasGuest hasTask recordsThen refusedBy guestVerdict quotedBy taskSays taskVerdict met allMet accepted acceptSays acceptance withCapacity works smallest smallestCapacity upTo tasksIn guestInRange taskInRange rowOk stateOk idle startedBy fresh taken releaseNumber releasedBy release lessAt refilled holder isHeld leftAfter worker isWorked restAfter ageAfter waitAfter positionAfter next marginOf answerBy answer finishes runFrom runFor ranBy run tickedBy tick after play times
 computed = record {
   numbers = record {
     alone = refl;
@@ -102,11 +91,11 @@ computed = record {
     none-works = refl;
     gap-past-period = refl;
     gap-taken = refl;
-    gap-again = after-ticks 10 7 1 10 (released planD 7 1 []) refl refl;
+    gap-again = refl;
     released-at-0 = refl;
     released-at-14 = refl;
-    again-after-49 = after-ticks 49 9 1 9 (released A 9 1 (running 14 ∷ [])) refl refl;
-    again-after-50 = after-ticks 50 9 1 0 (released A 9 1 (running 14 ∷ [])) refl refl;
+    again-after-49 = early-again A 9 1 refl (running 14 ∷ []) refl 49 (omega arith);
+    again-after-50 = due-again A 9 1 36 refl (running 14 ∷ []) refl 50 (omega arith);
   };
   there-A = record { order = refl; place = omega arith; named = refl };
   there-A35 = record { order = refl; place = omega arith; named = refl };

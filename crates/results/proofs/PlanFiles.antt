@@ -8,10 +8,11 @@ use Rattle.plan.specs.First.{fine}
 use Rattle.plan.specs.Order.{planRefusal}
 use Rattle.plan.specs.Records.{guestAt}
 use Rattle.plan.specs.declared.Plan.{Plan}
+use Rattle.words.specs.Bytes.{Bytes}
 use Rattle.block.specs.Writing.{blockOf, writeRefusal, written}
 use Rattle.planfile.specs.Records.{readOf}
 use Rattle.planfile_laws.specs.File.{fileOf, cleared}
-use Rattle.planfile_laws.specs.Fits.{PlanInTypes, Bytes}
+use Rattle.planfile_laws.specs.Fits.{PlanInTypes}
 use Rattle.planfile_laws.proofs.OnlyOurs as ours
 use Rattle.planfile_laws.proofs.ReadBack as back
 
