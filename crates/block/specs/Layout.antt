@@ -1,78 +1,87 @@
--- A guest's block, line by line as document 01's table has it. Reader, writer and theorems say where a number stands by these names alone.
+-- A guest's block, line by line as document 01's table has it, in words. Reader, writer and theorems say where a number
+-- stands by these names alone; `Table` says the same lines in bytes.
 use Prim.Native.Nat.{ℕ, _+_, _*_, _/_, _%_}
 
--- a block has 512 bytes
+-- A block has 512 bytes.
 abbrev pub blockSize : ℕ
 blockSize = 512
 
--- they are 128 words
+-- A block has 128 words.
 abbrev pub blockWords : ℕ
 blockWords = 128
 
--- bytes 0-1, the low half of word 0: the kind; bytes 2-3, its high half: the place in the plan
+-- Bytes 0-1, the low half of this word, are the kind; bytes 2-3, its high half, are the place in the plan.
 abbrev pub kindPlaceWord : ℕ
 kindPlaceWord = 0
 
--- the one kind
+-- There is one kind.
 abbrev pub guestKind : ℕ
 guestKind = 1
 
--- the last place in a plan
+-- The last place in a plan of 8 guests, from 0.
 abbrev pub lastPlace : ℕ
 lastPlace = 7
 
--- bytes 4-7: guest id
+-- Bytes 4-7 are the guest's id.
 abbrev pub idWord : ℕ
 idWord = 1
 
--- bytes 8-11: capacity
+-- Bytes 8-11 are the capacity.
 abbrev pub capacityWord : ℕ
 capacityWord = 2
 
--- bytes 12-15: period
+-- Bytes 12-15 are the period.
 abbrev pub periodWord : ℕ
 periodWord = 3
 
--- bytes 16-17, the low half of word 4: number of tasks; bytes 18-19, its high half: switch charge
+-- Bytes 16-17, the low half of this word, are the number of tasks; bytes 18-19, its high half, are the switch charge.
 abbrev pub tasksChargeWord : ℕ
 tasksChargeWord = 4
 
--- bytes 20-31: zero, from this word
+-- Bytes 20-31 are zero; they start at this word.
 abbrev pub spareFrom : ℕ
 spareFrom = 5
 
--- and before this one
+-- The spare words end before this one.
 abbrev pub spareTo : ℕ
 spareTo = 8
 
--- bytes 32-223: 16 entries of 12 bytes; the run of entry i, from 0
+-- Bytes 32-223 are 16 entries of 12 bytes, three words each.
+abbrev pub entryWords : ℕ
+entryWords = 3
+
+-- The run of entry i, from 0, is an entry's first word.
 abbrev pub runWord : ℕ → ℕ
-runWord i = 8 + 3 * i
+runWord i = 8 + entryWords * i
 
--- its period
+-- The period of entry i is the second.
 abbrev pub everyWord : ℕ → ℕ
-everyWord i = 9 + 3 * i
+everyWord i = 9 + entryWords * i
 
--- its deadline
+-- The deadline of entry i is the third.
 abbrev pub deadlineWord : ℕ → ℕ
-deadlineWord i = 10 + 3 * i
+deadlineWord i = 10 + entryWords * i
 
--- entries past the number n of tasks, and bytes 224-507: zero, from this word up to the check
+-- Entries past the number n of tasks, and bytes 224-507, are zero; they start at this word and end before the check.
 abbrev pub unusedFrom : ℕ → ℕ
-unusedFrom n = 8 + 3 * n
+unusedFrom n = runWord n
 
--- bytes 508-511: check
+-- Bytes 508-511 are the check.
 abbrev pub checkWord : ℕ
 checkWord = 127
 
--- the low half of a word
+-- A half of a word holds the numbers below this.
+abbrev pub halfWrap : ℕ
+halfWrap = 65536
+
+-- The low half of a word.
 abbrev pub lowHalf : ℕ → ℕ
-lowHalf w = w % 65536
+lowHalf w = w % halfWrap
 
--- the high half of a word
+-- The high half of a word.
 abbrev pub highHalf : ℕ → ℕ
-highHalf w = w / 65536
+highHalf w = w / halfWrap
 
--- the word of two halves
+-- The word of two halves.
 abbrev pub halves : (low high : ℕ) → ℕ
-halves low high = low + 65536 * high
+halves low high = low + halfWrap * high

@@ -8,6 +8,8 @@ pub const KIND_PLACE: usize = 0;
 
 pub const GUEST_KIND: u32 = 1;
 
+pub const LAST_PLACE: u32 = 7;
+
 pub const ID: usize = 1;
 
 pub const CAPACITY: usize = 2;
@@ -20,6 +22,8 @@ pub const SPARE_FROM: usize = 5;
 
 pub const SPARE_TO: usize = 8;
 
+pub const ENTRY: usize = 3;
+
 pub const RUN: usize = 8;
 
 pub const EVERY: usize = 9;
@@ -27,3 +31,5 @@ pub const EVERY: usize = 9;
 pub const DEADLINE: usize = 10;
 
 pub const CHECK: usize = 127;
+
+pub const HALF: u32 = 65536;

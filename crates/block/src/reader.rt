@@ -4,7 +4,7 @@ ghost use mathlib.Core.Bool.{_&&_};
 ghost use Prim.Native.Nat.{_+_, _*_, _≤_};
 ghost use lib.ListN.{length};
 ghost use Rattle.plan.specs.Ranges.{mostTasks, guestOk, tasksOk};
-ghost use Rattle.block.specs.Layout.{blockSize, blockWords};
+ghost use Rattle.block.specs.Layout.{blockSize, blockWords, entryWords, checkWord};
 ghost use Rattle.block.specs.Reading.{idIn, taskCount, column, guestOf, kindOk, ownPlace, zeroBetween, zerosOk, blockNumber};
 use crate::layout;
 use plan::Guest;
@@ -15,7 +15,7 @@ fn opening_ok(b: &[u8], place: u32) -> bool
     ensures { λ r. ⌜ r ≡ (kindOk (now (b .entry)) && ownPlace (now (b .entry)) place) ⌝ }
 {
     let w = words::word_at(b, layout::KIND_PLACE);
-    (w % 65536 == layout::GUEST_KIND) & (w / 65536 == place)
+    (w % layout::HALF == layout::GUEST_KIND) & (w / layout::HALF == place)
 }
 
 // Whether the words from one on, up to another, are zero.
@@ -38,7 +38,7 @@ fn tasks_of(b: &[u8]) -> u32
     requires { ⌜ length (now b) ≡ blockSize ⌝ }
     ensures { λ r. ⌜ r ≡ taskCount (now (b .entry)) ⌝ }
 {
-    words::word_at(b, layout::TASKS_CHARGE) % 65536
+    words::word_at(b, layout::TASKS_CHARGE) % layout::HALF
 }
 
 // Whether the bytes that must be zero are.
@@ -48,18 +48,18 @@ fn zeros_ok(b: &[u8]) -> bool
 {
     let n = tasks_of(b) as usize;
     zero_between(b, layout::SPARE_FROM, layout::SPARE_TO)
-        & zero_between(b, layout::RUN + 3 * n, layout::CHECK)
+        & zero_between(b, layout::RUN + layout::ENTRY * n, layout::CHECK)
 }
 
 // One number of each entry; the first entry's stands at word `first`.
 fn column_of(b: &[u8], first: usize) -> [u32; 16]
-    requires { ⌜ (first ≤ 10) × (length (now b) ≡ blockSize) ⌝ }
-    ensures { λ r. ⌜ r ≡ column (now (b .entry)) (λ i. first + 3 * i) ⌝ }
+    requires { ⌜ (first + entryWords * mostTasks ≤ checkWord) × (length (now b) ≡ blockSize) ⌝ }
+    ensures { λ r. ⌜ r ≡ column (now (b .entry)) (λ i. first + entryWords * i) ⌝ }
 {
     let mut x = [0u32; 16];
     let mut i: usize = 0;
     while i < 16 {
-        x[i] = words::word_at(b, first + 3 * i);
+        x[i] = words::word_at(b, first + layout::ENTRY * i);
         i += 1;
     }
     x
@@ -82,8 +82,8 @@ pub fn decode(b: &[u8]) -> Guest
     let capacity = words::word_at(b, layout::CAPACITY);
     let period = words::word_at(b, layout::PERIOD);
     let w = words::word_at(b, layout::TASKS_CHARGE);
-    let tasks = w % 65536;
-    let charge = (w / 65536) as u16;
+    let tasks = w % layout::HALF;
+    let charge = (w / layout::HALF) as u16;
     let run = column_of(b, layout::RUN);
     let every = column_of(b, layout::EVERY);
     let deadline = column_of(b, layout::DEADLINE);
@@ -120,10 +120,10 @@ fn tasks_in(b: &[u8]) -> bool
     plan::tasks_ok(&run, &every, &deadline, tasks_of(b) as usize)
 }
 
-// The number that the block b at its place is refused by, 0 for none; `fresh` says that its id is no earlier block's.
-pub fn block_number(b: &[u8], place: u32, fresh: bool) -> u32
+// The number that the block b at its place is refused by, 0 for none; `new` says that its id is no earlier block's.
+pub fn block_number(b: &[u8], place: u32, new: bool) -> u32
     requires { ⌜ length (now b) ≡ blockSize ⌝ }
-    ensures { λ r. ⌜ r ≡ blockNumber (now (b .entry)) place fresh ⌝ }
+    ensures { λ r. ⌜ r ≡ blockNumber (now (b .entry)) place new ⌝ }
 {
     if words::sum_words(b, layout::WORDS) != 0 {
         return 2;
@@ -131,7 +131,7 @@ pub fn block_number(b: &[u8], place: u32, fresh: bool) -> u32
     if !opening_ok(b, place) {
         return 3;
     }
-    if !(head_in(b) & fresh) {
+    if !(head_in(b) & new) {
         return 4;
     }
     if !zeros_ok(b) {

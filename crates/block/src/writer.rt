@@ -1,10 +1,10 @@
 // A block written: the record tested, and its words put straight into the lent buffer.
 ghost use mathlib.Core.Path.{_≡_};
 ghost use mathlib.Core.List.{_++_};
-ghost use Prim.Native.Nat.{_*_, _≤_, _<_};
+ghost use Prim.Native.Nat.{_≤_, _<_};
 ghost use lib.ListN.{length, replicate, drop};
 ghost use Rattle.lists.specs.Places.{nth};
-ghost use Rattle.words.specs.Bytes.{withU32, bytesOf};
+ghost use Rattle.words.specs.Bytes.{withWord, bytesOf};
 ghost use Rattle.plan.specs.Ranges.{mostTasks};
 ghost use Rattle.block.specs.Layout.{blockSize, blockWords, lastPlace, runWord, everyWord, deadlineWord};
 ghost use Rattle.block.specs.Writing.{withHead, wordsOf, blockOf, writeNumber};
@@ -15,10 +15,10 @@ use plan::Guest;
 pub fn write_number(g: Guest, place: u32, size: usize) -> u32
     ensures { λ r. ⌜ r ≡ writeNumber g place size ⌝ }
 {
-    if size < 512 {
+    if size < layout::SIZE {
         return 12;
     }
-    if 7 < place {
+    if layout::LAST_PLACE < place {
         return 3;
     }
     if !plan::head_ok(g.id, g.capacity, g.period, g.tasks) {
@@ -37,21 +37,24 @@ pub fn write_number(g: Guest, place: u32, size: usize) -> u32
 // The first 512 bytes set to zero, and the head's words put in.
 fn put_head(g: Guest, place: u32, buf: &mut [u8])
     requires { ⌜ (blockSize ≤ length (now buf)) × ((place ≤ lastPlace) × (g .tasks ≤ mostTasks)) ⌝ }
-    ensures { λ _. ⌜ now (buf .exit) ≡ bytesOf (nth (withHead g place (replicate blockWords 0))) blockWords ++ drop blockSize (now (buf .entry)) ⌝ }
+    ensures { λ _. ⌜
+        now (buf .exit)
+        ≡ bytesOf (nth (withHead g place (replicate blockWords 0))) blockWords ++ drop blockSize (now (buf .entry))
+        ⌝ }
 {
     words::put_zeros(buf, layout::SIZE);
-    words::put_u32(
+    words::put_word(
         buf,
-        4 * layout::KIND_PLACE,
-        layout::GUEST_KIND + 65536 * place,
+        layout::KIND_PLACE,
+        layout::GUEST_KIND + layout::HALF * place,
     );
-    words::put_u32(buf, 4 * layout::ID, g.id);
-    words::put_u32(buf, 4 * layout::CAPACITY, g.capacity);
-    words::put_u32(buf, 4 * layout::PERIOD, g.period);
-    words::put_u32(
+    words::put_word(buf, layout::ID, g.id);
+    words::put_word(buf, layout::CAPACITY, g.capacity);
+    words::put_word(buf, layout::PERIOD, g.period);
+    words::put_word(
         buf,
-        4 * layout::TASKS_CHARGE,
-        g.tasks + 65536 * (g.charge as u32),
+        layout::TASKS_CHARGE,
+        g.tasks + layout::HALF * (g.charge as u32),
     );
 }
 
@@ -59,12 +62,13 @@ fn put_head(g: Guest, place: u32, buf: &mut [u8])
 fn put_entry(buf: &mut [u8], i: usize, run: u32, every: u32, deadline: u32)
     requires { ⌜ (blockSize ≤ length (now buf)) × (i < mostTasks) ⌝ }
     ensures { λ _. ⌜
-        now (buf .exit) ≡ withU32 (withU32 (withU32 (now (buf .entry)) (4 * runWord i) run) (4 * everyWord i) every) (4 * deadlineWord i) deadline
+        now (buf .exit)
+        ≡ withWord (withWord (withWord (now (buf .entry)) (runWord i) run) (everyWord i) every) (deadlineWord i) deadline
         ⌝ }
 {
-    words::put_u32(buf, 4 * (layout::RUN + 3 * i), run);
-    words::put_u32(buf, 4 * (layout::EVERY + 3 * i), every);
-    words::put_u32(buf, 4 * (layout::DEADLINE + 3 * i), deadline);
+    words::put_word(buf, layout::RUN + layout::ENTRY * i, run);
+    words::put_word(buf, layout::EVERY + layout::ENTRY * i, every);
+    words::put_word(buf, layout::DEADLINE + layout::ENTRY * i, deadline);
 }
 
 // The head and the guest's entries put in: the block's words but for the check.
@@ -91,5 +95,5 @@ pub fn put_block(g: Guest, place: u32, buf: &mut [u8])
 {
     put_entries(g, place, buf);
     let sum = words::sum_words(buf, layout::CHECK);
-    words::put_u32(buf, 4 * layout::CHECK, words::complement_of(sum));
+    words::put_word(buf, layout::CHECK, words::complement_of(sum));
 }

@@ -10,6 +10,7 @@ use Rattle.lists.specs.Search.{firstFrom, least}
 use Rattle.lists.specs.declared.Found.{Found}
 use Rattle.plan.specs.Filled.{ColumnsOf}
 use Rattle.plan.specs.Order.{planRefusal}
+use Rattle.plan.specs.Ranges.{mostGuests}
 use Rattle.plan.specs.Records.{guestAt}
 use Rattle.plan.specs.declared.Columns.{Columns}
 use Rattle.plan.specs.declared.Plan.{Plan}
@@ -23,7 +24,7 @@ use Rattle.verdict.proofs.Verdict.{in-order, no-test, place-found, guest-there}
 use Rattle.capacity.proofs.Capacity.{smallest-is}
 
 -- records in order, and the guest is there: the answer of the search
-pub capacity-judged : (p : Plan) {r : Refusal} (e : r ≡ planRefusal p) (h : r .number ≤ 0) (c : Columns) (f : ColumnsOf (p .guests) c) (id : ℕ) {k : ℕ}
+pub capacity-judged : (p : Plan) {r : Refusal} (e : r ≡ planRefusal p) (h : r .number ≤ 0) (c : Columns) (f : ColumnsOf (p .guests) mostGuests c) (id : ℕ) {k : ℕ}
     (s : k ≡ firstFrom (λ j. eqb (nth (c .ids) j) id) (p .count) 0) → k < p .count → {x : Found} {v : CapacityAnswer}
     → x ≡ least (λ a. allTo (fittedAt (c .capacities) (c .periods)) k && acceptedUnder (guestsTake (c .capacities) (c .periods) k) (atCapacity (guestAt (p .guests) k) a)) (guestAt (p .guests) k .period) 1
     → v ≡ capacitySays x → v ≡ smallestCapacity p id

@@ -13,6 +13,7 @@ use Rattle.lists.specs.declared.Found.the-variants.{At}
 use Rattle.plan.specs.Charge.{charged}
 use Rattle.plan.specs.Filled.{Filled, ColumnsOf}
 use Rattle.plan.specs.Order.{planRefusal}
+use Rattle.plan.specs.Ranges.{mostGuests}
 use Rattle.plan.specs.Records.{absent, guestAt, runOf}
 use Rattle.plan.specs.declared.Columns.{Columns}
 use Rattle.plan.specs.declared.Guest.{Guest}
@@ -87,7 +88,7 @@ module _ (p : Plan) (k : ℕ) (here : k < length (p .guests)) (c : ℕ) where
       ∙ ap (λ (b : Bool). allTo (fitted p) k && b) (sym (accepted-is (withCapacity p k c) k) ∙ rw (same-above k (omega arith), guest-there) refl)
 
 -- the search off columns is the definition's
-pub smallest-is : (p : Plan) → PlanIn p → (c : Columns) → ColumnsOf (p .guests) c → (k : ℕ) → k < p .count
+pub smallest-is : (p : Plan) → PlanIn p → (c : Columns) → ColumnsOf (p .guests) mostGuests c → (k : ℕ) → k < p .count
     → least (λ x. allTo (fittedAt (c .capacities) (c .periods)) k && acceptedUnder (guestsTake (c .capacities) (c .periods) k) (atCapacity (guestAt (p .guests) k) x)) (guestAt (p .guests) k .period) 1
     ≡ smallest p k
 unfolding smallest

@@ -4,9 +4,10 @@ use Prim.Native.Nat.{ℕ}
 use Rattle.lists.specs.Refusals.{_orRefuse_}
 use Rattle.lists.specs.declared.Found.{Found}
 use Rattle.lists.specs.declared.Found.the-variants.{At, Nothing}
-use Rattle.plan.specs.Place.{placeOf}
+use Rattle.plan.specs.First.{refuseOr}
+use Rattle.plan.specs.Order.{recordsThen}
+use Rattle.plan.specs.Place.{placeOf, hasGuest}
 use Rattle.plan.specs.declared.Plan.{Plan}
-use Rattle.verdict.specs.Verdict.{hasGuest, recordsThen, refuseOr}
 use Rattle.capacity.specs.declared.CapacityAnswer.{CapacityAnswer}
 use Rattle.capacity.specs.declared.CapacityAnswer.the-variants.{Refused, Smallest}
 use Rattle.capacity.specs.Capacity.{smallest}

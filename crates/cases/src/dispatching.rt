@@ -1,17 +1,15 @@
-// Makes the dispatcher's calls, on states that its own calls gave and on states with a number out of place.
+// The dispatcher's calls, on states that its own calls gave and on states with a number out of place.
 use crate::say;
 use dispatcher::Answer;
 use dispatcher::Dispatcher;
 use draft::text::Row;
 use plan::Plan;
 
-// A fresh state, with nothing said of it: the one that a file of cases begins with.
 pub fn fresh(p: Plan) -> Dispatcher {
     let started = Dispatcher::fresh(p);
     started.state
 }
 
-// Starts from the plan, and says the refusal.
 fn start(p: Plan) -> Dispatcher {
     let started = Dispatcher::fresh(p);
     say::refusal(started.refusal);
@@ -19,7 +17,6 @@ fn start(p: Plan) -> Dispatcher {
     started.state
 }
 
-// Releases a job, and says the refusal.
 fn release(d: Dispatcher, id: u32, task: u32) -> Dispatcher {
     let released = d.release(id, task);
     say::refusal(released.refusal);
@@ -27,13 +24,13 @@ fn release(d: Dispatcher, id: u32, task: u32) -> Dispatcher {
     released.state
 }
 
-// Says who had the tick.
+// Who had the tick.
 fn had(guest: u32, task: u32) {
     say::number(b", guest ", guest);
     say::number(b" task ", task);
 }
 
-// Says that the job is finished, and whether it is late.
+// A finished job.
 fn finished(age: u32, late: bool) {
     say::number(b" finished, age ", age);
     if late {
@@ -41,7 +38,6 @@ fn finished(age: u32, late: bool) {
     }
 }
 
-// Says a tick's answer, and ends the line.
 fn answer(a: Answer) {
     match a {
         Answer::Silent => say::text(b", no answer"),
@@ -61,7 +57,6 @@ fn answer(a: Answer) {
     say::text(b"\n");
 }
 
-// Does one tick, and says the refusal and the answer.
 fn tick(d: Dispatcher) -> Dispatcher {
     let ticked = d.tick();
     let a = ticked.answer;
@@ -70,7 +65,6 @@ fn tick(d: Dispatcher) -> Dispatcher {
     ticked.state
 }
 
-// Runs for so many ticks, and says the refusal, the ticks done and the last answer.
 fn run(d: Dispatcher, ticks: u32) -> Dispatcher {
     let ran = d.run(ticks);
     let a = ran.answer;
@@ -80,7 +74,7 @@ fn run(d: Dispatcher, ticks: u32) -> Dispatcher {
     ran.state
 }
 
-// Sets capacity left (`Left`) or the position of guest k.
+// Capacity left or position of guest k set.
 fn with_server(d: Dispatcher, first: u8, k: usize, value: u32) -> Dispatcher {
     let mut d = d;
     if k < 8 {
@@ -93,7 +87,7 @@ fn with_server(d: Dispatcher, first: u8, k: usize, value: u32) -> Dispatcher {
     d
 }
 
-// Sets run left (`Job`), wait (`Wait`) or the age of the job at place k.
+// Run left, wait or age of the job at place k set.
 fn with_job(d: Dispatcher, first: u8, k: usize, value: u32) -> Dispatcher {
     let mut d = d;
     if k < 128 {
@@ -108,8 +102,8 @@ fn with_job(d: Dispatcher, first: u8, k: usize, value: u32) -> Dispatcher {
     d
 }
 
-// Does what a line asks: `Start` from the plan; `Release` a guest's task; `Tick`; `Go` on for so many ticks; set `Left`,
-// `Position`, `Job`, `Wait` or `Age` at a place to a number.
+// `Start` from the plan; `Release` a guest's task; `Tick`; `Go` on for so many ticks; `Left`, `Position`, `Job`,
+// `Wait` or `Age` at a place set to a number.
 pub fn call(p: Plan, d: Dispatcher, row: Row) -> Dispatcher {
     let x = row.numbers;
     let first = row.first;

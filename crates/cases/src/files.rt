@@ -1,11 +1,11 @@
-// The plan's blocks as the writer writes them are printed, cut short, damaged and searched.
+// The plan's blocks as the writer writes them: printed, cut short, damaged, searched.
 use crate::damage;
 use crate::say;
 use draft::text::Row;
 use plan::Guest;
 use plan::Plan;
 
-// Says what the finder's companion gives, and how many bytes the found part has.
+// The finder's companion, and how many bytes the part found has.
 fn find(bytes: &[u8], id: u32) {
     let r = planfile::find_place(bytes, id);
     let part = planfile::find(bytes, id);
@@ -16,7 +16,7 @@ fn find(bytes: &[u8], id: u32) {
     say::text(b"\n");
 }
 
-// Finds a guest in the bytes where the line is a `find`, else prints what they hold.
+// `find` a guest in the bytes, or print what they hold.
 fn look(bytes: &[u8], row: Row) {
     let x = row.numbers;
     if row.first == b'f' {
@@ -29,7 +29,7 @@ fn look(bytes: &[u8], row: Row) {
     show::show(bytes);
 }
 
-// Looks at the first n bytes alone.
+// The same of the first n bytes.
 fn look_at(bytes: &[u8], n: u32, row: Row) {
     let n = n as usize;
     if n <= bytes.len() {
@@ -37,7 +37,7 @@ fn look_at(bytes: &[u8], n: u32, row: Row) {
     }
 }
 
-// How many bytes are looked at is what the line says, else the bytes of the plan's blocks.
+// How many bytes are looked at: as many as the line says, else those of the plan's blocks.
 fn length(p: Plan, row: Row) -> u32 {
     let x = row.numbers;
     if row.first == b'r' {
@@ -49,7 +49,7 @@ fn length(p: Plan, row: Row) -> u32 {
     if p.count <= 8 { 512 * p.count } else { 0 }
 }
 
-// Writes the plan's blocks, with zeros past them, does the line's damage to them, and looks at them.
+// The plan's blocks, zeros past them, and the line's damage to them.
 fn blocks(p: Plan, row: Row) {
     let mut buf = [0u8; 4608];
     draft::write(p, &mut buf);
@@ -57,14 +57,14 @@ fn blocks(p: Plan, row: Row) {
     look_at(&buf, length(p, row), row);
 }
 
-// Lends the writer the first n bytes, and says the refusal.
+// The writer, lent the first n bytes.
 fn lend(g: Guest, place: u32, buf: &mut [u8], n: usize) {
     if n <= buf.len() {
         say::refusal(block::write(g, place, &mut buf[..n]));
     }
 }
 
-// Writes the first guest at a place, into a buffer of n bytes.
+// The first guest, by the writer.
 fn write(p: Plan, place: u32, n: u32) {
     let mut buf = [0u8; 512];
     let guests = p.guests;
@@ -72,8 +72,8 @@ fn write(p: Plan, place: u32, n: u32) {
     say::text(b"\n");
 }
 
-// Does what a line asks: `print` the plan; `read` so many bytes; `damage` a block or leave it `unmended`; `find` a
-// guest, in so many bytes; `write` at a place into so many bytes.
+// `print` the plan; `read` so many bytes; `damage` a block or leave it `unmended`; `find` a guest, in so many bytes;
+// `write` at a place into so many bytes.
 pub fn ask(p: Plan, row: Row) {
     let x = row.numbers;
     let first = row.first;

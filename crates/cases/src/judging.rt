@@ -1,11 +1,11 @@
-// Hands the plan's records over for verdicts, acceptance and the smallest capacity.
+// The plan's records handed over: verdicts, acceptance and the smallest capacity.
 use crate::say;
 use capacity::CapacityAnswer;
 use draft::text::Row;
 use plan::Plan;
 use show::Line;
 
-// Prints the verdict of a guest, or of one of its tasks where the line names one.
+// The verdict of a guest, or of one of its tasks.
 fn verdict(p: Plan, row: Row) {
     let x = row.numbers;
     say::text(b": ");
@@ -16,13 +16,11 @@ fn verdict(p: Plan, row: Row) {
     }
 }
 
-// Prints whether the plan is accepted.
 fn accept(p: Plan) {
     say::text(b": ");
     show::print(show::last_line(p));
 }
 
-// Prints the smallest capacity of a guest, or the refusal.
 fn smallest(p: Plan, id: u32) {
     match capacity::smallest_capacity(p, id) {
         CapacityAnswer::Refused(number, place) => {
@@ -36,7 +34,7 @@ fn smallest(p: Plan, id: u32) {
     }
 }
 
-// Does what a line asks: the `verdict` of a guest or a task; `accept`; the `smallest` capacity of a guest.
+// `verdict` of a guest or a task; `accept`; `smallest` capacity of a guest.
 pub fn ask(p: Plan, row: Row) {
     let x = row.numbers;
     let first = row.first;

@@ -1,7 +1,8 @@
-// Document 01's cases, and plans good and damaged in each way, go through every entry; `check` goes through the entries
-// that give its refusals. Standard input has the cases, a line for each guest, task or call, told apart by the first
-// letter. Each line is written out again, a call with its outcome; a line that starts with # says why the outcome is
-// right, and is left out.
+// Document 01's cases, and plans good and damaged in each way, through every entry; `check` through those that give
+// its refusals.
+// Standard input has the cases, a line for each guest, task or call: its first letter says which. Each line is
+// written out again, a call with its outcome;
+// a line that starts with # says why the outcome is right and is left out.
 use dispatcher::Dispatcher;
 use draft::text;
 use draft::text::Row;
@@ -13,7 +14,7 @@ mod files;
 mod judging;
 mod say;
 
-// The plan after a line: `new` empties it, `count` says how many of its guests count, others add to it.
+// The plan after a line: `new` empties it, `count` says how many of its guests count.
 fn planned(p: Plan, row: Row) -> Plan {
     let x = row.numbers;
     if row.first == b'n' {
@@ -29,7 +30,7 @@ fn planned(p: Plan, row: Row) -> Plan {
     text::with_line(p, row)
 }
 
-// Asks what the line asks, ends the line with the answer, and gives the dispatcher's state after it.
+// The dispatcher's state after a line; what the line asks is asked, and the answer ends the line.
 fn asked(p: Plan, d: Dispatcher, row: Row) -> Dispatcher {
     say::end(row);
     files::ask(p, row);
@@ -37,7 +38,6 @@ fn asked(p: Plan, d: Dispatcher, row: Row) -> Dispatcher {
     dispatching::call(p, d, row)
 }
 
-// Goes through the text line by line; the plan and the state go on from line to line.
 fn lines(text: &[u8]) {
     let mut p = plan::blank_plan();
     let mut d = dispatching::fresh(p);

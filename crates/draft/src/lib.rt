@@ -52,7 +52,7 @@ pub fn with_guest(p: Plan, g: Guest) -> Plan {
 // A guest's block at its place, by the writer; a place past the buffer's end is a buffer too short.
 fn write_block(g: Guest, place: usize, buf: &mut [u8]) -> Refusal {
     if place < 8 {
-        let a = 512 * place;
+        let a = block::layout::SIZE * place;
         if a <= buf.len() {
             return block::write(g, place as u32, &mut buf[a..]);
         }

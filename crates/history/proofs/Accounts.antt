@@ -18,32 +18,32 @@ use Rattle.arrays.proofs.Tallies.{more-long, more-here, more-else}
 use Rattle.verdict_laws.proofs.Ids.{idOf}
 use Rattle.history.proofs.Share.{count-next}
 
--- what one answer more adds to a count
+-- One answer more adds to a count what the test says of it.
 in-all-next : (f : Answer → ℕ) (l : List Answer) (a : Answer) → inAll f (l ++ (a ∷ [])) ≡ inAll f l + f a
 in-all-next f l a =
     let e : length (l ++ (a ∷ [])) ≡ suc (length l) = simp length-append (omega arith) in
     ap (λ (n : ℕ). countOf f (l ++ (a ∷ [])) 0 n) e ∙ count-next f l a 0 (length l) (omega arith)
 
 module _ (f : Answer → ℕ) (l : List Answer) (a : Answer) {x y : ℕ} (e : x ≡ inAll f l % wrap) where
-  -- the answer is counted, and its place has one more
+  -- An answer that is counted adds one to its place.
   goes-up : f a ≡ 1 → y ≡ (x + 1) % wrap → y ≡ inAll f (l ++ (a ∷ [])) % wrap
   goes-up h g = omega (arith, in-all-next f l a)
 
-  -- it is not, and the place is as it was
+  -- An answer that is not counted leaves the place as it was.
   stays-put : f a ≡ 0 → y ≡ x → y ≡ inAll f (l ++ (a ∷ [])) % wrap
   stays-put h g = omega (arith, in-all-next f l a)
 
--- a sum that one place adds to, whatever it wraps to
+-- A sum of places grows by one where one of them does, whatever that place wraps to.
 sum-more : (u : List ℕ) (n k : ℕ) → k < n → k < length u → sumTo (nth (oneMore u k)) n + nth u k ≡ sumTo (nth u) n + (nth u k + 1) % wrap
 sum-more u n k h l = omega (arith, sum-change (nth (oneMore u k)) (nth u) n k h (λ j b q. more-else u k j q), more-here u k l)
 
--- or that none of its places do
+-- A sum of places stands where none of them grows.
 sum-still : (u : List ℕ) (n k : ℕ) → n ≤ k → sumTo (nth (oneMore u k)) n ≡ sumTo (nth u) n
 sum-still u n k h = sum-same (nth (oneMore u k)) (nth u) n (λ j b. more-else u k j (λ q. omega arith))
 
--- by the answer of a tick: who is named, who idled, and whether nobody had it
+-- The numbers after one tick more, by its answer: who is named, who idled, and whether nobody had it.
 module _ (p : Plan) (P : PlanIn p) (l : List Answer) (a : Answer) (u : List ℕ) (long : length u ≡ 17) (A : Accounts p l u) where
-  -- nobody's
+  -- The numbers are right after a tick that nobody had.
   pub by-nobody : ((id : ℕ) → names id a ≡ 0) → ((id : ℕ) → idles id a ≡ 0) → unhad a ≡ 1 → Accounts p (l ++ (a ∷ [])) (oneMore u nobodys)
   by-nobody m i z = record {
     ticks = λ k h. stays-put (names (idOf p k)) l a (A .ticks k h) (m (idOf p k)) (more-else u 16 k (λ q. omega (arith, P .few)));
@@ -54,9 +54,9 @@ module _ (p : Plan) (P : PlanIn p) (l : List Answer) (a : Answer) (u : List ℕ)
         omega (arith, A .all, sum-still u (p .count) 16 (omega (arith, P .few)), more-here u 16 (omega arith));
   }
 
-  -- guest h's
+  -- The tick is guest h's.
   module _ (h : ℕ) (in-plan : h < p .count) (mine : names (idOf p h) a ≡ 1) (others : (k : ℕ) → k < p .count → (h ≡ k → ⊥) → names (idOf p k) a ≡ 0) (z : unhad a ≡ 0) where
-    -- the ticks of each guest
+    -- Each guest's ticks are right after a tick of guest h.
     ticks-by : (v : List ℕ) → ((k : ℕ) → k < 8 → nth v k ≡ nth (oneMore u h) k) → (k : ℕ) → k < p .count → nth v k ≡ inAll (names (idOf p k)) (l ++ (a ∷ [])) % wrap
     ticks-by v s k b =
         elim (ℕ-discrete h k) [
@@ -67,7 +67,7 @@ module _ (p : Plan) (P : PlanIn p) (l : List Answer) (a : Answer) (u : List ℕ)
               stays-put (names (idOf p k)) l a (A .ticks k b) (others k b n) (s k (omega (arith, P .few)) ∙ more-else u h k (λ q. n (sym q)))
         ]
 
-    -- all of them
+    -- The sum is right after a tick of guest h.
     all-by : (v : List ℕ) → ((k : ℕ) → k < 8 → nth v k ≡ nth (oneMore u h) k) → nth v nobodys ≡ nth u nobodys
         → (sumTo (nth v) (p .count) + nth v nobodys) % wrap ≡ length (l ++ (a ∷ [])) % wrap
     all-by v s q =
@@ -79,7 +79,7 @@ module _ (p : Plan) (P : PlanIn p) (l : List Answer) (a : Answer) (u : List ℕ)
           sum-more u (p .count) h in-plan (omega (arith, P .few)),
         )
 
-    -- where a task works
+    -- The numbers are right after a tick that a task of guest h had.
     pub by-worked : ((k : ℕ) → idles (idOf p k) a ≡ 0) → Accounts p (l ++ (a ∷ [])) (oneMore u h)
     by-worked i = record {
       ticks = ticks-by (oneMore u h) (λ k b. refl);
@@ -88,7 +88,7 @@ module _ (p : Plan) (P : PlanIn p) (l : List Answer) (a : Answer) (u : List ℕ)
       all = all-by (oneMore u h) (λ k b. refl) (more-else u h 16 (λ q. omega (arith, P .few)));
     }
 
-    -- where none does
+    -- The numbers are right after a tick that guest h idled away.
     pub by-idled : idles (idOf p h) a ≡ 1 → ((k : ℕ) → k < p .count → (h ≡ k → ⊥) → idles (idOf p k) a ≡ 0) → Accounts p (l ++ (a ∷ [])) (oneMore (oneMore u h) (idledAt h))
     by-idled one rest = record {
       ticks = ticks-by v low;

@@ -22,13 +22,13 @@ use Rattle.windows.specs.Supply.{Supply}
 use Rattle.history.specs.Share.{names, share}
 use Rattle.plan.proofs.Order.{PlanIn}
 use Rattle.windows.proofs.Supply.{supply-tick, used-up, supply-fresh}
-use Rattle.history.proofs.Seen.{capOf, perOf, posAt, leftAt, heldAt}
-use Rattle.history.proofs.TickSeen.{guest-tick}
-use Rattle.history.proofs.Play.{Sound}
-use Rattle.history.proofs.Fresh.{idle-held, idle-position}
 use Rattle.verdict_laws.proofs.Ids.{idOf}
 use Rattle.history.proofs.Answered.{names-mine, names-else}
 use Rattle.history.proofs.Share.{count-none, count-old, count-next}
+use Rattle.dispatcher_laws.proofs.Fresh.{idle-position, idle-held}
+use Rattle.dispatcher_laws.proofs.GuestTick.{guest-tick}
+use Rattle.dispatcher_laws.proofs.Seen.{capOf, perOf, posAt, leftAt, heldAt}
+use Rattle.dispatcher_laws.proofs.Sound.{Sound}
 
 -- After the answers L: q periods have ended, each with the whole capacity; in the one under way, what was had and what is held make it up.
 pub record Shares (p : Plan) (g x : ℕ) (L : List Answer) (d : Dispatcher) : Type 0 where
@@ -41,22 +41,22 @@ pub record Shares (p : Plan) (g x : ℕ) (L : List Answer) (d : Dispatcher) : Ty
 -- The numbers alone: u is the share so far, a what the tick adds.
 module _ (p : Plan) (g x : ℕ) (L : List Answer) (a : Answer) (d : Dispatcher) (S : Shares p g x L d) (l : ℕ)
     (had : l + names (idOf p g) a ≡ heldAt d g) where
-  -- what was had with this tick, and what is left, make up the capacity
+  -- What was had with this tick and what is left make up the capacity.
   with-this : share (idOf p g) (L ++ (a ∷ [])) (S .q * perOf p g) (suc (posAt d g)) + l ≡ capOf p g
   with-this = omega (arith, count-next (names (idOf p g)) L a (S .q * perOf p g) (posAt d g) (S .time), S .now)
 
-  -- one answer more
+  -- There is one answer more.
   longer : length (L ++ (a ∷ [])) ≡ S .q * perOf p g + suc (posAt d g)
   longer = simp length-append (omega (arith, S .time))
 
-  -- periods that have ended stand
+  -- Periods that have ended stand.
   stood : (k : ℕ) → k < S .q → share (idOf p g) (L ++ (a ∷ [])) (k * perOf p g) (perOf p g) ≡ capOf p g
   stood k h =
       count-old (names (idOf p g)) L (a ∷ []) (k * perOf p g) (perOf p g)
       (omega (arith, S .time, mul-le-mul-right {m = suc k} {n = S .q} (perOf p g) h))
       ∙ S .past k h
 
-  -- the guest moves on in its period, or ends it with nothing left
+  -- The guest moves on in its period, or ends it with nothing left.
   moved-on :
       (d' : Dispatcher)
       → Supply (capOf p) (perOf p) g x (heldAt d') (posAt d')
@@ -90,7 +90,7 @@ module _ (p : Plan) (g x : ℕ) (L : List Answer) (a : Answer) (d : Dispatcher) 
       }
 
 module _ (p : Plan) (P : PlanIn p) (g x : ℕ) (in-plan : g < p .count) (F : Fitted (capOf p) (perOf p) g x) where
-  -- over a tick
+  -- The shares stand over a tick.
   pub shares-next : (L : List Answer) (d : Dispatcher) → Sound p d → Shares p g x L d → Shares p g x (L ++ (answer d ∷ [])) (next d)
   shares-next L d D S =
       moved-on p g x L (answer d) d S (leftAt (next d) g) had (next d)
@@ -122,12 +122,12 @@ module _ (p : Plan) (P : PlanIn p) (g x : ℕ) (in-plan : g < p .count) (F : Fit
                 omega (arith, t .served .same g (omega arith) (λ z. n (sym z))))
           ]
 
-  -- over a taken release
+  -- The shares stand over a taken release.
   pub shares-taken : (L : List Answer) (d : Dispatcher) (k t : ℕ) → Shares p g x L d → Shares p g x L (taken d k t)
   unfolding taken
   shares-taken L d k t S = record { supply = S .supply; q = S .q; time = S .time; now = S .now; past = S .past }
 
-  -- at the fresh start
+  -- The shares stand at the fresh start.
   pub shares-idle : Shares p g x [] (idle p)
   shares-idle = record {
     supply =

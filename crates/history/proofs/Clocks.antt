@@ -13,61 +13,48 @@ use Rattle.dispatcher.specs.State.{restAt, waitAt, ageAt}
 use Rattle.dispatcher.specs.Release.{taken, release}
 use Rattle.history.specs.Calls.{Call, releasing, start, after, play, released, ticksIn, NoneTaken}
 use Rattle.plan.proofs.Order.{plan-in}
-use Rattle.history.proofs.Took.{Free, release-number, release-none, release-free}
-use Rattle.history.proofs.Play.{Sound, sound-play, sound-after}
-use Rattle.history.proofs.Fresh.{fresh-idle, sound-idle, idle-rest, idle-wait}
+use Rattle.history.proofs.Play.{sound-play, sound-after}
 use Rattle.verdict_laws.proofs.Ids.{idOf, found-id}
 use Rattle.history.proofs.Since.{Since, Never, since-taken, since-play, never-play}
+use Rattle.dispatcher_laws.proofs.Fresh.{fresh-idle, idle-rest, idle-wait, sound-idle}
+use Rattle.dispatcher_laws.proofs.Release.{Free, release-free}
+use Rattle.dispatcher_laws.proofs.Sound.{Sound, free-task, guest-in, task-in}
 
--- the fresh start is a state of the plan
+-- The fresh start is a state of the plan.
 pub sound-start : (p : Plan) → planRefusal p .number ≡ 0 → Sound p (start p)
 sound-start p e = rw (fresh-idle p e) (sound-idle p e)
 
--- and so is every state that a history reaches
+-- Every state that a history reaches is a state of the plan.
 pub sound-reached : (p : Plan) → planRefusal p .number ≡ 0 → (cs : List Call) → Sound p (play cs (start p))
 sound-reached p e cs = sound-play cs (start p) (sound-start p e)
 
--- A taken release: its guest and task are in the plan, and free.
+-- A release that is taken in a state of the plan.
 module _ (p : Plan) (d : Dispatcher) (D : Sound p d) (id number : ℕ) (taken-it : release d id number .refusal .number ≡ 0) where
-  -- the task is free
-  pub free-task : Free d id number (placeOf p id) (number - 1)
-  free-task =
-      subst (λ (z : Plan). Free d id number (placeOf z id) (number - 1)) (D .plan)
-      (release-none d id number (sym (release-number d id number) ∙ taken-it))
-
-  -- its guest is in the plan
-  pub guest-in : placeOf p id < p .count
-  guest-in = rw (D .plan) at (free-task .in-plan)
-
-  -- and it in the guest
-  pub task-in : number - 1 < guestAt (p .guests) (placeOf p id) .tasks
-  task-in = rw (D .plan) at (free-task .in-guest)
-
-  -- the guest has the id
+  -- The guest of a taken release has the id.
   pub id-is : idOf p (placeOf p id) ≡ id
-  id-is = found-id p id (placeOf p id) refl guest-in
+  id-is = found-id p id (placeOf p id) refl (guest-in p d D id number taken-it)
 
-  -- the state after it has the new job
+  -- The state after a taken release has the new job.
   pub new-job : after (releasing id number) d ≡ taken d (placeOf p id) (number - 1)
   unfolding after
   new-job =
-      ap (λ (n : ℕ). release d id n .state) (free-task .number)
-      ∙ release-free d id (placeOf p id) (number - 1) (subst (λ (z : ℕ). Free d id z (placeOf p id) (number - 1)) (free-task .number) free-task)
+      ap (λ (n : ℕ). release d id n .state) (free-task p d D id number taken-it .number)
+      ∙ release-free d id (placeOf p id) (number - 1) (subst (λ (z : ℕ). Free d id z (placeOf p id) (number - 1)) (free-task p d D id number taken-it .number) (free-task p d D id number taken-it))
 
-  -- so no tick is done since it
+  -- No tick is done since a taken release at the moment that it is taken.
   pub since-new : Since p (placeOf p id) (number - 1) 0 (after (releasing id number) d)
-  since-new = rw new-job (since-taken p (placeOf p id) (number - 1) guest-in task-in d D (free-task .due) (free-task .free))
+  since-new = rw new-job (since-taken p (placeOf p id) (number - 1) (guest-in p d D id number taken-it) (task-in p d D id number taken-it) d D (free-task p d D id number taken-it .due) (free-task p d D id number taken-it .free))
 
-  -- and after a history without another one taken, its ticks are
+  -- After a history without another one taken, the ticks since are the history's.
   pub since-then :
       (ds : List Call)
       → NoneTaken id number ds (after (releasing id number) d)
       → Since p (placeOf p id) (number - 1) (ticksIn ds (after (releasing id number) d)) (play ds (after (releasing id number) d))
   since-then ds none =
       rw zero-add at
-      (since-play p (placeOf p id) (number - 1) guest-in task-in ds 0 (after (releasing id number) d) (sound-after (releasing id number) d D)
+      (since-play p (placeOf p id) (number - 1) (guest-in p d D id number taken-it) (task-in p d D id number taken-it) ds 0 (after (releasing id number) d) (sound-after (releasing id number) d D)
       (subst (λ (z : ℕ). NoneTaken z (suc (number - 1)) ds (after (releasing id number) d)) (sym id-is)
-      (subst (λ (z : ℕ). NoneTaken id z ds (after (releasing id number) d)) (free-task .number) none))
+      (subst (λ (z : ℕ). NoneTaken id z ds (after (releasing id number) d)) (free-task p d D id number taken-it .number) none))
       since-new)
 
 module _ (p : Plan) (order : planRefusal p .number ≡ 0) (id number : ℕ) where

@@ -21,14 +21,14 @@ use Rattle.windows.specs.Equation.{response}
 use Rattle.history.specs.Share.{answerAt}
 use Rattle.plan.proofs.Order.{PlanIn}
 use Rattle.windows.proofs.Kept.{age-below}
-use Rattle.history.proofs.Seen.{capOf, perOf, tasksAt, Shaped}
-use Rattle.history.proofs.TickSeen.{rest-else, task-served, task-tick}
-use Rattle.history.proofs.Took.{Free, taken-else}
-use Rattle.history.proofs.Play.{Sound}
 use Rattle.verdict_laws.proofs.Ids.{idOf}
-use Rattle.history.proofs.Answered.{finishedBy, answer-finished}
 use Rattle.history.proofs.Share.{answer-old, answer-new}
 use Rattle.history.proofs.Quote.{TaskFits, KeptIn, bounded-of, kept-next, kept-release, in-plan, in-guest}
+use Rattle.dispatcher_laws.proofs.Answer.{finishedBy, answer-finished}
+use Rattle.dispatcher_laws.proofs.Release.{Free, taken-else}
+use Rattle.dispatcher_laws.proofs.Seen.{capOf, perOf, tasksAt, Shaped}
+use Rattle.dispatcher_laws.proofs.Sound.{Sound}
+use Rattle.dispatcher_laws.proofs.TaskTick.{rest-else, task-served, task-tick}
 
 -- the answer of the tick that finishes task i of guest g at an age
 abbrev pub finishedAt : Plan → (g i age : ℕ) → Answer
@@ -37,7 +37,7 @@ finishedAt p g i age = Finished (idOf p g) (suc i) age (marginOf (deadlineOf (gu
 -- The tick that takes a task's last run left answers that it is finished.
 module _ (d : Dispatcher) (H : Shaped d) (g i : ℕ) (inside : g < d .plan .count) (its : i < guestIn d g .tasks) (some : 0 < restAt d g i)
     (none : restAt (next d) g i ≡ 0) where
-  -- the guest has the tick
+  -- The guest has the tick.
   the-guest : holder d ≡ g
   the-guest =
       elim (ℕ-discrete (holder d) g) [
@@ -45,7 +45,7 @@ module _ (d : Dispatcher) (H : Shaped d) (g i : ℕ) (inside : g < d .plan .coun
         | no n ↦ absurd (omega (arith, rest-else d H g i inside its n i (omega arith)))
       ]
 
-  -- and inside it the task
+  -- The task has the guest's tick.
   the-task : worker d ≡ i
   the-task =
       elim (ℕ-discrete i (worker d)) [
@@ -53,11 +53,11 @@ module _ (d : Dispatcher) (H : Shaped d) (g i : ℕ) (inside : g < d .plan .coun
         | no n ↦ absurd (omega (arith, task-served d H g i inside its the-guest .same i (omega arith) n))
       ]
 
-  -- with this its last
+  -- The tick is the last of the task's run.
   the-last : restAt d g i ≤ 1
   the-last = omega (arith, rw the-task at (task-served d H g i inside its the-guest .took (rw the-task (omega arith))))
 
-  -- so the answer says it
+  -- The answer of that tick says that the task is finished.
   pub answer-done : answer d ≡ finishedAt (d .plan) g i (ageAt (next d) g i)
   answer-done =
       answer-finished d (rw the-guest inside) (rw (the-guest, the-task) its) (rw (the-guest, the-task) the-last)
@@ -72,12 +72,12 @@ pub data Job (p : Plan) (g i R : ℕ) (L : List Answer) (d : Dispatcher) : Type 
   ended : (m : ℕ) → m < length L → m < R → answerAt L m ≡ finishedAt p g i (suc m) → Job p g i R L d
 
 module _ (p : Plan) (P : PlanIn p) {g x i w : ℕ} (T : TaskFits p g x i w) where
-  -- what stands: the invariant, and the job
+  -- What stands in a state: the invariant, and the job.
   pub record JobIn (L : List Answer) (d : Dispatcher) : Type 0 where
     pub kept : KeptIn p g x i w d
     pub job : Job p g i (response (capOf p) (perOf p) g w) L d
 
-  -- over a tick, the job is still unfinished, or its answer says that it is finished
+  -- Over a tick the job stays unfinished, or the answer says that it is finished.
   pending-next :
       (L : List Answer) (d : Dispatcher)
       → Sound p d
@@ -105,7 +105,7 @@ module _ (p : Plan) (P : PlanIn p) {g x i w : ℕ} (T : TaskFits p g x i w) wher
                 ∙ ap (finishedAt p g i) one)
           ]
 
-  -- over a tick
+  -- The job stands over a tick.
   pub job-next : (L : List Answer) (d : Dispatcher) → Sound p d → JobIn L d → JobIn (L ++ (answer d ∷ [])) (next d)
   job-next L d D J = record { kept = kept-next p P T d D (J .kept); job = by (J .job) }
     where
@@ -113,7 +113,7 @@ module _ (p : Plan) (P : PlanIn p) {g x i w : ℕ} (T : TaskFits p g x i w) wher
       by (pending r a) = pending-next L d D (J .kept) r a
       by (ended m h l e) = ended m (simp length-append (omega arith)) l (answer-old L (answer d ∷ []) m h ∙ e)
 
-  -- over a taken release: it is none of this task's, while its job is unfinished
+  -- The job stands over a taken release, which is none of this task's while its job is unfinished.
   pub job-release : (L : List Answer) (d : Dispatcher) (id task k t : ℕ) → Sound p d → Free d id task k t → JobIn L d → JobIn L (taken d k t)
   job-release L d id task k t D F J = record { kept = kept-release p P T d D id task k t F (J .kept); job = by (J .job) }
     where

@@ -18,20 +18,21 @@ use Rattle.history.specs.Share.{answerAt}
 use Rattle.history.specs.Finished.{Told, FinishedBy}
 use Rattle.plan.proofs.Order.{PlanIn}
 use Rattle.windows.proofs.Kept.{age-below}
-use Rattle.history.proofs.Seen.{capOf, perOf}
-use Rattle.history.proofs.Took.{taken-here}
-use Rattle.history.proofs.Play.{Sound, Any, any, play-keeps, sound-after, answers-length}
-use Rattle.history.proofs.Fresh.{fresh-idle}
+use Rattle.history.proofs.Play.{Any, any, play-keeps, sound-after, answers-length}
 use Rattle.history.proofs.Quote.{KeptIn, bounded-of, kept-idle, kept-next, kept-release, in-plan, in-guest}
 use Rattle.history.proofs.Finished.{finishedAt, Job, JobIn, job-next, job-release}
 use Rattle.history.proofs.Finished.Job.{pending, ended}
 use Rattle.history.proofs.Told.{finish-told}
-use Rattle.history.proofs.Margin.{margin-falls}
 use Rattle.history.proofs.Verdict.{Judged, quoted-judged}
-use Rattle.history.proofs.Clocks.{sound-start, sound-reached, free-task, new-job}
+use Rattle.history.proofs.Clocks.{sound-start, sound-reached, new-job}
+use Rattle.dispatcher_laws.proofs.Answer.{margin-falls}
+use Rattle.dispatcher_laws.proofs.Fresh.{fresh-idle}
+use Rattle.dispatcher_laws.proofs.Release.{taken-here}
+use Rattle.dispatcher_laws.proofs.Seen.{capOf, perOf}
+use Rattle.dispatcher_laws.proofs.Sound.{Sound, free-task}
 
 module _ (p : Plan) (id number R : ℕ) (quoted : Quoted p id number R) where
-  -- what the verdict says
+  -- what the verdict says of the task
   abbrev pub J : Judged p id number R
   J = quoted-judged p id number R quoted
 
@@ -39,7 +40,7 @@ module _ (p : Plan) (id number R : ℕ) (quoted : Quoted p id number R) where
   abbrev pub P : PlanIn p
   P = J .order
 
-  -- what stands in every state that is reached
+  -- The invariant stands in every state that is reached.
   pub kept-reached : (cs : List Call) → KeptIn p (placeOf p id) (J .x) (number - 1) (J .w) (play cs (start p))
   kept-reached cs =
       play-keeps p (λ L d. KeptIn p (placeOf p id) (J .x) (number - 1) (J .w) d) Any (λ L d D K. kept-next p P (J .fits) d D K)
@@ -51,7 +52,7 @@ module _ (p : Plan) (id number R : ℕ) (quoted : Quoted p id number R) where
   pub younger : (cs : List Call) → 0 < restBy p id number (play cs (start p)) → ageBy p id number (play cs (start p)) < R
   younger cs h = rw (J .quotes) (age-below (bounded-of p P (J .fits)) (kept-reached cs) h)
 
-  -- at a taken release the job is new
+  -- At a taken release the job is new.
   job-new :
       (cs : List Call)
       → release (play cs (start p)) id number .refusal .number ≡ 0
@@ -68,7 +69,7 @@ module _ (p : Plan) (id number R : ℕ) (quoted : Quoted p id number R) where
         job = pending (rw (N .filled, D .plan) w) (N .young);
       })
 
-  -- and after a history it is finished, or still pending
+  -- After a history the job is finished, or still pending.
   job-then :
       (cs : List Call)
       → release (play cs (start p)) id number .refusal .number ≡ 0
@@ -82,7 +83,7 @@ module _ (p : Plan) (id number R : ℕ) (quoted : Quoted p id number R) where
       record { sound = sound-after (releasing id number) (play cs (start p)) D; holds = job-new cs t }
       .holds
 
-  -- so what stands, stands after it
+  -- The invariant stands after a taken release and any history.
   pub kept-released :
       (cs : List Call)
       → release (play cs (start p)) id number .refusal .number ≡ 0
@@ -90,7 +91,7 @@ module _ (p : Plan) (id number R : ℕ) (quoted : Quoted p id number R) where
       → KeptIn p (placeOf p id) (J .x) (number - 1) (J .w) (play ds (released p id number cs))
   kept-released cs t ds = job-then cs t ds .kept
 
-  -- a finish by R, as it is told
+  -- A finish by R is told.
   finish-by :
       (ds : List Call) (d : Dispatcher) (m : ℕ)
       → Sound p d
@@ -115,7 +116,7 @@ module _ (p : Plan) (id number R : ℕ) (quoted : Quoted p id number R) where
           ≡ Finished id number (suc m) (marginOf (deadlineBy p id number) (suc m))
       said = rw (J .task .there .named, ← J .task .from-1) refl
 
-  -- Finished by R: of a release that is taken and any calls after it that do at least R ticks, one hands back that the task is finished, at an
+  -- Finished by R: after a taken release and calls that do at least R ticks, one of them hands back that the task is finished, at an
   -- age of at most R; the age counts the ticks since the release, and the margin is the deadline less it.
   pub finished-by-R :
       (cs : List Call)

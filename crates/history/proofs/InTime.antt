@@ -19,14 +19,14 @@ use Rattle.windows.specs.Equation.{response}
 use Rattle.history.specs.Share.{answerAt}
 use Rattle.plan.proofs.Order.{PlanIn}
 use Rattle.windows.proofs.Kept.{age-below}
-use Rattle.history.proofs.Seen.{capOf, perOf}
-use Rattle.history.proofs.TickSeen.{task-served, task-tick}
-use Rattle.history.proofs.Took.{Free}
-use Rattle.history.proofs.Play.{Sound}
 use Rattle.verdict_laws.proofs.Ids.{idOf, id-one}
-use Rattle.history.proofs.Answered.{finishedBy, answer-nobody, answer-idled, answer-worked, answer-finished}
 use Rattle.history.proofs.Share.{answer-old, answer-new}
 use Rattle.history.proofs.Quote.{TaskFits, KeptIn, bounded-of, kept-next, kept-release, in-plan, in-guest}
+use Rattle.dispatcher_laws.proofs.Answer.{finishedBy, answer-nobody, answer-idled, answer-worked, answer-finished}
+use Rattle.dispatcher_laws.proofs.Release.{Free}
+use Rattle.dispatcher_laws.proofs.Seen.{capOf, perOf}
+use Rattle.dispatcher_laws.proofs.Sound.{Sound}
+use Rattle.dispatcher_laws.proofs.TaskTick.{task-served, task-tick}
 
 -- An answer that names task i of guest g finished says of its age and margin: the age is at most R, the margin the deadline less the age.
 abbrev pub Timely : Plan → (g i R : ℕ) → Answer → Type 0
@@ -42,7 +42,7 @@ record Ends (d : Dispatcher) (id task age : ℕ) (margin : ℤ) : Type 0 where
   old : ageAt (next d) (holder d) (worker d) ≡ age
   spare : marginOf (deadlineOf (guestIn d (holder d)) (worker d)) (ageAt (next d) (holder d) (worker d)) ≡ margin
 
--- so it ends a job
+-- An answer that says finished ends a job.
 ends : (d : Dispatcher) (id task age : ℕ) (margin : ℤ) → answer d ≡ Finished id task age margin → Ends d id task age margin
 ends d id task age margin e =
     elim (decLt (holder d) (d .plan .count)) [
@@ -75,12 +75,12 @@ ends d id task age margin e =
     done h l q = record { held = h; worked = l; guest = cc; number = cc; old = cc; spare = cc }
 
 module _ (p : Plan) (P : PlanIn p) {g x i w : ℕ} (T : TaskFits p g x i w) where
-  -- what stands: the invariant, and every answer so far is timely
+  -- What stands in a state: the invariant, and every answer so far is timely.
   pub record TimelyIn (L : List Answer) (d : Dispatcher) : Type 0 where
     pub kept : KeptIn p g x i w d
     pub timely : (m : ℕ) → Timely p g i (response (capOf p) (perOf p) g w) (answerAt L m)
 
-  -- the answer of a tick
+  -- The answer of a tick is timely.
   tick-timely : (d : Dispatcher) → Sound p d → KeptIn p g x i w d → Timely p g i (response (capOf p) (perOf p) g w) (answer d)
   tick-timely d D K age margin e = by (ends d (idOf p g) (suc i) age margin e)
     where
@@ -118,7 +118,7 @@ module _ (p : Plan) (P : PlanIn p) {g x i w : ℕ} (T : TaskFits p g x i w) wher
               → marginOf (deadlineOf (guestIn d h) t) a ≡ marginOf (deadlineOf (guestAt (p .guests) g) i) age
           said h t a q r s = rw (q, r, s) (ap (λ (z : Plan). marginOf (deadlineOf (guestAt (z .guests) g) i) age) (D .plan))
 
-  -- over a tick
+  -- What stands, stands over a tick.
   pub timely-next : (L : List Answer) (d : Dispatcher) → Sound p d → TimelyIn L d → TimelyIn (L ++ (answer d ∷ [])) (next d)
   timely-next L d D I = record { kept = kept-next p P T d D (I .kept); timely = each }
     where
@@ -139,6 +139,6 @@ module _ (p : Plan) (P : PlanIn p) {g x i w : ℕ} (T : TaskFits p g x i w) wher
               → (age ≤ response (capOf p) (perOf p) g w) × (margin ≡ marginOf (deadlineOf (guestAt (p .guests) g) i) age)
           never age margin q = (let z : _≡_ {A = ℕ} 0 1 = cc in absurd (omega arith))
 
-  -- over a taken release
+  -- What stands, stands over a taken release.
   pub timely-release : (L : List Answer) (d : Dispatcher) (id task k t : ℕ) → Sound p d → Free d id task k t → TimelyIn L d → TimelyIn L (taken d k t)
   timely-release L d id task k t D F I = record { kept = kept-release p P T d D id task k t F (I .kept); timely = I .timely }

@@ -15,7 +15,6 @@ use Rattle.verdict.specs.Quoted.{Quoted}
 use Rattle.history.specs.Calls.{Call, start, after, play, singles, ticksOf, answerOf}
 use Rattle.history.specs.Named.{deadlineBy}
 use Rattle.plan.proofs.Order.{PlanIn}
-use Rattle.history.proofs.Seen.{capOf, perOf}
 use Rattle.history.proofs.Play.{Any, after-keeps}
 use Rattle.verdict_laws.proofs.Ids.{idOf}
 use Rattle.history.proofs.InTime.{TimelyIn, timely-next, timely-release}
@@ -24,11 +23,12 @@ use Rattle.history.proofs.Clocks.{sound-reached}
 use Rattle.history.proofs.Verdict.{Judged, quoted-judged}
 use Rattle.verdict.proofs.Quoted.{met-quoted}
 use Rattle.verdict_laws.proofs.Tasks.{judged-means}
-use Rattle.history.proofs.Margin.{margin-left}
 use Rattle.history.proofs.FinishedBy.{kept-reached}
+use Rattle.dispatcher_laws.proofs.Answer.{margin-left}
+use Rattle.dispatcher_laws.proofs.Seen.{capOf, perOf}
 
 module _ (p : Plan) (id number R : ℕ) (quoted : Quoted p id number R) (cs : List Call) (c : Call) where
-  -- what the verdict says
+  -- what the verdict says of the task
   abbrev J : Judged p id number R
   J = quoted-judged p id number R quoted
 
@@ -36,7 +36,7 @@ module _ (p : Plan) (id number R : ℕ) (quoted : Quoted p id number R) (cs : Li
   abbrev P : PlanIn p
   P = J .order
 
-  -- every answer of the call's ticks is timely
+  -- Every answer of the call's ticks is timely.
   timely :
       TimelyIn p P (J .fits) (singles (ticksOf c (play cs (start p))) (play cs (start p)))
       (after c (play cs (start p)))
@@ -54,7 +54,7 @@ module _ (p : Plan) (id number R : ℕ) (quoted : Quoted p id number R) (cs : Li
           × (margin ≡ marginOf (deadlineBy p id number) age)
       none age margin q = (let z : _≡_ {A = ℕ} 0 1 = cc in absurd (omega arith))
 
-  -- An answer handed back that says finished: the age is at most R, and the margin the deadline less the age.
+  -- Where an answer handed back says finished, the age is at most R, and the margin the deadline less the age.
   pub never-late :
       (age : ℕ) (margin : ℤ)
       → answerOf c (play cs (start p)) ≡ Finished id number age margin

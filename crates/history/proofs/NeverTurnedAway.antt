@@ -14,15 +14,16 @@ use Rattle.history.specs.Calls.{Call, releasing, start, released, play, 
 use Rattle.history.specs.Named.{everyBy, waitBy}
 use Rattle.plan.proofs.Order.{PlanIn}
 use Rattle.windows.proofs.Kept.{free-when-due}
-use Rattle.history.proofs.Took.{release-number, free-number, waits-number}
-use Rattle.history.proofs.Play.{Sound, sound-after, sound-play}
+use Rattle.history.proofs.Play.{sound-after, sound-play}
 use Rattle.history.proofs.Quote.{KeptIn, bounded-of, in-plan, in-guest}
 use Rattle.history.proofs.Clocks.{sound-reached, since-then, before-any}
 use Rattle.history.proofs.Verdict.{Judged, quoted-judged}
 use Rattle.history.proofs.FinishedBy.{kept-reached, kept-released}
+use Rattle.dispatcher_laws.proofs.Release.{release-number, free-number, waits-number}
+use Rattle.dispatcher_laws.proofs.Sound.{Sound}
 
 module _ (p : Plan) (id number R : ℕ) (quoted : Quoted p id number R) where
-  -- what the verdict says
+  -- what the verdict says of the task
   abbrev J : Judged p id number R
   J = quoted-judged p id number R quoted
 
@@ -31,7 +32,7 @@ module _ (p : Plan) (id number R : ℕ) (quoted : Quoted p id number R) where
   P = J .order
 
   module _ (d : Dispatcher) (D : Sound p d) (K : KeptIn p (placeOf p id) (J .x) (number - 1) (J .w) d) where
-    -- in a state of the plan the release has no number, or 9 while the task waits
+    -- A release of the task, once its wait has passed, has no number.
     due-number : waitBy p id number d ≡ 0 → releaseNumber d id number ≡ 0
     due-number due =
         subst (λ (n : ℕ). releaseNumber d id n ≡ 0) (sym (J .task .from-1))
@@ -46,18 +47,18 @@ module _ (p : Plan) (id number R : ℕ) (quoted : Quoted p id number R) where
           free = free-when-due (bounded-of p P (J .fits)) K due;
         }))
 
-    -- it waits
+    -- A release of the task while it waits has 9.
     early-number : 0 < waitBy p id number d → releaseNumber d id number ≡ 9
     early-number h =
         subst (λ (n : ℕ). releaseNumber d id n ≡ 9) (sym (J .task .from-1))
         (waits-number d id (placeOf p id) (number - 1) (D .ok) (ap (λ (z : Plan). placeOf z id) (D .plan))
         (in-plan p P (J .fits) d D) (in-guest p P (J .fits) d D) h)
 
-    -- so the release is taken
+    -- A release of the task, once its wait has passed, is taken.
     due-taken : waitBy p id number d ≡ 0 → release d id number .refusal .number ≡ 0
     due-taken due = release-number d id number ∙ due-number due
 
-    -- and never refused as 10
+    -- A release of the task is never refused as 10.
     not-10 : release d id number .refusal .number ≡ 10 → ⊥
     not-10 e =
         elim (ℕ-discrete (waitBy p id number d) 0) [
@@ -69,14 +70,14 @@ module _ (p : Plan) (id number R : ℕ) (quoted : Quoted p id number R) where
   pub never-10 : (cs : List Call) → release (play cs (start p)) id number .refusal .number ≡ 10 → ⊥
   never-10 cs = not-10 (play cs (start p)) (sound-reached p (J .task .there .order) cs) (kept-reached p id number R quoted cs)
 
-  -- Its release is taken if none was taken before.
+  -- A release of the task is taken if none was taken before.
   pub first-taken : (cs : List Call) → NoneTaken id number cs (start p) → release (play cs (start p)) id number .refusal .number ≡ 0
   first-taken cs none =
       due-taken (play cs (start p)) (sound-reached p (J .task .there .order) cs) (kept-reached p id number R quoted cs)
       (before-any p (J .task .there .order) id number (J .fits .in-plan) (J .fits .in-guest)
       (J .task .from-1) cs none .due)
 
-  -- Its release is taken if at least its period of ticks was done since the last one taken.
+  -- A release of the task is taken if at least its period of ticks was done since the last one taken.
   pub next-taken :
       (cs : List Call)
       → release (play cs (start p)) id number .refusal .number ≡ 0

@@ -14,42 +14,22 @@ use Rattle.dispatcher.specs.Answer.{answer}
 use Rattle.dispatcher.specs.Run.{ticks}
 use Rattle.dispatcher.specs.Release.{taken, release}
 use Rattle.history.specs.Calls.{Call, releasing, ticking, running, after, play, singles, ticksOf, ticksIn, answers, Throughout}
-use Rattle.history.proofs.Seen.{Shaped}
-use Rattle.history.proofs.Valid.{ok-next, ok-taken, taken-plan}
-use Rattle.history.proofs.Next.{next-plan}
-use Rattle.history.proofs.Took.{Free, Took, kept, took, release-took}
-use Rattle.history.proofs.Shape.{shaped-next, shaped-taken}
-use Rattle.history.proofs.Ticks.{tick-state, tick-one, singles-next, singles-none, singles-length, run-state}
+use Rattle.history.proofs.Ticks.{tick-one, singles-next, singles-none, singles-length, run-state}
+use Rattle.dispatcher_laws.proofs.Entries.{tick-state}
+use Rattle.dispatcher_laws.proofs.Release.{Free, Took, release-took, kept, took}
+use Rattle.dispatcher_laws.proofs.Sound.{Sound, sound-next, sound-taken}
 
--- A state of the plan that is not refused, and has its shape.
-pub record Sound (p : Plan) (d : Dispatcher) : Type 0 where
-  pub plan : d .plan ≡ p
-  pub ok : stateOk d ≡ true
-  pub shaped : Shaped d
-
--- over a tick
-pub sound-next : {p : Plan} (d : Dispatcher) → Sound p d → Sound p (next d)
-sound-next d S = record { plan = next-plan d ∙ S .plan; ok = ok-next d (S .ok); shaped = shaped-next d (S .shaped) }
-
--- over a taken release
-pub sound-taken : {p : Plan} (d : Dispatcher) (id task k t : ℕ) → Sound p d → Free d id task k t → Sound p (taken d k t)
-sound-taken d id task k t S F = record {
-  plan = taken-plan d k t ∙ S .plan;
-  ok = ok-taken d k t (F .in-plan) (F .in-guest) (S .shaped .tasks k (F .in-plan)) (S .ok);
-  shaped = shaped-taken d (S .shaped) k t;
-}
-
--- a call of a tick is one tick of the rule
+-- A call of a tick is one tick of the rule.
 pub ticking-done : (d : Dispatcher) → stateOk d ≡ true → after ticking d ≡ ticks (ticksOf ticking d) d
 unfolding after ticksOf ticks
 ticking-done d ok = tick-state d ok ∙ sym (ap (λ (n : ℕ). ticks n d) (tick-one d ok))
 
--- a run is the ticks that it reports
+-- A run is the ticks that it reports.
 pub running-done : (n : ℕ) (d : Dispatcher) → stateOk d ≡ true → after (running n) d ≡ ticks (ticksOf (running n) d) d
 unfolding after ticksOf
 running-done n d ok = run-state n d ok
 
--- a release does none
+-- A release does no tick.
 releasing-none : (id task : ℕ) (d : Dispatcher) → singles (ticksOf (releasing id task) d) d ≡ []
 unfolding ticksOf
 releasing-none id task d = singles-none d
@@ -64,12 +44,12 @@ module _ (p : Plan) (I : List Answer → Dispatcher → Type 0) (Allowed : Call 
     → Free d id task k t
     → I L d
     → I L (taken d k t)) where
-  -- it stands, in a state of the plan
+  -- It stands, in a state of the plan.
   pub record Stands (L : List Answer) (d : Dispatcher) : Type 0 where
     pub sound : Sound p d
     pub holds : I L d
 
-  -- over any number of ticks
+  -- It stands over any number of ticks.
   ticks-keep : (m : ℕ) (L : List Answer) (d : Dispatcher) → Stands L d → Stands (L ++ singles m d) (ticks m d)
   unfolding ticks
   ticks-keep zero L d S = rw (singles-none d, append-nil L) S
@@ -77,7 +57,7 @@ module _ (p : Plan) (I : List Answer → Dispatcher → Type 0) (Allowed : Call 
       rw (singles-next m d (S .sound .ok), ← append-assoc L (answer d ∷ []) (singles m (next d)))
       (ticks-keep m (L ++ (answer d ∷ [])) (next d) (record { sound = sound-next d (S .sound); holds = on-tick L d (S .sound) (S .holds) }))
 
-  -- over a release
+  -- It stands over a release.
   took-keeps :
       (id task : ℕ) (L : List Answer) (d : Dispatcher)
       → Allowed (releasing id task) d
@@ -88,7 +68,7 @@ module _ (p : Plan) (I : List Answer → Dispatcher → Type 0) (Allowed : Call 
   took-keeps id task L d a S (took k t F e) =
       rw e record { sound = sound-taken d id task k t (S .sound) F; holds = on-taken L d id task k t (S .sound) a F (S .holds) }
 
-  -- over any call
+  -- It stands over any call.
   pub after-keeps : (c : Call) (L : List Answer) (d : Dispatcher) → Allowed c d → Stands L d → Stands (L ++ singles (ticksOf c d) d) (after c d)
   unfolding after
   after-keeps (releasing id task) L d a S =
@@ -96,7 +76,7 @@ module _ (p : Plan) (I : List Answer → Dispatcher → Type 0) (Allowed : Call 
   after-keeps ticking L d a S = rw (ticking-done d (S .sound .ok)) (ticks-keep (ticksOf ticking d) L d S)
   after-keeps (running n) L d a S = rw (running-done n d (S .sound .ok)) (ticks-keep (ticksOf (running n) d) L d S)
 
-  -- over any history
+  -- It stands over any history.
   pub play-keeps : (cs : List Call) (L : List Answer) (d : Dispatcher) → Throughout Allowed cs d → Stands L d → Stands (L ++ answers cs d) (play cs d)
   unfolding play answers Throughout
   play-keeps [] L d a S = rw (append-nil L) S
@@ -108,28 +88,28 @@ module _ (p : Plan) (I : List Answer → Dispatcher → Type 0) (Allowed : Call 
 abbrev pub Any : Call → Dispatcher → Type 0
 Any c d = Unit {0}
 
--- so any history will do
+-- Where nothing is asked, any history will do.
 pub any : (cs : List Call) (d : Dispatcher) → Throughout Any cs d
 unfolding Throughout
 any [] d = tt
 any (c ∷ cs) d = (tt, any cs (after c d))
 
--- The state of the plan itself stands over any history.
+-- A state of the plan stays one over any history.
 pub sound-play : {p : Plan} (cs : List Call) (d : Dispatcher) → Sound p d → Sound p (play cs d)
 sound-play {p} cs d D =
     play-keeps p (λ L e. Unit {0}) Any (λ L e S u. tt) (λ L e id task k t S a F u. tt) cs [] d (any cs d) record { sound = D; holds = tt }
     .sound
 
--- and over any call
+-- A state of the plan stays one over any call.
 pub sound-after : {p : Plan} (c : Call) (d : Dispatcher) → Sound p d → Sound p (after c d)
 unfolding play
 sound-after c d D = sound-play (c ∷ []) d D
 
--- a call's answers are as many as its ticks
+-- A call's answers are as many as its ticks.
 pub answers-of : {p : Plan} (c : Call) (d : Dispatcher) → Sound p d → length (singles (ticksOf c d) d) ≡ ticksOf c d
 answers-of c d D = singles-length (ticksOf c d) d (D .ok)
 
--- and so are a history's
+-- A history's answers are as many as its ticks.
 pub answers-length : {p : Plan} (cs : List Call) (d : Dispatcher) → Sound p d → length (answers cs d) ≡ ticksIn cs d
 unfolding answers ticksIn
 answers-length [] d D = refl

@@ -27,29 +27,30 @@ use Rattle.lists.proofs.Sum.{sum-same}
 use Rattle.plan.proofs.Charge.{charged-least}
 use Rattle.plan.proofs.Order.{PlanIn}
 use Rattle.windows.proofs.Kept.{kept-tick, kept-taken, kept-same, kept-fresh}
-use Rattle.history.proofs.Seen.{capOf, perOf, runIn, everyIn, posAt, leftAt, heldAt, tasksAt}
-use Rattle.history.proofs.TickSeen.{guest-tick, task-mine, task-else}
-use Rattle.history.proofs.Took.{Free, taken-here, taken-else}
-use Rattle.history.proofs.Play.{Sound}
-use Rattle.history.proofs.Fresh.{idle-held, idle-position, idle-rest, idle-wait}
+use Rattle.dispatcher_laws.proofs.Fresh.{idle-position, idle-held, idle-rest, idle-wait}
+use Rattle.dispatcher_laws.proofs.GuestTick.{guest-tick}
+use Rattle.dispatcher_laws.proofs.Release.{Free, taken-here, taken-else}
+use Rattle.dispatcher_laws.proofs.Seen.{capOf, perOf, runIn, everyIn, posAt, leftAt, heldAt, tasksAt}
+use Rattle.dispatcher_laws.proofs.Sound.{Sound}
+use Rattle.dispatcher_laws.proofs.TaskTick.{task-else, task-mine}
 
--- what guests above take, as the windows have it
+-- What guests above take is what the windows have guests above take.
 interference-is : (p : Plan) (k v : ℕ) → interference p k v ≡ asked (capOf p) (perOf p) k v
 unfolding interference jitter asked
 interference-is p k v =
     sum-same (λ j. up (v + 0) (perOf p j) * capOf p j) (λ j. up v (perOf p j) * capOf p j) k (λ j l. rw (add-zero v) refl)
 
--- so for the load
+-- The load is the windows' load.
 load-seen : (p : Plan) (k i w : ℕ) → load (guestAt (p .guests) k) i w ≡ loadAfter (runIn p k) (everyIn p k) i (perOf p k - capOf p k) w
 unfolding load loadAfter asked gap
 load-seen p k i w = refl
 
--- and the right side of a task's equation
+-- The right side of a task's equation is that of the windows' system.
 right-is : (p : Plan) (k i w : ℕ) → taskRight p k i w ≡ right (systemAt (capOf p) (perOf p) k (runIn p k) (everyIn p k) i) w
 unfolding taskRight periods right rightAt
 right-is p k i w = rw (load-seen p k i w, interference-is p k) refl
 
--- a guest of records in order that is fitted with x, as the windows have it
+-- A guest of records in order that is fitted with x is fitted with x as the windows have it.
 pub fitted-of : (p : Plan) → PlanIn p → {g x : ℕ} → g < p .count → GuestSolves p g x → Fitted (capOf p) (perOf p) g x
 unfolding guestRight
 fitted-of p P {g} {x} in-plan G = record {
@@ -67,12 +68,12 @@ pub record TaskFits (p : Plan) (g x i w : ℕ) : Type 0 where
   pub solves : TaskSolves p g i w
   pub in-period : response (capOf p) (perOf p) g w ≤ everyIn p g i
 
--- What is kept of a state, seen from task i of guest g.
+-- what is kept of a state, seen from task i of guest g
 abbrev pub KeptIn : Plan → (g x i w : ℕ) → Dispatcher → Type 0
 KeptIn p g x i w d = Kept (capOf p) (perOf p) g x (runIn p g) (everyIn p g) i w (heldAt d) (posAt d) (tasksAt d g)
 
 module _ (p : Plan) (P : PlanIn p) {g x i w : ℕ} (T : TaskFits p g x i w) where
-  -- what the ranges add to it
+  -- The ranges of the records bound the task as the windows want it.
   pub bounded-of : Bounded (capOf p) (perOf p) g x (runIn p g) (everyIn p g) i w
   bounded-of =
       let G = P .guests g (T .in-plan) in
@@ -89,7 +90,7 @@ module _ (p : Plan) (P : PlanIn p) {g x i w : ℕ} (T : TaskFits p g x i w) wher
         in-period = T .in-period;
       }
 
-  -- at the fresh start
+  -- The invariant stands at the fresh start.
   pub kept-idle : KeptIn p g x i w (idle p)
   kept-idle =
       kept-fresh bounded-of (heldAt (idle p)) (posAt (idle p)) (tasksAt (idle p) g) (λ k h. idle-held p k (omega (arith, P .few, T .in-plan)))
@@ -98,15 +99,15 @@ module _ (p : Plan) (P : PlanIn p) {g x i w : ℕ} (T : TaskFits p g x i w) wher
       (λ j h. idle-wait p g j (omega (arith, P .few, T .in-plan)) (omega (arith, T .in-guest, P .guests g (T .in-plan) .head .few)))
 
   module _ (d : Dispatcher) (D : Sound p d) where
-    -- the guest is in the state's plan
+    -- The guest is in the state's plan.
     pub in-plan : g < d .plan .count
     in-plan = rw (D .plan) (T .in-plan)
 
-    -- and the task in the guest
+    -- The task is in the guest of the state's plan.
     pub in-guest : i < guestIn d g .tasks
     in-guest = rw (D .plan) (T .in-guest)
 
-    -- over a tick
+    -- The invariant stands over a tick.
     pub kept-next : KeptIn p g x i w d → KeptIn p g x i w (next d)
     kept-next =
         kept-tick bounded-of
@@ -114,7 +115,7 @@ module _ (p : Plan) (P : PlanIn p) {g x i w : ℕ} (T : TaskFits p g x i w) wher
         (D .plan) (guest-tick d (D .shaped) g in-plan))
         (task-mine d (D .shaped) g i in-plan in-guest) (task-else d (D .shaped) g i in-plan in-guest)
 
-    -- over a taken release, of this guest or another
+    -- The invariant stands over a taken release, of this guest or another.
     pub kept-release : (id task k t : ℕ) → Free d id task k t → KeptIn p g x i w d → KeptIn p g x i w (taken d k t)
     unfolding taken
     kept-release id task k t F K =

@@ -10,32 +10,32 @@ use Rattle.dispatcher.specs.declared.Answer.the-variants.{Silent}
 use Rattle.history.specs.Share.{answerAt, countOf}
 use Rattle.lists.proofs.Sum.{sum-none, sum-last, sum-same}
 
--- an answer already given
+-- An answer already given stands.
 pub answer-old : (l m : List Answer) (k : ℕ) → k < length l → answerAt (l ++ m) k ≡ answerAt l k
 answer-old l m k h = List·getD-append l m Silent k h
 
--- the answer that is added
+-- The answer that is added is the last.
 pub answer-new : (l : List Answer) (a : Answer) (k : ℕ) → length l ≡ k → answerAt (l ++ (a ∷ [])) k ≡ a
 answer-new l a k e = getD-at l a [] Silent k e
 
 module _ (f : Answer → ℕ) where
-  -- of no ticks, none
+  -- No ticks count as none.
   pub count-none : (l : List Answer) (m : ℕ) → countOf f l m 0 ≡ 0
   unfolding countOf
   count-none l m = sum-none (λ j. f (answerAt l (m + j)))
 
-  -- ticks already done
+  -- Ticks already done count as they did.
   pub count-old : (l k : List Answer) (m n : ℕ) → m + n ≤ length l → countOf f (l ++ k) m n ≡ countOf f l m n
   unfolding countOf
   count-old l k m n h =
       sum-same (λ j. f (answerAt (l ++ k) (m + j))) (λ j. f (answerAt l (m + j))) n (λ j b. ap f (answer-old l k (m + j) (omega arith)))
 
-  -- the last tick peeled off
+  -- The last tick can be peeled off a count.
   count-last : (l : List Answer) (m n : ℕ) → countOf f l m (suc n) ≡ countOf f l m n + f (answerAt l (m + n))
   unfolding countOf
   count-last l m n = sum-last (λ j. f (answerAt l (m + j))) n
 
-  -- one tick more
+  -- One tick more adds what its answer says.
   pub count-next : (l : List Answer) (a : Answer) (m n : ℕ) → length l ≡ m + n → countOf f (l ++ (a ∷ [])) m (suc n) ≡ countOf f l m n + f a
   count-next l a m n e =
       omega (

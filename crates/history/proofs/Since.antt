@@ -16,24 +16,25 @@ use Rattle.dispatcher.specs.Answer.{answer}
 use Rattle.dispatcher.specs.Release.{taken}
 use Rattle.windows.specs.TaskTick.{TaskTick}
 use Rattle.history.specs.Calls.{Call, releasing, play, ticksIn, Takes, NoneTaken}
-use Rattle.history.proofs.Seen.{everyIn, tasksAt}
-use Rattle.history.proofs.TickSeen.{task-tick}
-use Rattle.history.proofs.Took.{Free, free-taken, taken-here, taken-else}
-use Rattle.history.proofs.Play.{Sound, play-keeps, answers-length}
+use Rattle.history.proofs.Play.{play-keeps, answers-length}
 use Rattle.verdict_laws.proofs.Ids.{idOf, found-id}
+use Rattle.dispatcher_laws.proofs.Release.{Free, free-taken, taken-here, taken-else}
+use Rattle.dispatcher_laws.proofs.Seen.{everyIn, tasksAt}
+use Rattle.dispatcher_laws.proofs.Sound.{Sound}
+use Rattle.dispatcher_laws.proofs.TaskTick.{task-tick}
 
--- m ticks after a taken release of task i of guest g
+-- The state m ticks after a taken release of task i of guest g.
 pub record Since (p : Plan) (g i m : ℕ) (d : Dispatcher) : Type 0 where
   pub waits : waitAt d g i ≡ everyIn p g i - m
   pub age : 0 < restAt d g i → ageAt d g i ≡ min m 1000000
 
--- before any
+-- The state before any release of task i of guest g is taken.
 pub record Never (g i : ℕ) (d : Dispatcher) : Type 0 where
   pub free : restAt d g i ≡ 0
   pub due : waitAt d g i ≡ 0
 
 module _ (p : Plan) (g i : ℕ) (in-plan : g < p .count) (in-guest : i < guestAt (p .guests) g .tasks) where
-  -- a release that is not one of this task is taken elsewhere
+  -- A release that is not one of this task is taken elsewhere.
   elsewhere :
       (d : Dispatcher) (id task k t : ℕ)
       → Sound p d
@@ -52,7 +53,7 @@ module _ (p : Plan) (g i : ℕ) (in-plan : g < p .count) (in-guest : i < guestAt
       let same : id ≡ idOf p g = sym (rw (D .plan) at found) in
       n (same, (F .number ∙ ap suc (sym b), free-taken d id task k t F))
 
-  -- over a tick
+  -- One tick more is done since, over a tick.
   since-next : (m : ℕ) (d : Dispatcher) → Sound p d → Since p g i m d → Since p g i (suc m) (next d)
   since-next m d D S = by (task-tick d (D .shaped) g i (rw (D .plan) in-plan) (rw (D .plan) in-guest))
     where
@@ -64,7 +65,7 @@ module _ (p : Plan) (g i : ℕ) (in-plan : g < p .count) (in-guest : i < guestAt
             omega (arith, S .age old, t .older old);
       }
 
-  -- over a taken release of another task
+  -- As many ticks are done since, over a taken release of another task.
   since-else :
       (m : ℕ) (d : Dispatcher) (k t : ℕ)
       → Sound p d
@@ -77,18 +78,18 @@ module _ (p : Plan) (g i : ℕ) (in-plan : g < p .count) (in-guest : i < guestAt
       let E = taken-else d (D .shaped) k t kh th g i n in
       record { waits = omega (arith, E .due, S .waits); age = λ r. omega (arith, E .old, S .age (omega (arith, E .left))) }
 
-  -- at a taken release of this task
+  -- No tick is done since, at a taken release of this task.
   pub since-taken : (d : Dispatcher) → Sound p d → waitAt d g i ≡ 0 → restAt d g i ≡ 0 → Since p g i 0 (taken d g i)
   since-taken d D due free =
       let T = taken-here d (D .shaped) g i (rw (D .plan) in-plan) (rw (D .plan) in-guest) due free in
       let e : everyIn (d .plan) g i ≡ everyIn p g i = ap (λ (z : Plan). everyIn z g i) (D .plan) in
       record { waits = omega (arith, T .waits); age = λ r. omega (arith, T .young) }
 
-  -- one answer more
+  -- There is one answer more.
   one-more : (m : ℕ) (L : List Answer) (a : Answer) → suc (m + length L) ≡ m + length (L ++ (a ∷ []))
   one-more m L a = simp length-append (omega arith)
 
-  -- Over a history in which no release of it is taken, m counts the ticks.
+  -- Over a history in which no release of the task is taken, m counts the ticks.
   pub since-play :
       (ds : List Call) (m : ℕ) (d : Dispatcher)
       → Sound p d
@@ -103,14 +104,14 @@ module _ (p : Plan) (g i : ℕ) (in-plan : g < p .count) (in-guest : i < guestAt
       ds [] d none (record { sound = D; holds = subst (λ (z : ℕ). Since p g i z d) (let q : m ≡ m + 0 = omega arith in q) S })
       .holds)
 
-  -- a task without job and wait stays so over a tick
+  -- A task without job and wait stays so over a tick.
   never-next : (d : Dispatcher) → Sound p d → Never g i d → Never g i (next d)
   never-next d D N = by (task-tick d (D .shaped) g i (rw (D .plan) in-plan) (rw (D .plan) in-guest))
     where
       by : (a : ℕ) × TaskTick i a (tasksAt d g) (tasksAt (next d) g) → Never g i (next d)
       by (a, t) = record { free = omega (arith, N .free, t .less i (omega arith)); due = omega (arith, N .due, t .waited i (omega arith)) }
 
-  -- and over a taken release of another
+  -- A task without job and wait stays so over a taken release of another.
   never-else :
       (d : Dispatcher) (k t : ℕ)
       → Sound p d
@@ -123,7 +124,7 @@ module _ (p : Plan) (g i : ℕ) (in-plan : g < p .count) (in-guest : i < guestAt
       let E = taken-else d (D .shaped) k t kh th g i n in
       record { free = omega (arith, E .left, N .free); due = omega (arith, E .due, N .due) }
 
-  -- Over a history in which no release of it is taken, it has no job and no wait.
+  -- Over a history in which no release of the task is taken, it has no job and no wait.
   pub never-play : (ds : List Call) (d : Dispatcher) → Sound p d → NoneTaken (idOf p g) (suc i) ds d → Never g i d → Never g i (play ds d)
   never-play ds d D none N =
       play-keeps p (λ L e. Never g i e) (λ c e. Takes c e (idOf p g) (suc i) → ⊥) (λ L e E I. never-next e E I)

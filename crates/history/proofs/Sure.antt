@@ -23,18 +23,19 @@ use Rattle.history.specs.Calls.{Call, start, play, ticksIn, answers}
 use Rattle.history.specs.Named.{guestBy}
 use Rattle.history.specs.Share.{share}
 use Rattle.plan.proofs.Order.{plan-in}
-use Rattle.history.proofs.Seen.{capOf, perOf, posAt, leftAt, heldAt}
-use Rattle.history.proofs.TickSeen.{guest-moved}
-use Rattle.history.proofs.Play.{Sound, Any, any, play-keeps, answers-length}
-use Rattle.history.proofs.Fresh.{fresh-idle, idle-position}
+use Rattle.history.proofs.Play.{Any, any, play-keeps, answers-length}
 use Rattle.verdict_laws.proofs.Ids.{idOf}
 use Rattle.history.proofs.Capacity.{Shares, shares-next, shares-taken, shares-idle}
 use Rattle.history.proofs.Quote.{fitted-of}
 use Rattle.verdict_laws.proofs.Guests.{fitted-means}
 use Rattle.history.proofs.Clocks.{sound-start, sound-reached}
+use Rattle.dispatcher_laws.proofs.Fresh.{fresh-idle, idle-position}
+use Rattle.dispatcher_laws.proofs.GuestTick.{guest-moved}
+use Rattle.dispatcher_laws.proofs.Seen.{capOf, perOf, posAt, leftAt, heldAt}
+use Rattle.dispatcher_laws.proofs.Sound.{Sound}
 
--- whole periods and a rest come to a number in one way
-parts-one : (T q k u r : ℕ) → u < T → r < T → q * T + u ≡ k * T + r → (q ≡ k) × (u ≡ r)
+-- Whole periods and a rest come to a number in one way.
+pub parts-one : (T q k u r : ℕ) → u < T → r < T → q * T + u ≡ k * T + r → (q ≡ k) × (u ≡ r)
 parts-one T q k u r hu hr e =
     elim (decLt q k) [
       | yes l ↦ absurd (omega (arith, mul-le-mul-right {m = suc q} {n = k} T l))
@@ -46,7 +47,7 @@ parts-one T q k u r hu hr e =
     ]
 
 module _ (p : Plan) (order : planRefusal p .number ≡ 0) (g x : ℕ) (in-plan : g < p .count) (G : GuestSolves p g x) (cs : List Call) where
-  -- what stands at the end of a history
+  -- The shares stand at the end of a history.
   shares : Shares p g x (answers cs (start p)) (play cs (start p))
   shares =
       let P = plan-in p order in
@@ -56,7 +57,7 @@ module _ (p : Plan) (order : planRefusal p .number ≡ 0) (g x : ℕ) (in-plan :
       record { sound = sound-start p order; holds = rw (fresh-idle p order) (shares-idle p P g x in-plan F) }
       .holds
 
-  -- so the k-th of its periods, once it has ended, has had the whole capacity
+  -- A period of the guest that has ended has had the whole capacity.
   shared : (k : ℕ) → suc k * perOf p g ≤ ticksIn cs (start p) → share (idOf p g) (answers cs (start p)) (k * perOf p g) (perOf p g) ≡ capOf p g
   shared k h =
       elim (decLt k (shares .q)) [
@@ -91,7 +92,7 @@ record Timed (p : Plan) (g : ℕ) (L : List Answer) (d : Dispatcher) : Type 0 wh
   time : length L ≡ q * perOf p g + posAt d g
 
 module _ (p : Plan) (g : ℕ) (in-plan : g < p .count) where
-  -- a guest's move, in these terms
+  -- A guest's move keeps time.
   timed-by :
       (L : List Answer) (a : Answer) (d d' : Dispatcher) {c l h : ℕ}
       → Timed p g L d
@@ -100,14 +101,14 @@ module _ (p : Plan) (g : ℕ) (in-plan : g < p .count) where
   timed-by L a d d' S (on u v z) = record { q = S .q; time = simp length-append (omega (arith, S .time)) }
   timed-by L a d d' S (over u v z) = record { q = suc (S .q); time = simp length-append (omega (arith, S .time)) }
 
-  -- over a tick
+  -- Time is kept over a tick.
   timed-next : (L : List Answer) (d : Dispatcher) → Sound p d → Timed p g L d → Timed p g (L ++ (answer d ∷ [])) (next d)
   timed-next L d D S =
       timed-by L (answer d) d (next d) S
       (subst (λ (z : Plan). Moved (capOf z g) (perOf z g) (posAt d g) (leftAt (next d) g) (posAt (next d) g) (heldAt (next d) g)) (D .plan)
       (guest-moved d (D .shaped) g (rw (D .plan) in-plan) g (omega arith)))
 
-  -- over a taken release
+  -- Time is kept over a taken release.
   timed-taken : (L : List Answer) (d : Dispatcher) (k t : ℕ) → Timed p g L d → Timed p g L (taken d k t)
   unfolding taken
   timed-taken L d k t S = record { q = S .q; time = S .time }

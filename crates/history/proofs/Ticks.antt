@@ -1,16 +1,14 @@
--- A tick and a run of a state that is not refused, as single ticks of the rule. Assumes nothing.
+-- A tick and a run of a state in its ranges, as single ticks of the rule. Assumes nothing.
 use mathlib.Core.Path.{_≡_, refl, ap, _∙_}
 use mathlib.Core.Bool.{Bool, true, false}
 use mathlib.Core.List.{[], _∷_}
 use Prim.Native.Nat.{ℕ, zero, suc, _+_, _≤_, _<_}
 use native.Mathlib.Decide.{decLe}
 use native.Mathlib.Omega.{arith}
-use lib.Dec.{leb, ltb}
+use lib.Dec.{ltb}
 use lib.ListN.{length, getD}
-use borrow.Author.Tests.{le-leb, lt-leb}
 use Rattle.lists.specs.Choice.{pick}
-use Rattle.lists.specs.Refusals.{refusal, _orRefuse_}
-use Rattle.plan.specs.First.{refused}
+use Rattle.lists.specs.Refusals.{refusal}
 use Rattle.dispatcher.specs.declared.Dispatcher.{Dispatcher}
 use Rattle.dispatcher.specs.declared.Answer.{Answer}
 use Rattle.dispatcher.specs.declared.Answer.the-variants.{Silent}
@@ -20,33 +18,13 @@ use Rattle.dispatcher.specs.Valid.{stateOk}
 use Rattle.dispatcher.specs.Tick.{holder, isHeld, worker, isWorked, next}
 use Rattle.dispatcher.specs.Answer.{answerBy, answer, finishes}
 use Rattle.dispatcher.specs.Run.{ticks, ranTo, runFrom, runFor}
-use Rattle.dispatcher.specs.Entries.{longestRun, tickedBy, tick, ranBy, run}
+use Rattle.dispatcher.specs.Entries.{tick, run}
 use Rattle.history.specs.Calls.{listed, singles}
-use Rattle.lists.proofs.Refusals.{none-left, go-on, stop}
-use Rattle.history.proofs.Valid.{ok-next}
+use Rattle.dispatcher_laws.proofs.Entries.{tick-answer, tick-state, run-fine, run-13}
+use Rattle.dispatcher_laws.proofs.Valid.{ok-next}
 
 -- ---- a tick
--- it is not refused
-tick-number : (d : Dispatcher) → stateOk d ≡ true → refusal (stateOk d orRefuse 14 ∷ []) ≡ 0
-tick-number d e = go-on 14 [] e ∙ none-left
-
-module _ (d : Dispatcher) (ok : stateOk d ≡ true) where
-  -- its answer
-  pub tick-answer : tick d .answer ≡ answer d
-  unfolding tick tickedBy
-  tick-answer = ap (λ (n : ℕ). tickedBy n d .answer) (tick-number d ok)
-
-  -- its state
-  pub tick-state : tick d .state ≡ next d
-  unfolding tick tickedBy
-  tick-state = ap (λ (n : ℕ). tickedBy n d .state) (tick-number d ok)
-
-  -- its refusal
-  pub tick-fine : tick d .refusal .number ≡ 0
-  unfolding tick tickedBy
-  tick-fine = ap (λ (n : ℕ). tickedBy n d .refusal .number) (tick-number d ok)
-
--- a tick always answers
+-- A tick always answers.
 listed-by : (a b c : Bool) (d : Dispatcher) → listed (answerBy a b c d) ≡ answerBy a b c d ∷ []
 unfolding listed answerBy
 listed-by false b c d = refl
@@ -54,22 +32,22 @@ listed-by true false c d = refl
 listed-by true true true d = refl
 listed-by true true false d = refl
 
--- so it is listed
+-- The answer of a tick is listed.
 pub listed-answer : (d : Dispatcher) → listed (answer d) ≡ answer d ∷ []
 unfolding answer
 listed-answer d = listed-by (isHeld d) (isWorked d) (ltb 1 (restAt d (holder d) (worker d))) d
 
--- the answers of one tick more
+-- One tick more has one answer more, in front.
 pub singles-next : (n : ℕ) (d : Dispatcher) → stateOk d ≡ true → singles (suc n) d ≡ answer d ∷ singles n (next d)
 unfolding singles
 singles-next n d ok = rw (tick-answer d ok, tick-state d ok, listed-answer d) refl
 
--- no tick, no answer
+-- No tick has no answer.
 pub singles-none : (d : Dispatcher) → singles 0 d ≡ []
 unfolding singles
 singles-none d = refl
 
--- as many answers as ticks
+-- There are as many answers as ticks.
 pub singles-length : (n : ℕ) (d : Dispatcher) → stateOk d ≡ true → length (singles n d) ≡ n
 singles-length zero d ok = ap length (singles-none d)
 singles-length (suc n) d ok = ap length (singles-next n d ok) ∙ ap suc (singles-length n (next d) (ok-next d ok))
@@ -97,7 +75,7 @@ record From (n k : ℕ) (a : Answer) (d : Dispatcher) (r : Ran) : Type 0 where
   early : (m : ℕ) → suc m < j → finishes (getD (singles j d) m Silent) ≡ false
   ends : j < n → finishes (r .answer) ≡ true
 
--- nothing is to do
+-- Where nothing is to do, nothing is done.
 from-none : (k : ℕ) (a : Answer) (d : Dispatcher) → From 0 k a d (ranTo k a d)
 unfolding ticks
 from-none k a d = record {
@@ -112,7 +90,7 @@ from-none k a d = record {
   ends = λ l. absurd (omega arith);
 }
 
--- the first of them finishes a job
+-- The first of them finishes a job, and nothing more is done.
 from-stop :
     (n k : ℕ) (a : Answer) (d : Dispatcher)
     → stateOk d ≡ true
@@ -131,7 +109,7 @@ from-stop n k a d ok e = record {
   ends = λ l. e;
 }
 
--- it does not, and the rest is done
+-- The first of them finishes no job, and the rest is done.
 from-on :
     (n k : ℕ) (a : Answer) (d : Dispatcher) (r : Ran)
     → stateOk d ≡ true
@@ -168,7 +146,7 @@ from-on n k a d r ok e F = record {
     early-at zero l more = e
     early-at (suc m) l more = more m (omega arith)
 
--- any number of them
+-- Any number of them are done so.
 from-by : (n k : ℕ) (a : Answer) (d : Dispatcher) → stateOk d ≡ true → From n k a d (runFrom n k a d)
 unfolding runFrom
 from-by zero k a d ok = from-none k a d
@@ -179,7 +157,7 @@ from-by (suc n) k a d ok = by (finishes (answer d)) refl (from-by n (k + 1) (ans
     by true e F = from-stop n k a d ok e
     by false e F = from-on n k a d (runFrom n (k + 1) (answer d) (next d)) ok e F
 
--- a run that is not refused
+-- The rule's run is its single ticks.
 runs-by : (n : ℕ) (d : Dispatcher) → stateOk d ≡ true → RunBy n d (runFor n d)
 unfolding runFor
 runs-by n d ok =
@@ -195,33 +173,11 @@ runs-by n d ok =
       ends = λ l. F .ends (omega arith);
     }
 
--- its number of ticks is not refused
-run-number : (n : ℕ) (d : Dispatcher) → stateOk d ≡ true → n ≤ 1000000 → refusal (stateOk d orRefuse 14 ∷ leb n longestRun orRefuse 13 ∷ []) ≡ 0
-run-number n d ok h = go-on 14 _ ok ∙ go-on 13 [] (le-leb n longestRun h) ∙ none-left
-
--- it is
-run-too-long : (n : ℕ) (d : Dispatcher) → stateOk d ≡ true → 1000000 < n → refusal (stateOk d orRefuse 14 ∷ leb n longestRun orRefuse 13 ∷ []) ≡ 13
-run-too-long n d ok h = go-on 14 _ ok ∙ stop 13 [] (lt-leb n longestRun h)
-
--- the call
-pub run-fine : (n : ℕ) (d : Dispatcher) → stateOk d ≡ true → n ≤ 1000000 → run d n ≡ runFor n d
-unfolding run ranBy
-run-fine n d ok h = ap (λ (x : ℕ). ranBy x d n) (run-number n d ok h)
-
 -- A run of at most 1,000,000 ticks is its single ticks.
 pub run-by : (n : ℕ) (d : Dispatcher) → stateOk d ≡ true → n ≤ 1000000 → RunBy n d (run d n)
 run-by n d ok h = rw (run-fine n d ok h) (runs-by n d ok)
 
--- A longer one is refused, and does nothing.
-pub run-13 :
-    (n : ℕ) (d : Dispatcher)
-    → stateOk d ≡ true
-    → 1000000 < n
-    → run d n ≡ record { refusal = refused 13 0; done = 0; answer = Silent; state = d }
-unfolding run ranBy
-run-13 n d ok h = ap (λ (x : ℕ). ranBy x d n) (run-too-long n d ok h)
-
--- In either case the state is that of the ticks that it reports.
+-- The state after a run, refused or not, is that of the ticks that it reports.
 pub run-state : (n : ℕ) (d : Dispatcher) → stateOk d ≡ true → run d n .state ≡ ticks (run d n .done) d
 unfolding ticks
 run-state n d ok =
@@ -230,6 +186,6 @@ run-state n d ok =
       | no h ↦ rw (run-13 n d ok (omega arith)) refl
     ]
 
--- and so is that of a tick
+-- A tick of a state in its ranges reports one tick.
 pub tick-one : (d : Dispatcher) → stateOk d ≡ true → length (listed (tick d .answer)) ≡ 1
 tick-one d ok = ap (λ (a : Answer). length (listed a)) (tick-answer d ok) ∙ ap length (listed-answer d)

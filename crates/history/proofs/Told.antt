@@ -17,11 +17,13 @@ use Rattle.dispatcher.specs.Entries.{run}
 use Rattle.history.specs.Calls.{Call, releasing, ticking, running, after, play, singles, ticksOf, ticksIn, answers, answerOf}
 use Rattle.history.specs.Share.{answerAt}
 use Rattle.history.specs.Finished.{Told}
-use Rattle.history.proofs.Ticks.{tick-answer, tick-one, singles-next, RunBy, run-by, run-13}
-use Rattle.history.proofs.Play.{Sound, sound-after, answers-of}
+use Rattle.history.proofs.Ticks.{tick-one, singles-next, RunBy, run-by}
+use Rattle.history.proofs.Play.{sound-after, answers-of}
 use Rattle.history.proofs.Share.{answer-old}
+use Rattle.dispatcher_laws.proofs.Entries.{tick-answer, run-13}
+use Rattle.dispatcher_laws.proofs.Sound.{Sound}
 
--- a tick that finishes a job, among those of a call, is its last, and the call's answer
+-- A tick that finishes a job, among those of a call, is its last, and the call's answer.
 pub finish-last :
     (c : Call) (d : Dispatcher) (m : ℕ)
     → stateOk d ≡ true
@@ -45,7 +47,7 @@ finish-last (running n) d m ok h e =
           ])
     ]
 
--- so is one among those of a history
+-- A tick that finishes a job, among those of a history, is told by a call.
 pub finish-told :
     {p : Plan} (ds : List Call) (d : Dispatcher) (m : ℕ)
     → Sound p d
@@ -77,7 +79,7 @@ finish-told (c ∷ cs) d m D h e =
           })
     ]
 
--- the other way: an answer handed back that says finished is the one of the call's last tick
+-- An answer handed back that says finished is the one of the call's last tick.
 pub told-last :
     (c : Call) (d : Dispatcher)
     → stateOk d ≡ true

@@ -1,4 +1,5 @@
--- The numbers beside a state count the ticks of its history. Strategy: a tick adds one where its answer is counted, modulo 2 to the 64. Assumes nothing.
+-- The numbers beside a state count the ticks of its history.
+-- Strategy: a tick adds one where its answer is counted, modulo 2 to the 64. Assumes nothing.
 use mathlib.Core.Path.{_≡_, refl, ap, subst, _∙_}
 use mathlib.Core.List.{List, [], _∷_, _++_}
 use Prim.Native.Nat.{ℕ, _+_, _%_, _≤_, _<_}
@@ -10,11 +11,10 @@ use Rattle.lists.specs.Places.{nth}
 use Rattle.lists.specs.Sum.{sumTo}
 use Rattle.plan.specs.declared.Plan.{Plan}
 use Rattle.plan.specs.Order.{planRefusal}
-use Rattle.arrays.specs.Usage.{wrap, idledAt, nobodys, oneMore, tallied}
+use Rattle.arrays.specs.Usage.{wrap, nobodys}
 use Rattle.dispatcher.specs.declared.Dispatcher.{Dispatcher}
 use Rattle.dispatcher.specs.declared.Answer.{Answer}
 use Rattle.dispatcher.specs.State.{guestIn, restAt}
-use Rattle.dispatcher.specs.Valid.{tasksIn, guestInRange, taskInRange, rowOk, stateOk}
 use Rattle.dispatcher.specs.Tick.{holder, worker, usageAfter, next}
 use Rattle.dispatcher.specs.Answer.{holderId, answer}
 use Rattle.dispatcher.specs.Release.{taken}
@@ -24,39 +24,25 @@ use Rattle.history.specs.Share.{bit, names}
 use Rattle.history.specs.Usage.{idles, unhad, Accounts}
 use Rattle.lists.proofs.Sum.{sum-zero}
 use Rattle.plan.proofs.Order.{PlanIn, plan-in}
-use Rattle.arrays.proofs.Tallies.{more-long}
 use Rattle.verdict_laws.proofs.Ids.{idOf, id-one}
-use Rattle.history.proofs.Next.{is-held, not-held, is-worked, not-worked}
-use Rattle.history.proofs.Answered.{answer-nobody, answer-idled, answer-worked, answer-finished, names-mine, names-else}
-use Rattle.history.proofs.Play.{Sound, Any, any, play-keeps, answers-length}
-use Rattle.history.proofs.Fresh.{fresh-idle}
+use Rattle.history.proofs.Answered.{names-mine, names-else}
+use Rattle.history.proofs.Play.{Any, any, play-keeps, answers-length}
 use Rattle.history.proofs.Share.{count-none}
 use Rattle.history.proofs.Clocks.{sound-start}
 use Rattle.history.proofs.Accounts.{by-nobody, by-worked, by-idled}
+use Rattle.dispatcher_laws.proofs.Answer.{answer-nobody, answer-idled, answer-worked, answer-finished}
+use Rattle.dispatcher_laws.proofs.Fresh.{fresh-idle}
+use Rattle.dispatcher_laws.proofs.Sound.{Sound}
+use Rattle.dispatcher_laws.proofs.Tick.{usage-nobody, usage-worked, usage-idled, usage-long}
 
--- After the answers l, what the numbers of a state are.
+-- what the numbers of a state are after the answers l
 record Counted (p : Plan) (l : List Answer) (d : Dispatcher) : Type 0 where
   long : length (d .usage) ≡ 17
   accounts : Accounts p l (d .usage)
 
 -- ---- a tick
 module _ (d : Dispatcher) where
-  -- nobody has it
-  usage-nobody : d .plan .count ≤ holder d → usageAfter d ≡ oneMore (d .usage) nobodys
-  unfolding usageAfter tallied
-  usage-nobody h = rw (not-held d h) refl
-
-  -- a task has it
-  usage-worked : holder d < d .plan .count → worker d < guestIn d (holder d) .tasks → usageAfter d ≡ oneMore (d .usage) (holder d)
-  unfolding usageAfter tallied
-  usage-worked h w = rw (is-held d h, is-worked d h w) refl
-
-  -- a guest idles it away
-  usage-idled : holder d < d .plan .count → guestIn d (holder d) .tasks ≤ worker d → usageAfter d ≡ oneMore (oneMore (d .usage) (holder d)) (idledAt (holder d))
-  unfolding usageAfter tallied
-  usage-idled h w = rw (is-held d h, not-worked d w) refl
-
-  -- where a task works, none idled and it is not nobody's
+  -- Where a task works, no guest idles the tick away, and it is not nobody's.
   worked-tests : holder d < d .plan .count → worker d < guestIn d (holder d) .tasks → ((id : ℕ) → idles id (answer d) ≡ 0) × (unhad (answer d) ≡ 0)
   unfolding idles unhad
   worked-tests h w =
@@ -65,45 +51,33 @@ module _ (d : Dispatcher) where
         | no m ↦ rw (answer-finished d h w (omega arith)) (λ id. refl, refl)
       ]
 
-  -- the array keeps its length
-  usage-long : length (usageAfter d) ≡ length (d .usage)
-  usage-long =
-      elim (decLt (holder d) (d .plan .count)) [
-        | no n ↦ ap length (usage-nobody (omega arith)) ∙ more-long (d .usage) nobodys
-        | yes h ↦
-            elim (decLt (worker d) (guestIn d (holder d) .tasks)) [
-              | yes w ↦ ap length (usage-worked h w) ∙ more-long (d .usage) (holder d)
-              | no w ↦
-                  ap length (usage-idled h (omega arith))
-                  ∙ more-long (oneMore (d .usage) (holder d)) (idledAt (holder d))
-                  ∙ more-long (d .usage) (holder d)
-            ]
-      ]
-
   module _ (P : PlanIn (d .plan)) (l : List Answer) (long : length (d .usage) ≡ 17) (A : Accounts (d .plan) l (d .usage)) where
-    -- by who has it
+    -- The accounts stand over a tick that nobody has.
     accounts-nobody : d .plan .count ≤ holder d → Accounts (d .plan) (l ++ (answer d ∷ [])) (usageAfter d)
     unfolding names idles unhad
     accounts-nobody h =
-        rw (usage-nobody h)
+        rw (usage-nobody d h)
         (by-nobody (d .plan) P l (answer d) (d .usage) long A (λ id. rw (answer-nobody d h) refl) (λ id. rw (answer-nobody d h) refl) (rw (answer-nobody d h) refl))
 
     module _ (h : holder d < d .plan .count) where
+      -- The accounts stand over a tick that a task has.
       accounts-worked : worker d < guestIn d (holder d) .tasks → Accounts (d .plan) (l ++ (answer d ∷ [])) (usageAfter d)
       accounts-worked w =
-          rw (usage-worked h w)
+          rw (usage-worked d h w)
           (by-worked (d .plan) P l (answer d) (d .usage) long A (holder d) h (names-mine d (holder d) h refl) (λ k b n. names-else d k P b n)
           (worked-tests h w .1) (λ k. worked-tests h w .0 (idOf (d .plan) k)))
 
+      -- The accounts stand over a tick that a guest idles away.
       accounts-idled : guestIn d (holder d) .tasks ≤ worker d → Accounts (d .plan) (l ++ (answer d ∷ [])) (usageAfter d)
       unfolding bit idles unhad
       accounts-idled w =
-          rw (usage-idled h w)
+          rw (usage-idled d h w)
           (by-idled (d .plan) P l (answer d) (d .usage) long A (holder d) h (names-mine d (holder d) h refl) (λ k b n. names-else d k P b n)
           (rw (answer-idled d h w) refl)
           (rw (answer-idled d h w) (ap bit (eq-eqb (holderId d) (holderId d) refl)))
           (λ k b n. rw (answer-idled d h w) (ap bit (ne-eqb (holderId d) (idOf (d .plan) k) (λ e. n (id-one (d .plan) P (holder d) k h b e))))))
 
+    -- The accounts stand over a tick, whoever has it.
     tick-accounts : Accounts (d .plan) (l ++ (answer d ∷ [])) (usageAfter d)
     tick-accounts =
         elim (decLt (holder d) (d .plan .count)) [
@@ -117,7 +91,7 @@ module _ (d : Dispatcher) where
 
 -- ---- histories
 module _ (p : Plan) (P : PlanIn p) where
-  -- over a tick
+  -- What is counted stands over a tick.
   kept-next : (l : List Answer) (d : Dispatcher) → Sound p d → Counted p l d → Counted p (l ++ (answer d ∷ [])) (next d)
   unfolding next
   kept-next l d D K = record {
@@ -127,12 +101,12 @@ module _ (p : Plan) (P : PlanIn p) where
         (tick-accounts d (rw (D .plan) P) l (K .long) (rw (D .plan) (K .accounts)));
   }
 
-  -- over a taken release
+  -- What is counted stands over a taken release.
   kept-taken : (l : List Answer) (d : Dispatcher) (k t : ℕ) → Counted p l d → Counted p l (taken d k t)
   unfolding taken
   kept-taken l d k t K = record { long = K .long; accounts = K .accounts }
 
-  -- at the fresh start
+  -- What is counted stands at the fresh start.
   kept-idle : Counted p [] (idle p)
   unfolding idle
   kept-idle = record {
@@ -164,10 +138,3 @@ pub usage-adds-up :
     → (cs : List Call)
     → (sumTo (nth (play cs (start p) .usage)) (p .count) + nth (play cs (start p) .usage) nobodys) % wrap ≡ ticksIn cs (start p) % wrap
 usage-adds-up p order cs = usage-counts p order cs .all ∙ ap (λ (n : ℕ). n % wrap) (answers-length cs (start p) (sound-start p order))
-
--- 14 does not look at them.
-pub usage-unseen :
-    (d : Dispatcher) (u : List ℕ)
-    → stateOk (record { plan = d .plan; left = d .left; position = d .position; rest = d .rest; wait = d .wait; age = d .age; usage = u }) ≡ stateOk d
-unfolding stateOk rowOk guestInRange taskInRange tasksIn
-usage-unseen d u = refl

@@ -10,8 +10,8 @@ use Rattle.windows.specs.Equation.{response}
 use Rattle.verdict_laws.specs.Tasks.{TaskThere}
 use Rattle.plan.proofs.Order.{PlanIn, plan-in}
 use Rattle.verdict_laws.proofs.Tasks.{quoted-means}
-use Rattle.history.proofs.Seen.{capOf, perOf}
 use Rattle.history.proofs.Quote.{TaskFits}
+use Rattle.dispatcher_laws.proofs.Seen.{capOf, perOf}
 
 -- What a quoted R says of the task with that number of the guest with that id.
 pub record Judged (p : Plan) (id number R : ℕ) : Type 0 where
@@ -22,7 +22,7 @@ pub record Judged (p : Plan) (id number R : ℕ) : Type 0 where
   pub fits : TaskFits p (placeOf p id) x (number - 1) w
   pub quotes : R ≡ response (capOf p) (perOf p) (placeOf p id) w
 
--- by its meaning
+-- A quoted response has its meaning.
 pub quoted-judged : (p : Plan) (id number R : ℕ) → Quoted p id number R → Judged p id number R
 unfolding response gap
 quoted-judged p id number R q =

@@ -4,3 +4,4 @@ pub mod Share
 pub mod Runs
 pub mod Finished
 pub mod Usage
+pub mod Settings

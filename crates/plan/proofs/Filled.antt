@@ -1,13 +1,20 @@
--- How a loop fills a column. Assumes nothing.
-use mathlib.Core.Path.{_∙_}
+-- How a loop fills a column, and the columns of a plan. Assumes nothing.
+use mathlib.Core.Path.{refl, _∙_}
 use mathlib.Core.Logic.{⊎-elim}
 use mathlib.Core.List.{List}
 use Prim.Native.Nat.{ℕ, _+_, _≤_, _<_}
 use native.Mathlib.Nat.{eq-or-lt-of-le}
 use native.Mathlib.Omega.{arith}
-use lib.ListN.{set, length-set}
+use lib.ListN.{set, replicate, length-set}
 use lib.Seq.{getD-set-same, getD-set-other}
-use Rattle.plan.specs.Filled.{Filled}
+use Rattle.plan.specs.declared.Columns.{Columns}
+use Rattle.plan.specs.declared.Guest.{Guest}
+use Rattle.plan.specs.Records.{guestAt}
+use Rattle.plan.specs.Filled.{Filled, ColumnsOf}
+
+-- nothing is written yet
+pub filled-none : (f : ℕ → ℕ) → Filled (replicate 16 0) f 0
+filled-none f = record { long = refl; holds = λ z h. absurd (omega arith) }
 
 -- a loop's turn: one place more is written
 pub filled-next : (f : ℕ → ℕ) {r : List ℕ} (k : ℕ) → k < 16 → Filled r f k → Filled (set r k (f k)) f (k + 1)
@@ -22,3 +29,33 @@ filled-next f {r} k l c = record {
 -- a loop's end
 pub filled-done : (f : ℕ → ℕ) {r : List ℕ} (k n : ℕ) → n ≤ k → Filled r f k → Filled r f n
 filled-done f k n h c = record { long = c .long; holds = λ z l. c .holds z (omega arith) }
+
+-- no guest's numbers are written yet
+pub columns-none : (gs : List Guest)
+    → ColumnsOf gs 0 (record { ids = replicate 16 0; capacities = replicate 16 0; periods = replicate 16 0; tasks = replicate 16 0 })
+columns-none gs =
+    record { ids = filled-none _; capacities = filled-none _; periods = filled-none _; tasks = filled-none _ }
+
+-- a loop's turn: one guest's numbers more are written
+pub columns-next : {gs : List Guest} {c : Columns} (k : ℕ) → k < 16 → ColumnsOf gs k c
+    → ColumnsOf gs (k + 1) (record {
+      ids = set (c .ids) k (guestAt gs k .id);
+      capacities = set (c .capacities) k (guestAt gs k .capacity);
+      periods = set (c .periods) k (guestAt gs k .period);
+      tasks = set (c .tasks) k (guestAt gs k .tasks);
+    })
+columns-next k l f = record {
+  ids = filled-next _ k l (f .ids);
+  capacities = filled-next _ k l (f .capacities);
+  periods = filled-next _ k l (f .periods);
+  tasks = filled-next _ k l (f .tasks);
+}
+
+-- a loop's end: fewer guests' columns are in those of more
+pub columns-done : {gs : List Guest} {c : Columns} (k n : ℕ) → n ≤ k → ColumnsOf gs k c → ColumnsOf gs n c
+columns-done k n h f = record {
+  ids = filled-done _ k n h (f .ids);
+  capacities = filled-done _ k n h (f .capacities);
+  periods = filled-done _ k n h (f .periods);
+  tasks = filled-done _ k n h (f .tasks);
+}

@@ -19,3 +19,12 @@ orElse (suc n) k after = refused (suc n) k
 unfoldable pub firstRefused : (ℕ → ℕ) → ℕ → ℕ → Refusal
 firstRefused number zero k = fine
 firstRefused number (suc m) k = orElse (number k) k (firstRefused number m (suc k))
+
+-- number and place of a refusal, or where the number is 0 the answer
+unfoldable pub refusedBy : {A : Type 0} → (ℕ → ℕ → A) → ℕ → ℕ → A → A
+refusedBy refuse zero place answer = answer
+refusedBy refuse (suc n) place answer = refuse (suc n) place
+
+-- a refusal, or else the answer
+abbrev pub refuseOr : {A : Type 0} → (ℕ → ℕ → A) → Refusal → A → A
+refuseOr refuse r answer = refusedBy refuse (r .number) (r .place) answer

@@ -4,13 +4,13 @@ use mathlib.Core.List.{List, [], _∷_}
 use Prim.Native.Nat.{ℕ}
 use lib.Dec.{eqb}
 use Rattle.lists.specs.All.{allTo}
-use Rattle.lists.specs.Refusals.{refusal, _orRefuse_}
+use Rattle.lists.specs.Refusals.{Test, refusal, _orRefuse_}
 use Rattle.plan.specs.declared.Guest.{Guest}
 use Rattle.plan.specs.declared.Plan.{Plan}
 use Rattle.plan.specs.declared.Refusal.{Refusal}
 use Rattle.plan.specs.Records.{guestAt}
 use Rattle.plan.specs.Ranges.{mostGuests, within, guestOk, tasksOk}
-use Rattle.plan.specs.First.{refused, firstRefused}
+use Rattle.plan.specs.First.{refused, orElse, firstRefused}
 
 -- the id at place k stands at no earlier place
 unfoldable pub newId : (ℕ → ℕ) → ℕ → Bool
@@ -32,3 +32,7 @@ countedBy true p = firstRefused (guestNumber (p .guests)) (p .count) 0
 -- the records' refusal
 unfoldable pub planRefusal : Plan → Refusal
 planRefusal p = countedBy (within 1 mostGuests (p .count)) p
+
+-- the records' refusal, else that of the first of these tests to fail, whose place is 0
+unfoldable pub recordsThen : Plan → List Test → Refusal
+recordsThen p tests = orElse (planRefusal p .number) (planRefusal p .place) (refused (refusal tests) 0)

@@ -4,11 +4,13 @@ ghost use Rattle.plan.specs.Records.{blank, blankPlan};
 ghost use Rattle.plan.specs.Promises.{Checks};
 
 mod column;
+mod find;
 mod guests;
 mod tests;
 
 pub use column::columns_of;
-pub use column::place_of;
+pub use find::has_task;
+pub use find::place_of;
 pub use tests::charged_run;
 pub use tests::head_ok;
 pub use tests::new_id;
@@ -41,11 +43,12 @@ pub struct Refusal {
     pub place: u32,
 }
 
-// Three numbers of each guest, a column each.
+// Four numbers of each guest, a column each.
 pub struct Columns {
     pub ids: [u32; 16],
     pub capacities: [u32; 16],
     pub periods: [u32; 16],
+    pub tasks: [u32; 16],
 }
 
 // A record of zeros.

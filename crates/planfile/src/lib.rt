@@ -1,14 +1,16 @@
 // Plan files: read into records, records checked, a guest's block written, and found by the guest's id.
 ghost use mathlib.Core.Path.{_≡_};
-ghost use Prim.Native.Nat.{_*_, _≤_};
-ghost use lib.ListN.{length};
+ghost use Prim.Native.Nat.{_≤_};
+ghost use Rattle.plan.specs.Ranges.{mostGuests};
+ghost use Rattle.planfile.specs.File.{blocksIn};
 ghost use Rattle.planfile.specs.Records.{recordsOf};
 ghost use Rattle.planfile.specs.Promises.{Reads, Finds, FindsPlace};
+use block::layout;
 use plan::Plan;
 use plan::Refusal;
 
-mod blocks;
-mod search;
+mod files;
+mod finding;
 
 pub use block::write;
 pub use plan::check;
@@ -22,10 +24,12 @@ pub struct Reading {
 
 // The records of the first n blocks under a refusal.
 fn with_records(bytes: &[u8], n: usize, refusal: Refusal) -> Reading
-    requires { ⌜ (n ≤ 8) × (512 * n ≤ length (now bytes)) ⌝ }
-    ensures { λ r. ⌜ r ≡ record { refusal = refusal; plan = record { count = n; guests = recordsOf (now (bytes .entry)) n } } ⌝ }
+    requires { ⌜ (n ≤ mostGuests) × (n ≤ blocksIn (now bytes)) ⌝ }
+    ensures { λ r. ⌜
+        r ≡ record { refusal = refusal; plan = record { count = n; guests = recordsOf (now (bytes .entry)) n } }
+        ⌝ }
 {
-    let guests = blocks::records_of(bytes, n);
+    let guests = files::records_of(bytes, n);
     Reading {
         refusal,
         plan: Plan {
@@ -39,22 +43,22 @@ fn with_records(bytes: &[u8], n: usize, refusal: Refusal) -> Reading
 pub fn read(bytes: &[u8]) -> Reading
     ensures { λ r. ⌜ Reads (now (bytes .entry)) r ⌝ }
 {
-    let refusal = blocks::refusal_of(bytes);
+    let refusal = files::refusal_of(bytes);
     if 0 < refusal.number {
         return with_records(bytes, 0, refusal);
     }
-    with_records(bytes, bytes.len() / 512, refusal)
+    with_records(bytes, bytes.len() / layout::SIZE, refusal)
 }
 
 // The place of a guest's block, or the refusal: the reading order, then 7.
 pub fn find_place(bytes: &[u8], id: u32) -> Refusal
     ensures { λ r. ⌜ FindsPlace (now (bytes .entry)) id r ⌝ }
 {
-    let r = blocks::refusal_of(bytes);
+    let r = files::refusal_of(bytes);
     if 0 < r.number {
         return r;
     }
-    search::placed_at(search::place_of(bytes, id, bytes.len() / 512))
+    finding::place_or_seven(finding::first_with(bytes, id, bytes.len() / layout::SIZE))
 }
 
 // The guest's block as it stands in the bytes; an empty part on a refusal.
@@ -65,7 +69,5 @@ pub fn find(bytes: &[u8], id: u32) -> &[u8]
     if 0 < r.number {
         return &bytes[..0];
     }
-    let a = 512 * (r.place as usize);
-    let e = a + 512;
-    &bytes[a..e]
+    files::block_at(bytes, r.place as usize)
 }

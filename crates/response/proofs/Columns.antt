@@ -15,6 +15,7 @@ use Rattle.rounding.specs.Up.{up}
 use Rattle.rounding.specs.Asked.{asked}
 use Rattle.equation.specs.Solve.{solve}
 use Rattle.equation.specs.System.{rightAt, right}
+use Rattle.plan.specs.Ranges.{mostGuests}
 use Rattle.plan.specs.Records.{guestAt, everyOf}
 use Rattle.plan.specs.Charge.{charged}
 use Rattle.plan.specs.Filled.{Filled, ColumnsOf}
@@ -86,7 +87,7 @@ accepted-is p k =
     (all-ext _ _ (guestAt (p .guests) k .tasks) (λ i m. ap isAt (task-response-is p k i _))))
 
 -- the columns of a plan
-module _ (p : Plan) (c : Columns) (f : ColumnsOf (p .guests) c) where
+module _ (p : Plan) (c : Columns) (f : ColumnsOf (p .guests) mostGuests c) where
   -- they take what its guests take
   pub columns-take : (k : ℕ) → k ≤ 8 → guestsTake (c .capacities) (c .periods) k ≡ interference p k
   columns-take k h = above-is p k (c .capacities) (c .periods)

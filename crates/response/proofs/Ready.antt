@@ -9,6 +9,7 @@ use Rattle.lists.specs.Places.{nth}
 use Rattle.lists.specs.Search.{isAt}
 use Rattle.plan.specs.Charge.{charged}
 use Rattle.plan.specs.Filled.{Filled, ColumnsOf}
+use Rattle.plan.specs.Ranges.{mostGuests}
 use Rattle.plan.specs.Records.{guestAt, runOf, deadlineOf}
 use Rattle.plan.specs.declared.Columns.{Columns}
 use Rattle.plan.specs.declared.Guest.{Guest}
@@ -61,7 +62,7 @@ unfolding acceptedUnder
 accepted-fit above g e q = rw e q
 
 -- the columns of records in order suit each guest
-pub placed-at : (p : Plan) (c : Columns) → ColumnsOf (p .guests) c → PlanIn p → (k : ℕ) → k < p .count → Placed (guestAt (p .guests) k) (c .capacities) (c .periods) k
+pub placed-at : (p : Plan) (c : Columns) → ColumnsOf (p .guests) mostGuests c → PlanIn p → (k : ℕ) → k < p .count → Placed (guestAt (p .guests) k) (c .capacities) (c .periods) k
 placed-at p c f o k h =
     let here : k < 8 = omega (arith, o .few) in
     record {

@@ -1,5 +1,5 @@
--- The dispatcher over histories of calls, for any plan in order: its states are never refused, a run is its single ticks, wait and age mean what they say,
--- and the numbers beside the state say where the ticks went.
+-- The dispatcher over histories of calls, for any plan in order: its states are never refused, a run is its single ticks, wait and age mean what they
+-- say, 9 and 10 have exactly their causes, and the numbers beside the state say where the ticks went and are looked at by nothing else.
 use mathlib.Core.Path.{_≡_}
 use mathlib.Core.Bool.{true}
 use mathlib.Core.List.{List}
@@ -10,15 +10,20 @@ use Rattle.arrays.specs.Usage.{wrap, nobodys}
 use Rattle.plan.specs.Order.{planRefusal}
 use Rattle.plan.specs.Records.{guestAt}
 use Rattle.plan.specs.declared.Plan.{Plan}
+use Rattle.planfile_laws.specs.Exact.{_exactlyWhen_}
 use Rattle.verdict_laws.specs.Tasks.{TaskThere}
 use Rattle.dispatcher.specs.declared.Dispatcher.{Dispatcher}
 use Rattle.dispatcher.specs.Release.{release}
 use Rattle.dispatcher.specs.Valid.{stateOk}
-use Rattle.history.specs.Calls.{Call, releasing, start, after, play, ticksIn, answers, callNumber, NoneTaken}
+use Rattle.dispatcher_laws.specs.Usage.{withUsage}
+use Rattle.history.specs.Calls.{Call, start, after, play, released, ticksIn, answers, callNumber, NoneTaken}
 use Rattle.history.specs.Named.{everyBy, restBy, waitBy, ageBy}
 use Rattle.history.specs.Runs.{RunIs}
+use Rattle.history.specs.Settings.{SameOutcome, Step, handled, callsIn}
 use Rattle.history.specs.Usage.{Accounts}
+use Rattle.history.proofs.Again as again
 use Rattle.history.proofs.Clocks as clocks
+use Rattle.history.proofs.Settings as settings
 use Rattle.history.proofs.Stays as stays
 use Rattle.history.proofs.Sure as sure
 use Rattle.history.proofs.Usage as usage
@@ -47,20 +52,40 @@ run-is-ticks = stays.run-is-ticks
 
 module _ (p : Plan) (order : planRefusal p .number ≡ 0) (id number : ℕ) (cs : List Call)
     (taken : release (play cs (start p)) id number .refusal .number ≡ 0) (ds : List Call)
-    (none : NoneTaken id number ds (after (releasing id number) (play cs (start p)))) where
+    (none : NoneTaken id number ds (released p id number cs)) where
   -- The wait is what is left of the period since the last taken release.
   pub wait-means :
-      waitBy p id number (play ds (after (releasing id number) (play cs (start p))))
-      ≡ everyBy p id number - ticksIn ds (after (releasing id number) (play cs (start p)))
+      waitBy p id number (play ds (released p id number cs))
+      ≡ everyBy p id number - ticksIn ds (released p id number cs)
   wait-means = clocks.wait-since p order id number cs taken ds none
 
   -- The age of an unfinished job counts the ticks since its release, up to 1,000,000.
   pub age-means :
-      0 < restBy p id number (play ds (after (releasing id number) (play cs (start p))))
-      → ageBy p id number (play ds (after (releasing id number) (play cs (start p)))) ≡ min (ticksIn ds (after (releasing id number) (play cs (start p)))) 1000000
+      0 < restBy p id number (play ds (released p id number cs))
+      → ageBy p id number (play ds (released p id number cs)) ≡ min (ticksIn ds (released p id number cs)) 1000000
   age-means = clocks.age-since p order id number cs taken ds none
 
--- Before any release of it is taken a task has no wait and no run left, so that neither 9 nor 10 refuses it.
+  -- A further release is refused by 9 exactly while fewer ticks than the task's period were done since the last taken one.
+  pub nine-exactly :
+      (release (play ds (released p id number cs)) id number .refusal .number ≡ 9)
+      exactlyWhen (ticksIn ds (released p id number cs) < everyBy p id number)
+  nine-exactly = again.nine-exactly p order id number cs taken ds none
+
+  -- It is refused by 10 exactly when the period has passed and the last job is unfinished.
+  pub ten-exactly :
+      (release (play ds (released p id number cs)) id number .refusal .number ≡ 10)
+      exactlyWhen ((everyBy p id number ≤ ticksIn ds (released p id number cs))
+      × (0 < restBy p id number (play ds (released p id number cs))))
+  ten-exactly = again.ten-exactly p order id number cs taken ds none
+
+  -- It is taken exactly otherwise: the period has passed and the last job is finished.
+  pub taken-exactly :
+      (release (play ds (released p id number cs)) id number .refusal .number ≡ 0)
+      exactlyWhen ((everyBy p id number ≤ ticksIn ds (released p id number cs))
+      × (restBy p id number (play ds (released p id number cs)) ≡ 0))
+  taken-exactly = again.taken-exactly p order id number cs taken ds none
+
+-- Before any release of it is taken a task has no wait and no run left.
 pub before-any :
     (p : Plan) (id number : ℕ)
     → TaskThere p id number
@@ -70,6 +95,15 @@ pub before-any :
 before-any p id number t cs none =
     let n = clocks.before-any p (t .there .order) id number (t .there .place) (t .in-guest) (t .from-1) cs none in
     (n .due, n .free)
+
+-- The first release of a task that is there is taken.
+pub first-release-taken :
+    (p : Plan) (id number : ℕ)
+    → TaskThere p id number
+    → (cs : List Call)
+    → NoneTaken id number cs (start p)
+    → release (play cs (start p)) id number .refusal .number ≡ 0
+first-release-taken = again.first-taken
 
 -- Where the ticks went: after any history each number beside the state is the count of such ticks, modulo 2 to the 64.
 pub usage-counts : (p : Plan) → planRefusal p .number ≡ 0 → (cs : List Call) → Accounts p (answers cs (start p)) (play cs (start p) .usage)
@@ -83,8 +117,10 @@ pub usage-adds-up :
     → (sumTo (nth (play cs (start p) .usage)) (p .count) + nth (play cs (start p) .usage) nobodys) % wrap ≡ ticksIn cs (start p) % wrap
 usage-adds-up = usage.usage-adds-up
 
--- 14 does not look at them.
-pub usage-unseen :
-    (d : Dispatcher) (u : List ℕ)
-    → stateOk (record { plan = d .plan; left = d .left; position = d .position; rest = d .rest; wait = d .wait; age = d .age; usage = u }) ≡ stateOk d
-usage-unseen = usage.usage-unseen
+-- Nothing else looks at them: with any numbers beside the state a call has the same answer, number and ticks, and leaves the same state but for them.
+pub usage-unseen : (c : Call) (d : Dispatcher) (u : List ℕ) → SameOutcome c (withUsage d u) d
+usage-unseen = settings.usage-unseen
+
+-- A host that sets them between any two calls, to 0 or to anything, keeps every promise: each call comes to what it would have without that.
+pub settings-unseen : (ss : List Step) (d : Dispatcher) (c : Call) → SameOutcome c (handled ss d) (play (callsIn ss) d)
+settings-unseen = settings.settings-unseen

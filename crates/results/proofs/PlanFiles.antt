@@ -8,10 +8,11 @@ use Rattle.plan.specs.First.{fine}
 use Rattle.plan.specs.Order.{planRefusal}
 use Rattle.plan.specs.Records.{guestAt}
 use Rattle.plan.specs.declared.Plan.{Plan}
+use Rattle.words.specs.Bytes.{Bytes}
 use Rattle.block.specs.Writing.{blockOf, writeRefusal, written}
 use Rattle.planfile.specs.Records.{readOf}
 use Rattle.planfile_laws.specs.File.{fileOf, cleared}
-use Rattle.planfile_laws.specs.Fits.{PlanInTypes, Bytes}
+use Rattle.planfile_laws.specs.Fits.{PlanInTypes}
 use Rattle.planfile_laws.proofs.OnlyOurs as ours
 use Rattle.planfile_laws.proofs.ReadBack as back
 
@@ -27,10 +28,10 @@ pub written-so :
     × (written (guestAt (p .guests) k) k before ≡ blockOf (guestAt (p .guests) k) k ++ drop 512 before)
 written-so = back.written-so
 
--- Bytes that read as a plan are exactly what is written for what was read,
+-- Bytes that read as a plan are exactly what is written for what was read.
 pub only-ours : (s : List ℕ) → Bytes s → readOf s .refusal .number ≡ 0 → fileOf (readOf s .plan) ≡ s
 only-ours = ours.only-ours
 
--- and it passes the check, so that the writer does not refuse it.
+-- A plan that was read passes the check, so that the writer does not refuse it.
 pub read-passes : (s : List ℕ) → readOf s .refusal .number ≡ 0 → planRefusal (readOf s .plan) ≡ fine
 read-passes = ours.read-passes

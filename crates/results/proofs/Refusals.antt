@@ -1,5 +1,5 @@
--- Demand 1: a refusal alters no state and no lent byte. (That each entry takes whatever it is handed and ends is what a contract without a requirement
--- says; causes and order are the lists in the definitions.)
+-- Demand 1: a refusal alters no state and no lent byte. That each entry takes whatever it is handed and ends is what a contract without a requirement
+-- says; the order of refusals is the list in the definition, and Causes says what is not seen there.
 use mathlib.Core.Path.{_≡_}
 use mathlib.Core.List.{List}
 use Prim.Native.Nat.{ℕ, _<_}
@@ -14,7 +14,8 @@ use Rattle.block.proofs.Writing as writing
 use Rattle.history.proofs.Refused as refusals
 
 -- The writer leaves every byte as it was.
-pub write-alters-nothing : (g : Guest) (place : ℕ) (before : List ℕ) → 0 < writeRefusal g place (length before) .number → written g place before ≡ before
+pub write-alters-nothing :
+    (g : Guest) (place : ℕ) (before : List ℕ) → 0 < writeRefusal g place (length before) .number → written g place before ≡ before
 write-alters-nothing = writing.refused-write-same
 
 -- A release, a tick or a run hands the state back as it was.

@@ -28,7 +28,7 @@ module _ (p : Plan) (id k : ℕ) (there : There p id k) where
   pub guest-means : GuestMeans p k (guestVerdict p id)
   guest-means = guests.guest-verdict-means p id k there
 
-  -- and no other verdict means what holds
+  -- No other verdict of the guest means what holds.
   pub guest-only : (v : GuestVerdict) → GuestMeans p k v → v ≡ guestVerdict p id
   guest-only = guests.guest-verdict-only p id k there
 
@@ -37,11 +37,12 @@ module _ (p : Plan) (id k : ℕ) (there : There p id k) where
   pub task-means : (i : ℕ) → i < guestAt (p .guests) k .tasks → TaskMeans p k i (taskVerdict p id (suc i))
   task-means i = tasks.task-verdict-means p id k i there
 
-  -- and no other verdict means what holds
-  pub task-only : (i : ℕ) → i < guestAt (p .guests) k .tasks → (v : TaskVerdict) → TaskMeans p k i v → v ≡ taskVerdict p id (suc i)
+  -- No other verdict of the task means what holds.
+  pub task-only :
+      (i : ℕ) → i < guestAt (p .guests) k .tasks → (v : TaskVerdict) → TaskMeans p k i v → v ≡ taskVerdict p id (suc i)
   task-only i = tasks.task-verdict-only p id k i there
 
-  -- Under fitted guests a response is quoted wherever a solution has its response at most the period: so it is withheld exactly if none has.
+  -- Under fitted guests a response is quoted wherever a solution has its response at most the period: it is withheld exactly if none has.
   pub quoted-where :
       (i : ℕ)
       → i < guestAt (p .guests) k .tasks
@@ -56,25 +57,27 @@ module _ (p : Plan) (id k : ℕ) (there : There p id k) where
   pub capacity-means : CapacityMeans p k (smallestCapacity p id)
   capacity-means = capacities.capacity-answer-means p id k there
 
-  -- and no other answer means what holds
+  -- No other capacity answer means what holds.
   pub capacity-only : (v : CapacityAnswer) → CapacityMeans p k v → v ≡ smallestCapacity p id
   capacity-only = capacities.capacity-answer-only p id k there
 
--- A response that is quoted, by met R or unmet R, is that of a task that is there, under fitted guests: the least solution's, and at most the period. Elsewhere none is.
-pub quoted-means : (p : Plan) (id number R : ℕ) → Quoted p id number R → TaskThere p id number × TaskQuoted p (placeOf p id) (number - 1) R
+-- A response that is quoted, by met R or unmet R, is that of a task that is there, under fitted guests: the least solution's, and at most the period.
+pub quoted-means :
+    (p : Plan) (id number R : ℕ) → Quoted p id number R → TaskThere p id number × TaskQuoted p (placeOf p id) (number - 1) R
 quoted-means = tasks.quoted-means
 
 -- Accepted: all guests are fitted and all tasks met. Not accepted: they are not.
 pub acceptance-means : (p : Plan) → planRefusal p .number ≡ 0 → AcceptMeans p (acceptance p)
 acceptance-means = acceptances.acceptance-means
 
--- and no other answer means what holds
+-- No other acceptance means what holds.
 pub acceptance-only : (p : Plan) → planRefusal p .number ≡ 0 → (v : Acceptance) → AcceptMeans p v → v ≡ acceptance p
 acceptance-only = acceptances.acceptance-only
 
--- A plan is accepted exactly if the verdict of each task is met: unmet R is not met.
+-- In an accepted plan the verdict of each task is met; unmet R is not met.
 pub accepted-said : (p : Plan) → planRefusal p .number ≡ 0 → acceptance p ≡ Accepted → AllSaidMet p
 accepted-said = acceptances.accepted-said
 
+-- A plan where the verdict of each task is met is accepted.
 pub said-accepted : (p : Plan) → planRefusal p .number ≡ 0 → AllSaidMet p → acceptance p ≡ Accepted
 said-accepted = acceptances.said-accepted

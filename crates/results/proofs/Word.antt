@@ -2,9 +2,10 @@
 -- arguments, refused or not, in any order. Nothing is asked of other guests and tasks: they may be unfit below, unmet, released at any time.
 use mathlib.Core.Path.{_≡_}
 use mathlib.Core.List.{List}
-use Prim.Native.Nat.{ℕ, suc, _-_, _*_, _≤_, _<_}
+use Prim.Native.Nat.{ℕ, suc, _+_, _-_, _*_, _≤_, _<_}
 use lib.IntN.{ℤ, pos}
 use Rattle.plan.specs.declared.Plan.{Plan}
+use Rattle.plan.specs.Place.{placeOf}
 use Rattle.verdict.specs.declared.GuestVerdict.the-variants.{Fitted}
 use Rattle.verdict.specs.declared.TaskVerdict.the-variants.{Met}
 use Rattle.verdict.specs.Verdict.{guestVerdict, taskVerdict}
@@ -12,10 +13,12 @@ use Rattle.verdict.specs.Quoted.{Quoted}
 use Rattle.dispatcher.specs.declared.Answer.the-variants.{Finished}
 use Rattle.dispatcher.specs.Answer.{marginOf}
 use Rattle.dispatcher.specs.Release.{release}
-use Rattle.history.specs.Calls.{Call, releasing, start, after, play, ticksIn, answers, answerOf, NoneTaken}
+use Rattle.history.specs.Calls.{Call, start, play, released, ticksIn, answers, answerOf, NoneTaken}
 use Rattle.history.specs.Finished.{FinishedBy}
 use Rattle.history.specs.Named.{guestBy, everyBy, deadlineBy, restBy, ageBy}
 use Rattle.history.specs.Share.{share}
+use Rattle.history.proofs.Above as upper
+use Rattle.history.proofs.ByResponse as response
 use Rattle.history.proofs.FinishedBy as finished
 use Rattle.history.proofs.NeverLate as late
 use Rattle.history.proofs.NeverTurnedAway as turned
@@ -30,16 +33,38 @@ pub sure-of-capacity :
     → share id (answers cs (start p)) (k * guestBy p id .period) (guestBy p id .period) ≡ guestBy p id .capacity
 sure-of-capacity = sure.sure-of-capacity
 
+-- In each period that it begins, it has had its capacity by the x-th tick, x its response.
+pub had-by-response :
+    (p : Plan) (id x : ℕ)
+    → guestVerdict p id ≡ Fitted x
+    → (cs : List Call) (k : ℕ)
+    → k * guestBy p id .period + x ≤ ticksIn cs (start p)
+    → share id (answers cs (start p)) (k * guestBy p id .period) x ≡ guestBy p id .capacity
+had-by-response = response.had-by-response
+
 -- A task is quoted R if its verdict is met R or unmet R.
 module _ (p : Plan) (id number R : ℕ) (quoted : Quoted p id number R) where
+  -- The guest of a quoted task is fitted, and so is each guest above it: `above` is the id of the guest itself or of one before it in the plan.
+  pub quoted-fitted : (above : ℕ) → placeOf p above ≤ placeOf p id → (x : ℕ) × (guestVerdict p above ≡ Fitted x)
+  quoted-fitted = upper.quoted-fitted p id number R quoted
+
+  -- Each of these guests is sure of its capacity.
+  pub quoted-sure :
+      (above : ℕ)
+      → placeOf p above ≤ placeOf p id
+      → (cs : List Call) (k : ℕ)
+      → suc k * guestBy p above .period ≤ ticksIn cs (start p)
+      → share above (answers cs (start p)) (k * guestBy p above .period) (guestBy p above .period) ≡ guestBy p above .capacity
+  quoted-sure = upper.quoted-sure p id number R quoted
+
   -- 2. Finished by R. After a taken release, calls that do R ticks or more hand back the task finished, at an age of at most R: the ticks since
   -- the release, with the deadline less the age as the margin. It is at least the deadline less R, which may be negative.
   pub finished-by-R :
       (cs : List Call)
       → release (play cs (start p)) id number .refusal .number ≡ 0
       → (ds : List Call)
-      → R ≤ ticksIn ds (after (releasing id number) (play cs (start p)))
-      → FinishedBy R (deadlineBy p id number) id number ds (after (releasing id number) (play cs (start p)))
+      → R ≤ ticksIn ds (released p id number cs)
+      → FinishedBy R (deadlineBy p id number) id number ds (released p id number cs)
   finished-by-R = finished.finished-by-R p id number R quoted
 
   -- Said of the state: an unfinished job is younger than R.
@@ -53,21 +78,21 @@ module _ (p : Plan) (id number R : ℕ) (quoted : Quoted p id number R) where
       → (age ≤ R) × (margin ≡ marginOf (deadlineBy p id number) age)
   never-late = late.never-late p id number R quoted
 
-  -- 3. Never turned away. A release is taken if none was taken before,
+  -- 3. Never turned away. A release is taken if none was taken before.
   pub first-taken : (cs : List Call) → NoneTaken id number cs (start p) → release (play cs (start p)) id number .refusal .number ≡ 0
   first-taken = turned.first-taken p id number R quoted
 
-  -- or if at least the task's period of ticks was done since the last one taken.
+  -- A release is taken if at least the task's period of ticks was done since the last one taken.
   pub next-taken :
       (cs : List Call)
       → release (play cs (start p)) id number .refusal .number ≡ 0
       → (ds : List Call)
-      → NoneTaken id number ds (after (releasing id number) (play cs (start p)))
-      → everyBy p id number ≤ ticksIn ds (after (releasing id number) (play cs (start p)))
-      → release (play ds (after (releasing id number) (play cs (start p)))) id number .refusal .number ≡ 0
+      → NoneTaken id number ds (released p id number cs)
+      → everyBy p id number ≤ ticksIn ds (released p id number cs)
+      → release (play ds (released p id number cs)) id number .refusal .number ≡ 0
   next-taken = turned.next-taken p id number R quoted
 
-  -- In particular 10 is never given.
+  -- Refusal 10 is never given.
   pub never-10 : (cs : List Call) → release (play cs (start p)) id number .refusal .number ≡ 10 → ⊥
   never-10 = turned.never-10 p id number R quoted
 

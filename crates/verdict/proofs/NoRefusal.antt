@@ -3,10 +3,9 @@ use mathlib.Core.Path.{_≡_, refl}
 use mathlib.Core.List.{List}
 use Prim.Native.Nat.{ℕ, zero, suc}
 use Rattle.lists.specs.Refusals.{Test, refusal}
-use Rattle.plan.specs.First.{refused}
-use Rattle.plan.specs.Order.{planRefusal}
+use Rattle.plan.specs.First.{refused, refusedBy, refuseOr}
+use Rattle.plan.specs.Order.{planRefusal, recordsThen}
 use Rattle.plan.specs.declared.Plan.{Plan}
-use Rattle.verdict.specs.Verdict.{recordsThen, refusedBy, refuseOr}
 use Rattle.plan.proofs.First.{after-zero}
 
 module _ {A : Type 0} (refuse : ℕ → ℕ → A) {a : A} (none : (n k : ℕ) → refuse n k ≡ a → ⊥) where

@@ -11,12 +11,12 @@ use Rattle.lists.specs.Places.{nth}
 use Rattle.lists.specs.Search.{firstFrom}
 use Rattle.lists.specs.Refusals.{Test, refusal, _orRefuse_}
 use Rattle.lists.specs.declared.Found.{Found}
-use Rattle.plan.specs.First.{refused, orElse}
-use Rattle.plan.specs.Order.{planRefusal}
+use Rattle.plan.specs.First.{refused, orElse, refusedBy, refuseOr}
+use Rattle.plan.specs.Order.{planRefusal, recordsThen}
 use Rattle.plan.specs.Records.{guestAt, deadlineOf}
-use Rattle.plan.specs.Place.{placeOf}
+use Rattle.plan.specs.Place.{placeOf, hasGuest, hasTask}
 use Rattle.plan.specs.Filled.{ColumnsOf}
-use Rattle.plan.specs.Ranges.{within}
+use Rattle.plan.specs.Ranges.{mostGuests, within}
 use Rattle.plan.specs.declared.Columns.{Columns}
 use Rattle.plan.specs.declared.Plan.{Plan}
 use Rattle.plan.specs.declared.Refusal.{Refusal}
@@ -25,7 +25,7 @@ use Rattle.verdict.specs.declared.TaskVerdict.{TaskVerdict}
 use Rattle.verdict.specs.declared.TaskVerdict.the-variants.{Unjudged}
 use Rattle.response.specs.Guest.{guestResponse, fittedTo}
 use Rattle.response.specs.Task.{limit, taskResponse}
-use Rattle.verdict.specs.Verdict.{hasGuest, hasTask, recordsThen, refusedBy, refuseOr, guestSays, guestVerdict, taskSays, taskVerdict, acceptSays, acceptance}
+use Rattle.verdict.specs.Verdict.{guestSays, guestVerdict, taskSays, taskVerdict, acceptSays, acceptance}
 use Rattle.response.specs.Columns.{guestsTake, guestUnder, fittedAt, taskOf, acceptedUnder}
 use Rattle.lists.proofs.Refusals.{none-left, go-on, stop}
 use Rattle.plan.proofs.Order.{PlanIn, plan-in}
@@ -109,7 +109,7 @@ module _ (p : Plan) {r : Refusal} (e : r ≡ planRefusal p) (h : r .number ≤ 0
   in-order = plan-in p not-refused
 
   -- the code's search for an id
-  module _ (c : Columns) (f : ColumnsOf (p .guests) c) (id : ℕ) {k : ℕ} (s : k ≡ firstFrom (λ j. eqb (nth (c .ids) j) id) (p .count) 0) where
+  module _ (c : Columns) (f : ColumnsOf (p .guests) mostGuests c) (id : ℕ) {k : ℕ} (s : k ≡ firstFrom (λ j. eqb (nth (c .ids) j) id) (p .count) 0) where
     -- it finds the place
     pub place-found : k ≡ placeOf p id
     place-found = s ∙ place-is p (c .ids) id (in-order .few) (f .ids)
@@ -163,7 +163,7 @@ module _ (p : Plan) {r : Refusal} (e : r ≡ planRefusal p) (h : r .number ≤ 0
         ∙ guest-there task.Refused (hasTask p id number orRefuse 8 ∷ []) _ l
 
   -- the plan's acceptance, by the test of all guests
-  pub plan-accepted : (c : Columns) → ColumnsOf (p .guests) c → {b b′ : Bool}
+  pub plan-accepted : (c : Columns) → ColumnsOf (p .guests) mostGuests c → {b b′ : Bool}
       → b ≡ allTo (λ k. acceptedUnder (guestsTake (c .capacities) (c .periods) k) (guestAt (p .guests) k)) (p .count) → b ≡ b′ → acceptSays b′ ≡ acceptance p
   unfolding acceptance refusedBy
   plan-accepted c f e q = rw (not-refused, ← columns-accept p c f (in-order .few), ← e, ← q) refl

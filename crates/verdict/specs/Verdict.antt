@@ -1,18 +1,16 @@
 -- The verdicts of a guest and of a task and the acceptance of a plan, each with its refusals in order.
 use mathlib.Core.Bool.{Bool, true, false}
-use mathlib.Core.List.{List, [], _∷_}
-use Prim.Native.Nat.{ℕ, zero, suc, _-_}
-use lib.Dec.{ltb, leb}
-use Rattle.lists.specs.Refusals.{Test, refusal, _orRefuse_}
+use mathlib.Core.List.{[], _∷_}
+use Prim.Native.Nat.{ℕ, _-_}
+use lib.Dec.{leb}
+use Rattle.lists.specs.Refusals.{_orRefuse_}
 use Rattle.lists.specs.declared.Found.{Found}
 use Rattle.lists.specs.declared.Found.the-variants.{At, Nothing}
 use Rattle.plan.specs.Records.{guestAt, deadlineOf}
-use Rattle.plan.specs.Ranges.{within}
-use Rattle.plan.specs.First.{refused, orElse}
-use Rattle.plan.specs.Order.{planRefusal}
-use Rattle.plan.specs.Place.{placeOf}
+use Rattle.plan.specs.First.{refuseOr}
+use Rattle.plan.specs.Order.{planRefusal, recordsThen}
+use Rattle.plan.specs.Place.{placeOf, hasGuest, hasTask}
 use Rattle.plan.specs.declared.Plan.{Plan}
-use Rattle.plan.specs.declared.Refusal.{Refusal}
 use Rattle.verdict.specs.declared.GuestVerdict.{GuestVerdict}
 use Rattle.verdict.specs.declared.GuestVerdict.the-variants.{Fitted, Unfit}
 use Rattle.verdict.specs.declared.TaskVerdict.{TaskVerdict}
@@ -25,27 +23,6 @@ use Rattle.response.specs.Met.{accepted}
 use Rattle.verdict.specs.declared.GuestVerdict.the-variants as guest
 use Rattle.verdict.specs.declared.TaskVerdict.the-variants as task
 use Rattle.verdict.specs.declared.Acceptance.the-variants as plan
-
--- the guest is in the plan
-unfoldable pub hasGuest : Plan → ℕ → Bool
-hasGuest p id = ltb (placeOf p id) (p .count)
-
--- it has a task of that number, from 1
-unfoldable pub hasTask : Plan → ℕ → ℕ → Bool
-hasTask p id number = within 1 (guestAt (p .guests) (placeOf p id) .tasks) number
-
--- the records' refusal, else that of the first of these tests to fail, whose place is 0
-unfoldable pub recordsThen : Plan → List Test → Refusal
-recordsThen p tests = orElse (planRefusal p .number) (planRefusal p .place) (refused (refusal tests) 0)
-
--- number and place of a refusal, or where the number is 0 the verdict
-unfoldable pub refusedBy : {A : Type 0} → (ℕ → ℕ → A) → ℕ → ℕ → A → A
-refusedBy refuse zero place verdict = verdict
-refusedBy refuse (suc n) place verdict = refuse (suc n) place
-
--- a refusal, or else the verdict
-abbrev pub refuseOr : {A : Type 0} → (ℕ → ℕ → A) → Refusal → A → A
-refuseOr refuse r verdict = refusedBy refuse (r .number) (r .place) verdict
 
 -- fitted with its response, or unfit
 abbrev pub guestSays : Found → GuestVerdict

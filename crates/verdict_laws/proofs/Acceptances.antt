@@ -4,12 +4,13 @@ use mathlib.Core.Bool.{Bool, true, false, false≢true}
 use Prim.Native.Nat.{ℕ, suc, _≤_, _<_}
 use native.Mathlib.Omega.{arith}
 use Rattle.lists.specs.All.{allTo}
+use Rattle.plan.specs.First.{refusedBy}
 use Rattle.plan.specs.Order.{planRefusal}
 use Rattle.plan.specs.Records.{guestAt, everyOf, deadlineOf}
 use Rattle.plan.specs.declared.Plan.{Plan}
 use Rattle.response.specs.Guest.{fitted, fittedTo}
 use Rattle.response.specs.Met.{met, allMet, accepted}
-use Rattle.verdict.specs.Verdict.{refusedBy, taskVerdict, acceptSays, acceptance}
+use Rattle.verdict.specs.Verdict.{taskVerdict, acceptSays, acceptance}
 use Rattle.verdict.specs.declared.Acceptance.{Acceptance}
 use Rattle.verdict.specs.declared.Acceptance.the-variants.{Accepted, NotAccepted}
 use Rattle.verdict.specs.declared.TaskVerdict.{TaskVerdict}

@@ -11,7 +11,7 @@ use Rattle.lists.specs.declared.Found.the-variants.{At, Nothing}
 use Rattle.plan.specs.Records.{guestAt}
 use Rattle.plan.specs.declared.Plan.{Plan}
 use Rattle.response.specs.Guest.{fittedTo}
-use Rattle.verdict.specs.Verdict.{hasGuest}
+use Rattle.plan.specs.Place.{hasGuest}
 use Rattle.capacity.specs.declared.CapacityAnswer.{CapacityAnswer}
 use Rattle.capacity.specs.declared.CapacityAnswer.the-variants.{Refused, Smallest}
 use Rattle.capacity.specs.Capacity.{withCapacity, works, smallest}

@@ -10,11 +10,11 @@ use Rattle.lists.specs.Refusals.{_orRefuse_}
 use Rattle.lists.specs.declared.Found.{Found}
 use Rattle.lists.specs.declared.Found.the-variants.{At, Nothing}
 use Rattle.plan.specs.Order.{planRefusal}
-use Rattle.plan.specs.Place.{placeOf}
+use Rattle.plan.specs.Place.{placeOf, hasGuest}
 use Rattle.plan.specs.Records.{guestAt}
 use Rattle.plan.specs.declared.Plan.{Plan}
 use Rattle.response.specs.Guest.{guestRight, guestResponse, fitted, fittedTo}
-use Rattle.verdict.specs.Verdict.{hasGuest, guestSays, guestVerdict}
+use Rattle.verdict.specs.Verdict.{guestSays, guestVerdict}
 use Rattle.verdict.specs.declared.GuestVerdict.{GuestVerdict}
 use Rattle.verdict.specs.declared.GuestVerdict.the-variants.{Refused, Fitted, Unfit}
 use Rattle.verdict_laws.specs.Guests.{There, GuestSolves, Responds, AllFit, GuestMeans}

@@ -11,14 +11,14 @@ use Rattle.lists.specs.Search.{isAt}
 use Rattle.lists.specs.declared.Found.{Found}
 use Rattle.lists.specs.declared.Found.the-variants.{At, Nothing}
 use Rattle.equation.specs.Solve.{solve}
-use Rattle.plan.specs.Place.{placeOf}
+use Rattle.plan.specs.Place.{placeOf, hasGuest, hasTask}
 use Rattle.plan.specs.Ranges.{within}
 use Rattle.plan.specs.Records.{guestAt, deadlineOf}
 use Rattle.plan.specs.declared.Plan.{Plan}
 use Rattle.response.specs.Guest.{fitted, fittedTo}
 use Rattle.response.specs.Task.{gap, taskRight, later, responseTo, limit, taskResponse}
 use Rattle.response.specs.Met.{met, allMet}
-use Rattle.verdict.specs.Verdict.{hasGuest, hasTask, quotedBy, taskSays, taskVerdict}
+use Rattle.verdict.specs.Verdict.{quotedBy, taskSays, taskVerdict}
 use Rattle.verdict.specs.Quoted.{Quotes, Quoted}
 use Rattle.verdict.specs.declared.TaskVerdict.{TaskVerdict}
 use Rattle.verdict.specs.declared.TaskVerdict.the-variants.{Met, UnmetAt, Unmet, Unjudged}

@@ -4,7 +4,7 @@ ghost use mathlib.Core.List.{_++_};
 ghost use Prim.Native.Nat.{_+_, _*_, _≤_, _<_};
 ghost use lib.ListN.{length, replicate, drop};
 ghost use Rattle.words.specs.Word.{u32At, word};
-ghost use Rattle.words.specs.Bytes.{withU32};
+ghost use Rattle.words.specs.Bytes.{withU32, withWord};
 ghost use Rattle.words.specs.Wrap.{wrapped, complement};
 
 // A byte in 32 bits.
@@ -39,6 +39,14 @@ pub fn put_u32(b: &mut [u8], i: usize, w: u32)
     b[i + 1] = (w / 256 % 256) as u8;
     b[i + 2] = (w / 65536 % 256) as u8;
     b[i + 3] = (w / 16777216 % 256) as u8;
+}
+
+// Word k set to w.
+pub fn put_word(b: &mut [u8], k: usize, w: u32)
+    requires { ⌜ 4 * k + 4 ≤ length (now b) ⌝ }
+    ensures { λ _. ⌜ now (b .exit) ≡ withWord (now (b .entry)) k w ⌝ }
+{
+    put_u32(b, 4 * k, w)
 }
 
 // The sum of the first n words of the bytes.

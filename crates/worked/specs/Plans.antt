@@ -6,11 +6,11 @@ use Rattle.plan.specs.Records.{blank}
 use Rattle.plan.specs.declared.Guest.{Guest}
 use Rattle.plan.specs.declared.Plan.{Plan}
 
--- a column of 16, zeros past its entries
+-- A column of 16 with these entries, zeros past them.
 abbrev pub padded : List ℕ → List ℕ
 padded l = take 16 (l ++ replicate 16 0)
 
--- a guest by its id, capacity, period, charge and its tasks' runs, periods and deadlines
+-- A guest by its id, capacity, period, charge and its tasks' runs, periods and deadlines.
 abbrev pub guest : (id capacity period charge : ℕ) → (run every deadline : List ℕ) → Guest
 guest id capacity period charge run every deadline = record {
   id = id;
@@ -23,23 +23,27 @@ guest id capacity period charge run every deadline = record {
   deadline = padded deadline;
 }
 
--- a plan of these guests, records of zeros past them
+-- A plan of these guests, records of zeros past them.
 abbrev pub planOf : List Guest → Plan
 planOf guests = record { count = length guests; guests = take 8 (guests ++ replicate 8 blank) }
 
--- guest 7, 2/5, task 1/20/20
+-- Guest 7, 2/5 (capacity/period), with a task 1/20/20 (run/period/deadline).
 abbrev pub top : Guest
 top = guest 7 2 5 0 (1 ∷ []) (20 ∷ []) (20 ∷ [])
 
--- plan A with its charge in guest 9 and the two deadlines there as given
+-- Plan A with this charge in guest 9 and these deadlines of the two tasks there.
 abbrev pub planA : (charge first second : ℕ) → Plan
 planA charge first second = planOf (top ∷ guest 9 8 20 charge (10 ∷ 8 ∷ []) (50 ∷ 100 ∷ []) (first ∷ second ∷ []) ∷ [])
 
--- as document 01 prints it
+-- Plan A as document 01 prints it.
 abbrev pub A : Plan
 A = planA 0 50 100
 
--- a guest of period 6 under 2/5 with a task 4/6/6, and two guests below
+-- Plan A with a deadline of 35, one tick too short, for guest 9's first task.
+abbrev pub A35 : Plan
+A35 = planA 0 35 100
+
+-- A guest of this capacity and period 6 under 2/5, with a task 4/6/6, and two guests below.
 abbrev pub planB : (capacity : ℕ) → Plan
 planB capacity =
     planOf
@@ -49,10 +53,14 @@ planB capacity =
     ∷ guest 12 1 90 0 (1 ∷ []) (900 ∷ []) (900 ∷ [])
     ∷ [])
 
--- 8/9 above 1/11, whose second task has this deadline
+-- Guest 8/9 above guest 1/11, whose second task has this deadline.
 abbrev pub planC : (deadline : ℕ) → Plan
-planC deadline = planOf (guest 7 8 9 0 (1 ∷ []) (900 ∷ []) (900 ∷ []) ∷ guest 9 1 11 0 (1 ∷ 1 ∷ []) (31 ∷ 31 ∷ []) (31 ∷ deadline ∷ []) ∷ [])
+planC deadline =
+    planOf
+    (guest 7 8 9 0 (1 ∷ []) (900 ∷ []) (900 ∷ [])
+    ∷ guest 9 1 11 0 (1 ∷ 1 ∷ []) (31 ∷ 31 ∷ []) (31 ∷ deadline ∷ [])
+    ∷ [])
 
--- guest 1/1000 with task 2/10/10
+-- Guest 1/1000 with a task 2/10/10.
 abbrev pub planD : Plan
 planD = planOf (guest 7 1 1000 0 (2 ∷ []) (10 ∷ []) (10 ∷ []) ∷ [])

@@ -1,7 +1,8 @@
--- `block::writer::put_block` meets its contract: the words, with the complement of their sum as the check. Assumes nothing.
+-- `block::writer::put_block` meets its contract: the check is the complement of the sum. Assumes nothing.
 use mathlib.Core.Path.{_∙_}
 use lib.ListN.{drop}
 use borrow.Author.Needs.{needs}
+use Rattle.block.specs.Layout.{blockSize}
 use Rattle.block.proofs.Writing.{check-laid}
 use Rattle.block.proofs.writer.put_block.Statement.{statement}
 use Rattle.block.proofs.writer.put_block.Tie as tie
@@ -12,14 +13,11 @@ put-entries-requires c κs = search needs
 sum-words-requires : tie.Need-sum-words-requires
 sum-words-requires c κs = search needs
 
-mul-put-u32 : tie.Need-mul-put-u32
-mul-put-u32 c = search needs
-
 complement-of-requires : tie.Need-complement-of-requires
 complement-of-requires c κs = search needs
 
-put-u32-requires : tie.Need-put-u32-requires
-put-u32-requires c κs = search needs
+put-word-requires : tie.Need-put-word-requires
+put-word-requires c κs = search needs
 
 same-length : tie.Need-same-length
 same-length c = search needs
@@ -30,8 +28,9 @@ returns c =
     let s = p .before .before .before in
     let e = s .before .before .before .before in
     let a = e .before .before .before .args in
-    p .put-u32 .ensures
-    ∙ check-laid (a .g) (a .place) _ (drop 512 (a .buf .now)) (s .sum-words .result) _ (e .put-entries .ensures) (s .sum-words .ensures) (p .before .complement-of .ensures)
+    p .put-word .ensures
+    ∙ check-laid (a .g) (a .place) _ (drop blockSize (a .buf .now)) (s .sum-words .result) _ (e .put-entries .ensures)
+    (s .sum-words .ensures) (p .before .complement-of .ensures)
 
 pub put-block-spec : {M : Type 1} → statement M
 put-block-spec =
@@ -39,8 +38,7 @@ put-block-spec =
     (tie.spec
     put-entries-requires
     sum-words-requires
-    mul-put-u32
     complement-of-requires
-    put-u32-requires
+    put-word-requires
     same-length
     returns)

@@ -1,32 +1,21 @@
 -- `plan::columns_of` meets its contract: each column is filled place by place. Assumes nothing.
-use mathlib.Core.Path.{refl}
 use Prim.Native.Nat.{_≤_, _-_}
 use native.Mathlib.Omega.{arith}
-use lib.ListN.{getD}
 use borrow.Author.Needs.{needs}
-use Rattle.plan.specs.Records.{absent}
-use Rattle.plan.specs.Filled.{Filled}
-use Rattle.plan.proofs.Filled.{filled-next, filled-done}
+use Rattle.plan.specs.Filled.{ColumnsOf}
+use Rattle.plan.proofs.Filled.{columns-none, columns-next, columns-done}
 use Rattle.plan.proofs.column.columns_of.Statement.{statement}
 use Rattle.plan.proofs.column.columns_of.Tie as tie
 
 abbrev Inv-loop : tie.InvT-loop
-Inv-loop guests ids₀ capacities₀ periods₀ k₀ ids capacities periods k =
-    (k ≤ 8)
-    × (Filled ids (λ i. getD guests i absent .id) k
-    × (Filled capacities (λ i. getD guests i absent .capacity) k × Filled periods (λ i. getD guests i absent .period) k))
+Inv-loop guests ids₀ capacities₀ periods₀ tasks₀ k₀ ids capacities periods tasks k =
+    (k ≤ 8) × ColumnsOf guests k (record { ids = ids; capacities = capacities; periods = periods; tasks = tasks })
 
 abbrev μ-loop : tie.MeasureT-loop
-μ-loop guests ids₀ capacities₀ periods₀ k₀ ids capacities periods k = 8 - k
+μ-loop guests ids₀ capacities₀ periods₀ tasks₀ k₀ ids capacities periods tasks k = 8 - k
 
 loop-holds : tie.Need-loop-holds Inv-loop μ-loop
-loop-holds c = (
-  search needs,
-  (
-    record { long = refl; holds = λ z h. absurd (omega arith) },
-    (record { long = refl; holds = λ z h. absurd (omega arith) }, record { long = refl; holds = λ z h. absurd (omega arith) }),
-  ),
-)
+loop-holds c = (search needs, columns-none _)
 
 mul-ids : tie.Need-mul-ids Inv-loop μ-loop
 mul-ids c = search needs
@@ -64,6 +53,18 @@ mul-periods-2 c = search needs
 array-write-periods : tie.Need-array-write-periods Inv-loop μ-loop
 array-write-periods c = search needs
 
+mul-tasks : tie.Need-mul-tasks Inv-loop μ-loop
+mul-tasks c = search needs
+
+element-copy-out-tasks : tie.Need-element-copy-out-tasks Inv-loop μ-loop
+element-copy-out-tasks c = search needs
+
+mul-tasks-2 : tie.Need-mul-tasks-2 Inv-loop μ-loop
+mul-tasks-2 c = search needs
+
+array-write-tasks : tie.Need-array-write-tasks Inv-loop μ-loop
+array-write-tasks c = search needs
+
 add-k : tie.Need-add-k Inv-loop μ-loop
 add-k c = search needs
 
@@ -71,23 +72,10 @@ loop-less : tie.Need-loop-less Inv-loop μ-loop
 loop-less c = search needs
 
 loop-again : tie.Need-loop-again Inv-loop μ-loop
-loop-again c =
-    let l = c .before in (
-      search needs,
-      (
-        filled-next _ _ (omega arith) (l .loop .inv .1 .0),
-        (filled-next _ _ (omega arith) (l .loop .inv .1 .1 .0), filled-next _ _ (omega arith) (l .loop .inv .1 .1 .1)),
-      ),
-    )
+loop-again c = (search needs, columns-next _ (omega arith) (c .before .loop .inv .1))
 
 returns : tie.Need-returns Inv-loop μ-loop
-returns c =
-    let l = c .before in
-    record {
-      ids = filled-done _ _ _ (c .loop-test .left) (l .loop .inv .1 .0);
-      capacities = filled-done _ _ _ (c .loop-test .left) (l .loop .inv .1 .1 .0);
-      periods = filled-done _ _ _ (c .loop-test .left) (l .loop .inv .1 .1 .1);
-    }
+returns c = columns-done _ _ (c .loop-test .left) (c .before .loop .inv .1)
 
 pub columns-of-spec : {M : Type 1} → statement M
 columns-of-spec =
@@ -108,6 +96,10 @@ columns-of-spec =
     element-copy-out-periods
     mul-periods-2
     array-write-periods
+    mul-tasks
+    element-copy-out-tasks
+    mul-tasks-2
+    array-write-tasks
     add-k
     loop-less
     loop-again

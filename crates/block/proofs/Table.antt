@@ -1,0 +1,114 @@
+-- The layout, said in words, says document 01's table, said in bytes. Assumes nothing.
+use mathlib.Core.Path.{_≡_, refl, sym, _∙_}
+use mathlib.Core.Bool.{true}
+use mathlib.Core.List.{List}
+use Prim.Native.Nat.{ℕ, zero, suc, _+_, _*_, _-_, _/_, _%_, _≤_, _<_}
+use native.Mathlib.Decide.{decLt}
+use native.Mathlib.Omega.{arith}
+use borrow.Author.Tests.{eq-eqb, eqb-true}
+use Rattle.lists.specs.Places.{nth}
+use Rattle.lists.specs.Sum.{sumTo}
+use Rattle.words.specs.Word.{wordWrap, u16At, u32At, word}
+use Rattle.words.specs.Wrap.{wrapped}
+use Rattle.words.specs.Bytes.{Bytes}
+use Rattle.plan.specs.Ranges.{mostTasks}
+use Rattle.block.specs.Exactly.{_exactlyWhen_}
+use Rattle.block.specs.Layout.{blockWords, kindPlaceWord, idWord, capacityWord, periodWord, tasksChargeWord, spareFrom, spareTo, runWord, everyWord, deadlineWord, unusedFrom, checkWord, lowHalf, highHalf}
+use Rattle.block.specs.Reading.{taskCount, column, zeroBetween, zerosOk}
+use Rattle.block.specs.Table.{ZeroBytes, ZerosStand, InBytes}
+use Rattle.lists.proofs.All.{and-left, and-right, and-true, all-by}
+use Rattle.lists.proofs.Sum.{sum-last}
+use Rattle.block.proofs.Reading.{zero-at, column-at}
+
+-- A word is its four bytes, least first.
+pub word-bytes : (b : List ℕ) (k : ℕ) → word b k ≡ u32At b (4 * k)
+unfolding word
+word-bytes b k = refl
+
+-- The low half of a word is its first two bytes.
+low-bytes : (b : List ℕ) (k : ℕ) → Bytes b → lowHalf (word b k) ≡ u16At b (4 * k)
+low-bytes b k h = omega (arith, word-bytes b k, h (4 * k), h (4 * k + 1))
+
+-- The high half of a word is its other two bytes.
+high-bytes : (b : List ℕ) (k : ℕ) → Bytes b → highHalf (word b k) ≡ u16At b (4 * k + 2)
+high-bytes b k h =
+    let e : 4 * k + 2 + 1 ≡ 4 * k + 3 = omega arith in rw e (omega (arith, word-bytes b k, h (4 * k), h (4 * k + 1)))
+
+-- A number of entry i stands where its word does.
+entry-bytes : (b : List ℕ) (at : ℕ → ℕ) (from i : ℕ) → i < mostTasks → 4 * at i ≡ from + 12 * i
+    → nth (column b at) i ≡ u32At b (from + 12 * i)
+entry-bytes b at from i h e = column-at b at i h ∙ rw (← e) (word-bytes b (at i))
+
+-- Where a word is zero, each of its bytes is.
+byte-at : (b : List ℕ) (q j : ℕ) → j < 4 → word b q ≡ 0 → nth b (4 * q + j) ≡ 0
+byte-at b q zero l e = let z : 4 * q + 0 ≡ 4 * q = omega arith in rw z (omega (arith, word-bytes b q))
+byte-at b q (suc zero) l e = omega (arith, word-bytes b q)
+byte-at b q (suc (suc zero)) l e = omega (arith, word-bytes b q)
+byte-at b q (suc (suc (suc zero))) l e = omega (arith, word-bytes b q)
+byte-at b q (suc (suc (suc (suc j)))) l e = absurd (omega arith)
+
+byte-of : (b : List ℕ) (i : ℕ) → word b (i / 4) ≡ 0 → nth b i ≡ 0
+byte-of b i e = let q : 4 * (i / 4) + i % 4 ≡ i = omega arith in rw q at (byte-at b (i / 4) (i % 4) (omega arith) e)
+
+-- The words from one on, up to another, are zero exactly when their bytes are.
+pub zero-bytes : (b : List ℕ) (from to : ℕ) → (zeroBetween b from to ≡ true) exactlyWhen ZeroBytes b (4 * from) (4 * to)
+unfolding zeroBetween
+zero-bytes b from to = (
+  λ e i l h. byte-of b i (zero-at b from to (i / 4) (omega arith) (omega arith) e),
+  λ h.
+      all-by _ (to - from) (λ k l.
+      eq-eqb (word b (from + k)) 0
+      (word-bytes b (from + k)
+      ∙ rw (
+        h (4 * (from + k)) (omega arith) (omega arith),
+        h (4 * (from + k) + 1) (omega arith) (omega arith),
+        h (4 * (from + k) + 2) (omega arith) (omega arith),
+        h (4 * (from + k) + 3) (omega arith) (omega arith),
+      ) refl)),
+)
+
+-- The bytes that must be zero: the words past the tasks are the entries past them and the bytes past the entries.
+zeros-stand : (b : List ℕ) → taskCount b ≤ mostTasks → (zerosOk b ≡ true) exactlyWhen ZerosStand b (taskCount b)
+zeros-stand b few =
+    let spare = zero-bytes b spareFrom spareTo in
+    let past = zero-bytes b (unusedFrom (taskCount b)) checkWord in (
+      λ e.
+          let z = past .0 (and-right (zeroBetween b spareFrom spareTo) _ e) in
+          record {
+            spare = spare .0 (and-left (zeroBetween b spareFrom spareTo) _ e);
+            past-tasks = λ i l h. z i (omega arith) (omega arith);
+            past-entries = λ i l h. z i (omega arith) (omega arith);
+          },
+      λ z.
+          and-true (spare .1 (z .spare))
+          (past .1 (λ i l h. elim (decLt i 224) [
+            | yes m ↦ z .past-tasks i (omega arith) m
+            | no m ↦ z .past-entries i (omega arith) h
+          ])),
+    )
+
+-- The sum of all words is that of the words before the check, and the check.
+sum-with-check : (b : List ℕ)
+    → wrapped (word b) blockWords ≡ (sumTo (λ k. u32At b (4 * k)) checkWord + u32At b (4 * checkWord)) % wordWrap
+unfolding word
+sum-with-check b = rw (sum-last (word b) checkWord) refl
+
+-- What the definitions of reading say of bytes, line by line.
+pub in-bytes : (b : List ℕ) → Bytes b → InBytes b
+in-bytes b h = record {
+  kind = low-bytes b kindPlaceWord h;
+  place = high-bytes b kindPlaceWord h;
+  id = word-bytes b idWord;
+  capacity = word-bytes b capacityWord;
+  period = word-bytes b periodWord;
+  tasks = low-bytes b tasksChargeWord h;
+  charge = high-bytes b tasksChargeWord h;
+  run = λ i l. entry-bytes b runWord 32 i l (omega arith);
+  every = λ i l. entry-bytes b everyWord 36 i l (omega arith);
+  deadline = λ i l. entry-bytes b deadlineWord 40 i l (omega arith);
+  zeros = zeros-stand b;
+  check = (
+    λ e. sym (sum-with-check b) ∙ eqb-true _ _ e,
+    λ e. eq-eqb _ _ (sum-with-check b ∙ e),
+  );
+}

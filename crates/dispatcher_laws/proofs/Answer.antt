@@ -1,0 +1,78 @@
+-- Laws of a tick's answer: what it is by who had the tick, and that the older a job, the less its margin. Assumes nothing.
+use mathlib.Core.Path.{_≡_, ap, refl}
+use mathlib.Core.Bool.{Bool, cond}
+use Prim.Native.Nat.{ℕ, zero, suc, _+_, _-_, _≤_, _<_}
+use native.Mathlib.Decide.{decLe}
+use native.Mathlib.Omega.{arith}
+use lib.Dec.{le→leb}
+use lib.IntN.{pos, negsuc}
+use lib.Signed.{_≤ℤ_}
+use borrow.Author.Tests.{le-ltb, lt-ltb}
+use Rattle.dispatcher.specs.Answer.{marginOf, holderId, answerBy, answer}
+use Rattle.plan.specs.Records.{deadlineOf}
+use Rattle.dispatcher.specs.declared.Dispatcher.{Dispatcher}
+use Rattle.dispatcher.specs.declared.Answer.{Answer}
+use Rattle.dispatcher.specs.declared.Answer.the-variants.{Nobody, Idled, Worked, Finished}
+use Rattle.dispatcher.specs.State.{guestIn, restAt, ageAt}
+use Rattle.dispatcher.specs.Tick.{holder, worker, next}
+use Rattle.dispatcher_laws.proofs.Tick.{is-held, not-held, is-worked, not-worked}
+
+-- ---- the margin
+-- The margin of a job that is not late is what the deadline has left.
+pub margin-left : (deadline age : ℕ) → age ≤ deadline → marginOf deadline age ≡ pos (deadline - age)
+unfolding marginOf
+margin-left deadline zero h = ap pos (let e : deadline + 0 ≡ deadline - 0 = omega arith in e)
+margin-left deadline (suc age) h = ap (λ (b : Bool). cond b (negsuc (suc age - suc deadline)) (pos (deadline - suc age))) (le-ltb deadline (suc age) h)
+
+-- The margin of a late job is negative.
+margin-late : (deadline age : ℕ) → deadline < age → marginOf deadline age ≡ negsuc (age - suc deadline)
+unfolding marginOf
+margin-late deadline zero h = absurd (omega arith)
+margin-late deadline (suc age) h = ap (λ (b : Bool). cond b (negsuc (suc age - suc deadline)) (pos (deadline - suc age))) (lt-ltb deadline (suc age) h)
+
+-- A job of at most R ticks has no less margin than one of R ticks.
+pub margin-falls : (deadline age R : ℕ) → age ≤ R → marginOf deadline R ≤ℤ marginOf deadline age
+margin-falls deadline age R h =
+    elim (decLe R deadline) [
+      | yes l ↦ rw (margin-left deadline R l, margin-left deadline age (omega arith)) (record { le = le→leb (deadline - R) (deadline - age) (omega arith) })
+      | no l ↦
+          elim (decLe age deadline) [
+            | yes m ↦ rw (margin-late deadline R (omega arith), margin-left deadline age m) (record { le = tt })
+            | no m ↦ rw (margin-late deadline R (omega arith), margin-late deadline age (omega arith)) (record { le = le→leb (age - suc deadline) (R - suc deadline) (omega arith) })
+          ]
+    ]
+
+-- ---- who had the tick
+-- the answer that task t of guest k is finished by this tick
+abbrev pub finishedBy : Dispatcher → (k t : ℕ) → Answer
+finishedBy d k t =
+    Finished (guestIn d k .id) (t + 1) (ageAt (next d) k t) (marginOf (deadlineOf (guestIn d k) t) (ageAt (next d) k t))
+
+module _ (d : Dispatcher) where
+  -- Where no guest holds capacity, the answer is that nobody has the tick.
+  pub answer-nobody : d .plan .count ≤ holder d → answer d ≡ Nobody
+  unfolding answer answerBy
+  answer-nobody h = rw (not-held d h) refl
+
+  -- Where no task of the guest has run left, the answer is that the guest idles the tick away.
+  pub answer-idled : holder d < d .plan .count → guestIn d (holder d) .tasks ≤ worker d → answer d ≡ Idled (holderId d)
+  unfolding answer answerBy
+  answer-idled h l = rw (is-held d h, not-worked d l) refl
+
+  -- Where the task has more run left than this tick, the answer names guest and task.
+  pub answer-worked :
+      holder d < d .plan .count
+      → worker d < guestIn d (holder d) .tasks
+      → 1 < restAt d (holder d) (worker d)
+      → answer d ≡ Worked (holderId d) (worker d + 1)
+  unfolding answer answerBy
+  answer-worked h l m = rw (is-held d h, is-worked d h l, lt-ltb 1 (restAt d (holder d) (worker d)) m) refl
+
+  -- Where the tick is the last of the task's run, the answer is that the job is finished.
+  pub answer-finished :
+      holder d < d .plan .count
+      → worker d < guestIn d (holder d) .tasks
+      → restAt d (holder d) (worker d) ≤ 1
+      → answer d ≡ finishedBy d (holder d) (worker d)
+  unfolding answer answerBy next
+  answer-finished h l m = rw (is-held d h, is-worked d h l, le-ltb 1 (restAt d (holder d) (worker d)) m) refl

@@ -1,0 +1,68 @@
+-- A task that is released again after single ticks: refused by 9 before its period has passed, and taken from then on if it is quoted. Assumes nothing.
+use mathlib.Core.Path.{_≡_, refl}
+use mathlib.Core.Bool.{true}
+use mathlib.Core.List.{List}
+use Prim.Native.Nat.{ℕ, zero, suc, _≤_, _<_}
+use native.Mathlib.Omega.{arith}
+use Rattle.plan.specs.declared.Plan.{Plan}
+use Rattle.plan.specs.Order.{planRefusal}
+use Rattle.dispatcher.specs.declared.Dispatcher.{Dispatcher}
+use Rattle.dispatcher.specs.Release.{release}
+use Rattle.dispatcher.specs.Valid.{stateOk}
+use Rattle.verdict.specs.Quoted.{Quoted}
+use Rattle.verdict_laws.proofs.Tasks.{quoted-means}
+use Rattle.history.specs.Calls.{Call, releasing, ticking, start, after, play, released, times, ticksOf, ticksIn, Takes, Throughout, NoneTaken}
+use Rattle.history.specs.Named.{everyBy}
+use Rattle.history.proofs.Ticks.{tick-one}
+use Rattle.history.proofs.Play.{sound-after}
+use Rattle.history.proofs.Stays.{stays}
+use Rattle.history.proofs.Clocks.{sound-reached}
+use Rattle.history.proofs.Again.{nine-exactly}
+use Rattle.history.proofs.NeverTurnedAway.{next-taken}
+
+-- Calls of a tick release nothing.
+none-in-times : (guest task n : ℕ) (d : Dispatcher) → NoneTaken guest task (times n) d
+unfolding times Throughout Takes
+none-in-times guest task zero d = tt
+none-in-times guest task (suc n) d = (λ z. z, none-in-times guest task n (after ticking d))
+
+-- In a state that is not refused n calls of a tick do n ticks.
+ticks-in-times : (n : ℕ) (d : Dispatcher) → stateOk d ≡ true → ticksIn (times n) d ≡ n
+unfolding times ticksIn ticksOf
+ticks-in-times zero d ok = refl
+ticks-in-times (suc n) d ok = omega (arith, tick-one d ok, ticks-in-times n (after ticking d) (stays ticking d ok))
+
+-- n single ticks after a taken release, n ticks are done.
+ticks-since :
+    (p : Plan) (id number : ℕ)
+    → planRefusal p .number ≡ 0
+    → (cs : List Call) (n : ℕ)
+    → ticksIn (times n) (released p id number cs) ≡ n
+ticks-since p id number order cs n =
+    ticks-in-times n (released p id number cs) (sound-after (releasing id number) (play cs (start p)) (sound-reached p order cs) .ok)
+
+-- Released again after fewer ticks than its period, a task is refused by 9.
+pub early-again :
+    (p : Plan) (id number : ℕ)
+    → planRefusal p .number ≡ 0
+    → (cs : List Call)
+    → release (play cs (start p)) id number .refusal .number ≡ 0
+    → (n : ℕ)
+    → n < everyBy p id number
+    → release (play (times n) (released p id number cs)) id number .refusal .number ≡ 9
+early-again p id number order cs taken-it n h =
+    nine-exactly p order id number cs taken-it (times n) (none-in-times id number n (released p id number cs)) .1
+    (omega (arith, ticks-since p id number order cs n))
+
+-- Released again after as many ticks as its period or more, a quoted task is taken.
+pub due-again :
+    (p : Plan) (id number R : ℕ)
+    → Quoted p id number R
+    → (cs : List Call)
+    → release (play cs (start p)) id number .refusal .number ≡ 0
+    → (n : ℕ)
+    → everyBy p id number ≤ n
+    → release (play (times n) (released p id number cs)) id number .refusal .number ≡ 0
+due-again p id number R quoted cs taken-it n h =
+    next-taken p id number R quoted cs taken-it (times n) (none-in-times id number n (released p id number cs))
+    (omega (arith, ticks-since p id number (quoted-means p id number R quoted .0 .there .order) cs n))
