@@ -8,7 +8,8 @@ use lib.ListN.{length}
 use Rattle.plan.specs.First.{refused}
 use Rattle.planfile.specs.File.{blockAt, idAt, blocksIn, sizeOk, numberAt, fileRefusal}
 use Rattle.planfile.specs.Finder.{foundPlace, found}
-use Rattle.planfile_laws.specs.Exact.{_exactlyWhen_, FirstAt}
+use Rattle.lists.specs.Exactly.{_exactlyWhen_}
+use Rattle.planfile_laws.specs.Exact.{FirstAt}
 use Rattle.planfile_laws.proofs.Exact as exact
 
 module _ (s : List ℕ) where
