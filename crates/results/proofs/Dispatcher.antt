@@ -10,7 +10,7 @@ use Rattle.arrays.specs.Usage.{wrap, nobodys}
 use Rattle.plan.specs.Order.{planRefusal}
 use Rattle.plan.specs.Records.{guestAt}
 use Rattle.plan.specs.declared.Plan.{Plan}
-use Rattle.planfile_laws.specs.Exact.{_exactlyWhen_}
+use Rattle.block.specs.Exactly.{_exactlyWhen_}
 use Rattle.verdict_laws.specs.Tasks.{TaskThere}
 use Rattle.dispatcher.specs.declared.Dispatcher.{Dispatcher}
 use Rattle.dispatcher.specs.Release.{release}

@@ -8,7 +8,7 @@ use lib.IntN.{negsuc}
 use Rattle.dispatcher.specs.Answer.{marginOf}
 use Rattle.dispatcher.specs.Release.{release}
 use Rattle.dispatcher.specs.State.{restAt}
-use Rattle.planfile_laws.specs.Exact.{_exactlyWhen_}
+use Rattle.block.specs.Exactly.{_exactlyWhen_}
 use Rattle.verdict.specs.Quoted.{Quoted}
 use Rattle.dispatcher_laws.specs.Usage.{withUsage}
 use Rattle.history.specs.Calls.{Call, running, start, play, released, times, ticksIn, answers, NoneTaken}

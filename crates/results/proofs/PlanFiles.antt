@@ -9,12 +9,18 @@ use Rattle.plan.specs.Order.{planRefusal}
 use Rattle.plan.specs.Records.{guestAt}
 use Rattle.plan.specs.declared.Plan.{Plan}
 use Rattle.words.specs.Bytes.{Bytes}
+use Rattle.block.specs.Table.{InBytes}
 use Rattle.block.specs.Writing.{blockOf, writeRefusal, written}
 use Rattle.planfile.specs.Records.{readOf}
 use Rattle.planfile_laws.specs.File.{fileOf, cleared}
 use Rattle.planfile_laws.specs.Fits.{PlanInTypes}
+use Rattle.block.proofs.Table as table
 use Rattle.planfile_laws.proofs.OnlyOurs as ours
 use Rattle.planfile_laws.proofs.ReadBack as back
+
+-- Each number stands in a block where document 01's table has it, byte by byte.
+pub in-bytes : (b : List ℕ) → Bytes b → InBytes b
+in-bytes = table.in-bytes
 
 -- Records that pass the check, written block by block, read as those records.
 pub read-back : (p : Plan) → PlanInTypes p → planRefusal p .number ≡ 0 → readOf (fileOf p) ≡ record { refusal = fine; plan = cleared p }
