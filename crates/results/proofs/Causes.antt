@@ -1,5 +1,6 @@
--- Demand 1, causes are exact: when each number is given for plan files, for records handed over as a plan and by the writer, and when not. `A notBut B`:
--- the cause A, which is asked earlier, does not hold, but B does. When 9 and 10 are given stands in Dispatcher.
+-- Demand 1, causes are exact: when each number is given for plan files, for records handed over as a plan and by the
+-- writer, and when not. `A notBut B`: the cause A, which is asked earlier, does not hold, but B does. When 9 and 10
+-- are given stands in Dispatcher.
 use mathlib.Core.Path.{_≡_}
 use mathlib.Core.List.{List, []}
 use Prim.Native.Nat.{ℕ, suc, _<_}
@@ -112,7 +113,8 @@ module _ (p : Plan) where
   pub record-exactly :
       (n k : ℕ)
       → (planRefusal p ≡ refused (suc (suc n)) k)
-      exactlyWhen (Outside 1 mostGuests (p .count) notBut FirstAt (guestNumber (p .guests)) (p .count) 0 (suc (suc n)) k)
+      exactlyWhen
+      (Outside 1 mostGuests (p .count) notBut FirstAt (guestNumber (p .guests)) (p .count) 0 (suc (suc n)) k)
   record-exactly = records.record-exactly p
 
 -- The guest at place k of records handed over.
