@@ -42,8 +42,7 @@ pub never-14 :
     → ⊥
 never-14 = stays.never-14
 
--- Each guest's periods follow one another from the fresh start on: k whole ones and r ticks more bring it to position
--- r.
+-- Each guest's periods follow one another from the fresh start on: k whole ones and r ticks bring it to position r.
 pub position-means :
     (p : Plan) → planRefusal p .number ≡ 0
     → (g : ℕ) → g < p .count
@@ -58,6 +57,7 @@ position-means p order g h = sure.position-is p g h order
 pub run-is-ticks : (n : ℕ) (d : Dispatcher) → stateOk d ≡ true → n ≤ 1000000 → RunIs n d
 run-is-ticks = stays.run-is-ticks
 
+-- After the calls cs a release of the task is taken; in the calls ds since then none of it is.
 module _ (p : Plan) (order : planRefusal p .number ≡ 0) (id number : ℕ) (cs : List Call)
     (taken : release (play cs (start p)) id number .refusal .number ≡ 0) (ds : List Call)
     (none : NoneTaken id number ds (released p id number cs)) where
@@ -73,21 +73,20 @@ module _ (p : Plan) (order : planRefusal p .number ≡ 0) (id number : ℕ) (cs 
       → ageBy p id number (play ds (released p id number cs)) ≡ min (ticksIn ds (released p id number cs)) 1000000
   age-means = clocks.age-since p order id number cs taken ds none
 
-  -- A further release is refused by 9 exactly while fewer ticks than the task's period were done since the last taken
-  -- one.
+  -- A further release is refused by 9 exactly while fewer ticks than the task's period were done since the last.
   pub nine-exactly :
       (release (play ds (released p id number cs)) id number .refusal .number ≡ 9)
       exactlyWhen (ticksIn ds (released p id number cs) < everyBy p id number)
   nine-exactly = again.nine-exactly p order id number cs taken ds none
 
-  -- It is refused by 10 exactly when the period has passed and the last job is unfinished.
+  -- A further release is refused by 10 exactly when the period has passed and the last job is unfinished.
   pub ten-exactly :
       (release (play ds (released p id number cs)) id number .refusal .number ≡ 10)
       exactlyWhen ((everyBy p id number ≤ ticksIn ds (released p id number cs))
       × (0 < restBy p id number (play ds (released p id number cs))))
   ten-exactly = again.ten-exactly p order id number cs taken ds none
 
-  -- It is taken exactly otherwise: the period has passed and the last job is finished.
+  -- A further release is taken exactly otherwise: the period has passed and the last job is finished.
   pub taken-exactly :
       (release (play ds (released p id number cs)) id number .refusal .number ≡ 0)
       exactlyWhen ((everyBy p id number ≤ ticksIn ds (released p id number cs))
@@ -122,7 +121,7 @@ pub usage-counts :
     → Accounts p (answers cs (start p)) (play cs (start p) .usage)
 usage-counts = usage.usage-counts
 
--- All guests' ticks and nobody's are the ticks done.
+-- All guests' ticks and nobody's are the ticks done, modulo 2 to the 64.
 pub usage-adds-up :
     (p : Plan)
     → planRefusal p .number ≡ 0
@@ -131,12 +130,12 @@ pub usage-adds-up :
     ≡ ticksIn cs (start p) % wrap
 usage-adds-up = usage.usage-adds-up
 
--- Nothing else looks at them: with any numbers beside the state a call has the same answer, number and ticks, and
--- leaves the same state but for them.
+-- Nothing else looks at the numbers beside the state: with any other numbers there a call has the same answer, number
+-- and ticks, and leaves the same state but for these numbers.
 pub usage-unseen : (c : Call) (d : Dispatcher) (u : List ℕ) → SameOutcome c (withUsage d u) d
 usage-unseen = settings.usage-unseen
 
--- A host that sets them between any two calls, to 0 or to anything, keeps every promise: each call comes to what it
--- would have without that.
+-- A host that sets these numbers between any two calls, to 0 or to anything, keeps every promise: each call comes to
+-- what it would have without that.
 pub settings-unseen : (ss : List Step) (d : Dispatcher) (c : Call) → SameOutcome c (handled ss d) (play (callsIn ss) d)
 settings-unseen = settings.settings-unseen

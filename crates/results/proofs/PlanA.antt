@@ -39,14 +39,14 @@ pub guest-9-has-8 :
     → share 9 (answers cs (start A)) (k * 20) 20 ≡ 8
 guest-9-has-8 = rw (computed .place-A) at (sure-of-capacity A 9 14 (numbers .second))
 
--- It has had them by the 14th tick of each 20, its response.
+-- Guest 9 has had these 8 by the 14th tick of each 20, its response.
 pub guest-9-by-14 :
     (cs : List Call) (k : ℕ)
     → k * 20 + 14 ≤ ticksIn cs (start A)
     → share 9 (answers cs (start A)) (k * 20) 14 ≡ 8
 guest-9-by-14 = rw (computed .place-A) at (had-by-response A 9 14 (numbers .second))
 
--- Its second task being quoted, guest 7 above it is sure of 2 in each 5 ticks.
+-- The second task of guest 9 being quoted, guest 7 above it is sure of 2 in each 5 ticks.
 pub guest-7-has-2 :
     (cs : List Call) (k : ℕ)
     → suc k * 5 ≤ ticksIn cs (start A)
@@ -55,7 +55,7 @@ guest-7-has-2 =
     rw (computed .place-top) at
     (quoted-sure A 9 2 80 second-80 7 (rw (computed .place-top, computed .place-A) (omega arith)))
 
--- In every history an unfinished job of its second task is younger than 80.
+-- In every history an unfinished job of guest 9's second task is younger than 80.
 pub second-below-80 : (cs : List Call) → 0 < restBy A 9 2 (play cs (start A)) → ageBy A 9 2 (play cs (start A)) < 80
 second-below-80 = younger A 9 2 80 second-80
 
@@ -71,7 +71,7 @@ pub second-finished :
     → FinishedBy 80 100 9 2 ds (released A 9 2 [])
 second-finished = rw (computed .place-A) at (finished-by-R A 9 2 80 second-80 [] (computed .taken-A))
 
--- A release of it since then is refused by 9 exactly before 100 ticks are done.
+-- Released at the start, that task is refused by 9 exactly before 100 ticks are done.
 pub second-nine :
     (ds : List Call)
     → NoneTaken 9 2 ds (released A 9 2 [])

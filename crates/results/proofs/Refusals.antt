@@ -1,6 +1,6 @@
 -- Demand 1: a refusal alters no state and no lent byte. That each entry takes whatever it is handed and ends is what
--- a contract without a requirement says; the order of refusals is the list in the definition, and Causes says what is
--- not seen there.
+-- a contract without a requirement says; the order of refusals is the list in the definition, and their causes stand
+-- in Causes.
 use mathlib.Core.Path.{_≡_}
 use mathlib.Core.List.{List}
 use Prim.Native.Nat.{ℕ, _<_}

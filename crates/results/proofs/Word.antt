@@ -34,7 +34,7 @@ pub sure-of-capacity :
     → share id (answers cs (start p)) (k * guestBy p id .period) (guestBy p id .period) ≡ guestBy p id .capacity
 sure-of-capacity = sure.sure-of-capacity
 
--- In each period that it begins, it has had its capacity by the x-th tick, x its response.
+-- In each period that it begins, a fitted guest has had its capacity by the x-th tick, x its response.
 pub had-by-response :
     (p : Plan) (id x : ℕ)
     → guestVerdict p id ≡ Fitted x
@@ -50,7 +50,7 @@ module _ (p : Plan) (id number R : ℕ) (quoted : Quoted p id number R) where
   pub quoted-fitted : (above : ℕ) → placeOf p above ≤ placeOf p id → (x : ℕ) × (guestVerdict p above ≡ Fitted x)
   quoted-fitted = upper.quoted-fitted p id number R quoted
 
-  -- Each of these guests is sure of its capacity.
+  -- The guest of a quoted task, and each guest above it, is sure of its capacity.
   pub quoted-sure :
       (above : ℕ)
       → placeOf p above ≤ placeOf p id
@@ -103,7 +103,7 @@ module _ (p : Plan) (id number R : ℕ) (quoted : Quoted p id number R) where
       → release (play ds (released p id number cs)) id number .refusal .number ≡ 0
   next-taken = turned.next-taken p id number R quoted
 
-  -- Refusal 10 is never given.
+  -- Refusal 10 is never given for a quoted task.
   pub never-10 : (cs : List Call) → release (play cs (start p)) id number .refusal .number ≡ 10 → ⊥
   never-10 = turned.never-10 p id number R quoted
 
