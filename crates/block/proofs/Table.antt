@@ -12,7 +12,7 @@ use Rattle.words.specs.Word.{wordWrap, u16At, u32At, word}
 use Rattle.words.specs.Wrap.{wrapped}
 use Rattle.words.specs.Bytes.{Bytes}
 use Rattle.plan.specs.Ranges.{mostTasks}
-use Rattle.block.specs.Exactly.{_exactlyWhen_}
+use Rattle.lists.specs.Exactly.{_exactlyWhen_}
 use Rattle.block.specs.Layout.{blockWords, kindPlaceWord, idWord, capacityWord, periodWord, tasksChargeWord, spareFrom, spareTo, runWord, everyWord, deadlineWord, unusedFrom, checkWord, lowHalf, highHalf}
 use Rattle.block.specs.Reading.{taskCount, column, zeroBetween, zerosOk}
 use Rattle.block.specs.Table.{ZeroBytes, ZerosStand, InBytes}

@@ -9,7 +9,7 @@ use Rattle.lists.specs.Sum.{sumTo}
 use Rattle.words.specs.Word.{wordWrap, u16At, u32At}
 use Rattle.plan.specs.Records.{runOf, everyOf, deadlineOf}
 use Rattle.plan.specs.Ranges.{mostTasks}
-use Rattle.block.specs.Exactly.{_exactlyWhen_}
+use Rattle.lists.specs.Exactly.{_exactlyWhen_}
 use Rattle.block.specs.Reading.{kindIn, placeIn, guestOf, sumsToZero, zerosOk}
 
 -- The bytes from one on, and before another, are zero.

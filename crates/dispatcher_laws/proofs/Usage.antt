@@ -1,5 +1,5 @@
--- The numbers beside a state, where the ticks went, are looked at by nothing but themselves: calls of two states that are the same but for them answer
--- the same, and leave states that are the same but for them. Assumes nothing.
+-- The numbers beside a state, where the ticks went, are looked at by nothing but themselves: calls of two states that
+-- are the same but for them answer the same, and leave states that are the same but for them. Assumes nothing.
 use mathlib.Core.Path.{_≡_, refl, sym, ap, _∙_}
 use mathlib.Core.Bool.{Bool, true, false}
 use mathlib.Core.List.{List, [], _∷_}
@@ -131,7 +131,8 @@ module _ (d e : Dispatcher) (S : SameButUsage d e) where
   pub release-one : (id task : ℕ) → ReleasedSame (release d id task) (release e id task)
   unfolding release
   release-one id task =
-      rw (number-one d e S id task, place-one d e S id) (release-by (releaseNumber e id task) (placeOf (e .plan) id) (task - 1))
+      rw (number-one d e S id task, place-one d e S id)
+      (release-by (releaseNumber e id task) (placeOf (e .plan) id) (task - 1))
 
   -- Ticks that go by one number have one outcome but for these numbers.
   tick-by : (n : ℕ) → TickedSame (tickedBy n d) (tickedBy n e)

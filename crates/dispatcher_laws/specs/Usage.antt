@@ -7,7 +7,15 @@ use Rattle.dispatcher.specs.declared.Dispatcher.{Dispatcher}
 -- The state with these numbers beside it, all else unchanged.
 abbrev pub withUsage : Dispatcher → List ℕ → Dispatcher
 withUsage d u =
-    record { plan = d .plan; left = d .left; position = d .position; rest = d .rest; wait = d .wait; age = d .age; usage = u }
+    record {
+      plan = d .plan;
+      left = d .left;
+      position = d .position;
+      rest = d .rest;
+      wait = d .wait;
+      age = d .age;
+      usage = u;
+    }
 
 -- Two states are the same but for these numbers: with any numbers beside both, they are one state.
 abbrev pub SameButUsage : Dispatcher → Dispatcher → Type 0

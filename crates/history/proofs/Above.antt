@@ -1,4 +1,5 @@
--- A task that is quoted has a guest that is fitted, under guests that are fitted: so each of them is sure of its capacity. Assumes nothing.
+-- A task that is quoted has a guest that is fitted, under guests that are fitted: so each of them is sure of its
+-- capacity. Assumes nothing.
 use mathlib.Core.Path.{_≡_, refl}
 use mathlib.Core.List.{List}
 use Prim.Native.Nat.{ℕ, suc, _*_, _≤_, _<_}
@@ -43,7 +44,8 @@ quoted-fitted p id number R quoted above h =
     let place : placeOf p above < p .count = omega (arith, T .there .place) in
     let there : There p above (placeOf p above) =
     record { order = T .there .order; place = place; named = found-id p above (placeOf p above) refl place } in
-    solved-fitted p above (placeOf p above) x G (guestVerdict p above) refl (guest-verdict-means p above (placeOf p above) there)
+    solved-fitted p above (placeOf p above) x G (guestVerdict p above) refl
+    (guest-verdict-means p above (placeOf p above) there)
 
 -- The guest of a quoted task, and each guest above it, is sure of its capacity.
 pub quoted-sure :
@@ -53,7 +55,8 @@ pub quoted-sure :
     → placeOf p above ≤ placeOf p id
     → (cs : List Call) (k : ℕ)
     → suc k * guestBy p above .period ≤ ticksIn cs (start p)
-    → share above (answers cs (start p)) (k * guestBy p above .period) (guestBy p above .period) ≡ guestBy p above .capacity
+    → share above (answers cs (start p)) (k * guestBy p above .period) (guestBy p above .period)
+    ≡ guestBy p above .capacity
 quoted-sure p id number R quoted above h cs k l =
     let (x, e) = quoted-fitted p id number R quoted above h in
     sure-of-capacity p above x e cs k l

@@ -1,5 +1,6 @@
--- A further release of a task: when it is refused by 9, when by 10, and when it is taken. Strategy: the number goes by the wait and the run left, and
--- the wait is what is left of the period since the last taken release. Assumes nothing.
+-- A further release of a task: when it is refused by 9, when by 10, and when it is taken. Strategy: the number goes
+-- by the wait and the run left, and the wait is what is left of the period since the last taken release. Assumes
+-- nothing.
 use mathlib.Core.Path.{_≡_, refl, sym, ap, subst, _∙_}
 use mathlib.Core.List.{List}
 use Prim.Native.Nat.{ℕ, _-_, _≤_, _<_}
@@ -52,8 +53,8 @@ module _ (p : Plan) (id number : ℕ) (T : TaskThere p id number) (d : Dispatche
         free = r;
       }))
 
--- The number n of a release m ticks after the last one taken, of a task with this period and this run left: 9, 10 or none, each for its own cause.
--- Inner: it serves the proofs of this file alone.
+-- The number n of a release m ticks after the last one taken, of a task with this period and this run left: 9, 10 or
+-- none, each for its own cause. Inner: it serves the proofs of this file alone.
 record Again (n period m left : ℕ) : Type 0 where
   pub nine : ((n ≡ 9) → m < period) × ((m < period) → n ≡ 9)
   pub ten : ((n ≡ 10) → (period ≤ m) × (0 < left)) × ((period ≤ m) × (0 < left) → n ≡ 10)
@@ -111,7 +112,8 @@ module _ (p : Plan) (order : planRefusal p .number ≡ 0) (id number : ℕ) (cs 
       Again (release (play ds (released p id number cs)) id number .refusal .number) (everyBy p id number)
       (ticksIn ds (released p id number cs)) (restBy p id number (play ds (released p id number cs)))
   again =
-      let D = sound-play ds (released p id number cs) (sound-after (releasing id number) (play cs (start p)) (sound-reached p order cs)) in
+      let D = sound-play ds (released p id number cs)
+      (sound-after (releasing id number) (play cs (start p)) (sound-reached p order cs)) in
       let W = wait-since p order id number cs taken-it ds none in
       exact (release (play ds (released p id number cs)) id number .refusal .number) (everyBy p id number)
       (ticksIn ds (released p id number cs)) (restBy p id number (play ds (released p id number cs)))
@@ -130,16 +132,20 @@ module _ (p : Plan) (order : planRefusal p .number ≡ 0) (id number : ℕ) (cs 
   -- It is refused by 10 exactly when its period has passed since, and the job is unfinished.
   pub ten-exactly :
       ((release (play ds (released p id number cs)) id number .refusal .number ≡ 10)
-      → (everyBy p id number ≤ ticksIn ds (released p id number cs)) × (0 < restBy p id number (play ds (released p id number cs))))
-      × ((everyBy p id number ≤ ticksIn ds (released p id number cs)) × (0 < restBy p id number (play ds (released p id number cs)))
+      → (everyBy p id number ≤ ticksIn ds (released p id number cs))
+      × (0 < restBy p id number (play ds (released p id number cs))))
+      × ((everyBy p id number ≤ ticksIn ds (released p id number cs))
+      × (0 < restBy p id number (play ds (released p id number cs)))
       → release (play ds (released p id number cs)) id number .refusal .number ≡ 10)
   ten-exactly = again .ten
 
   -- It is taken exactly otherwise: its period has passed since, and the job is finished.
   pub taken-exactly :
       ((release (play ds (released p id number cs)) id number .refusal .number ≡ 0)
-      → (everyBy p id number ≤ ticksIn ds (released p id number cs)) × (restBy p id number (play ds (released p id number cs)) ≡ 0))
-      × ((everyBy p id number ≤ ticksIn ds (released p id number cs)) × (restBy p id number (play ds (released p id number cs)) ≡ 0)
+      → (everyBy p id number ≤ ticksIn ds (released p id number cs))
+      × (restBy p id number (play ds (released p id number cs)) ≡ 0))
+      × ((everyBy p id number ≤ ticksIn ds (released p id number cs))
+      × (restBy p id number (play ds (released p id number cs)) ≡ 0)
       → release (play ds (released p id number cs)) id number .refusal .number ≡ 0)
   taken-exactly = again .none
 

@@ -1,5 +1,6 @@
--- What a guest's response means when it runs: in each of its periods a fitted guest has had its capacity by the x-th tick. Strategy: while the guest
--- holds something, its position is below x, by the guest part of the windows; so at position x it holds nothing. Assumes nothing.
+-- What a guest's response means when it runs: in each of its periods a fitted guest has had its capacity by the x-th
+-- tick. Strategy: while the guest holds something, its position is below x, by the guest part of the windows; so at
+-- position x it holds nothing. Assumes nothing.
 use mathlib.Core.Path.{_≡_, sym, ap, subst, _∙_}
 use mathlib.Core.List.{List, [], _∷_, _++_}
 use Prim.Native.Nat.{ℕ, suc, _+_, _*_, _≤_, _<_}
@@ -52,11 +53,13 @@ module _ (p : Plan) (P : PlanIn p) (g x : ℕ) (in-plan : g < p .count) (F : Fit
               | no n ↦ omega arith
             ] in
             let here : share (idOf p g) L (S .q * perOf p g) (posAt d g) ≡ share (idOf p g) L (k * perOf p g) x =
-            ap (λ (z : ℕ). share (idOf p g) L (z * perOf p g) (posAt d g)) a ∙ ap (λ (z : ℕ). share (idOf p g) L (k * perOf p g) z) b in
+            ap (λ (z : ℕ). share (idOf p g) L (z * perOf p g) (posAt d g)) a
+            ∙ ap (λ (z : ℕ). share (idOf p g) L (k * perOf p g) z) b in
             omega (arith, S .now))
         | no l ↦
             (let whole : x ≡ perOf p g = omega (arith, F .inside) in
-            let (a, b) = parts-one (perOf p g) (S .q) (suc k) (posAt d g) 0 inside (omega arith) (omega (arith, S .time)) in
+            let (a, b) = parts-one (perOf p g) (S .q) (suc k) (posAt d g) 0 inside (omega arith)
+            (omega (arith, S .time)) in
             ap (share (idOf p g) L (k * perOf p g)) whole ∙ S .past k (omega arith))
       ]
     where
@@ -90,7 +93,9 @@ module _ (p : Plan) (P : PlanIn p) (g x : ℕ) (in-plan : g < p .count) (F : Fit
   by-x-taken L d k t H = record { shares = shares-taken p P g x in-plan F L d k t (H .shares); had = H .had }
 
 -- After a history each period whose x-th tick is done has had its capacity by then.
-had-by : (p : Plan) (order : planRefusal p .number ≡ 0) (g x : ℕ) (in-plan : g < p .count) (G : GuestSolves p g x) (cs : List Call) (k : ℕ)
+had-by :
+    (p : Plan) (order : planRefusal p .number ≡ 0) (g x : ℕ) (in-plan : g < p .count) (G : GuestSolves p g x)
+    (cs : List Call) (k : ℕ)
     → k * perOf p g + x ≤ ticksIn cs (start p)
     → share (idOf p g) (answers cs (start p)) (k * perOf p g) x ≡ capOf p g
 had-by p order g x in-plan G cs k h =
@@ -100,12 +105,16 @@ had-by p order g x in-plan G cs k h =
     (λ L d id task k t D a f H. by-x-taken p P g x in-plan F L d k t H) cs [] (start p) (any cs (start p))
     record {
       sound = sound-start p order;
-      holds = record { shares = rw (fresh-idle p order) (shares-idle p P g x in-plan F); had = λ k h. absurd (omega (arith, G .low)) };
+      holds = record {
+        shares = rw (fresh-idle p order) (shares-idle p P g x in-plan F);
+        had = λ k h. absurd (omega (arith, G .low));
+      };
     }
     .holds
     .had k (omega (arith, answers-length cs (start p) (sound-start p order)))
 
--- In every period that it begins, from 0 on, a fitted guest has had its capacity by the x-th tick of it, x its response.
+-- In every period that it begins, from 0 on, a fitted guest has had its capacity by the x-th tick of it, x its
+-- response.
 pub had-by-response :
     (p : Plan) (id x : ℕ)
     → guestVerdict p id ≡ guest.Fitted x

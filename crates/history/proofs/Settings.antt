@@ -53,12 +53,16 @@ pub usage-unseen : (c : Call) (d : Dispatcher) (u : List ℕ) → SameOutcome c 
 usage-unseen c d u = same-outcome (withUsage d u) d (λ v. refl) c
 
 -- Steps of a host lead to the state of its calls alone, but for these numbers.
-settings-same : (ss : List Step) (d e : Dispatcher) → SameButUsage d e → SameButUsage (handled ss d) (play (callsIn ss) e)
+settings-same :
+    (ss : List Step) (d e : Dispatcher)
+    → SameButUsage d e
+    → SameButUsage (handled ss d) (play (callsIn ss) e)
 unfolding handled callsIn play
 settings-same [] d e S = S
 settings-same (calling c ∷ ss) d e S = settings-same ss (after c d) (after c e) (after-same d e S c)
 settings-same (setting u ∷ ss) d e S = settings-same ss (withUsage d u) e (λ v. S v)
 
--- Numbers that a host sets between calls change nothing but themselves: each call comes to what it would have without them.
+-- Numbers that a host sets between calls change nothing but themselves: each call comes to what it would have without
+-- them.
 pub settings-unseen : (ss : List Step) (d : Dispatcher) (c : Call) → SameOutcome c (handled ss d) (play (callsIn ss) d)
 settings-unseen ss d c = same-outcome (handled ss d) (play (callsIn ss) d) (settings-same ss d d (λ v. refl)) c

@@ -1,4 +1,5 @@
--- A task that is released again after single ticks: refused by 9 before its period has passed, and taken from then on if it is quoted. Assumes nothing.
+-- A task that is released again after single ticks: refused by 9 before its period has passed, and taken from then on
+-- if it is quoted. Assumes nothing.
 use mathlib.Core.Path.{_≡_, refl}
 use mathlib.Core.Bool.{true}
 use mathlib.Core.List.{List}
@@ -10,9 +11,9 @@ use Rattle.dispatcher.specs.declared.Dispatcher.{Dispatcher}
 use Rattle.dispatcher.specs.Release.{release}
 use Rattle.dispatcher.specs.Valid.{stateOk}
 use Rattle.verdict.specs.Quoted.{Quoted}
-use Rattle.verdict_laws.proofs.Tasks.{quoted-means}
 use Rattle.history.specs.Calls.{Call, releasing, ticking, start, after, play, released, times, ticksOf, ticksIn, Takes, Throughout, NoneTaken}
 use Rattle.history.specs.Named.{everyBy}
+use Rattle.verdict_laws.proofs.Tasks.{quoted-means}
 use Rattle.history.proofs.Ticks.{tick-one}
 use Rattle.history.proofs.Play.{sound-after}
 use Rattle.history.proofs.Stays.{stays}
@@ -39,7 +40,8 @@ ticks-since :
     → (cs : List Call) (n : ℕ)
     → ticksIn (times n) (released p id number cs) ≡ n
 ticks-since p id number order cs n =
-    ticks-in-times n (released p id number cs) (sound-after (releasing id number) (play cs (start p)) (sound-reached p order cs) .ok)
+    ticks-in-times n (released p id number cs)
+    (sound-after (releasing id number) (play cs (start p)) (sound-reached p order cs) .ok)
 
 -- Released again after fewer ticks than its period, a task is refused by 9.
 pub early-again :

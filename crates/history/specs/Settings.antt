@@ -6,7 +6,8 @@ use Rattle.dispatcher.specs.declared.Dispatcher.{Dispatcher}
 use Rattle.dispatcher_laws.specs.Usage.{withUsage, SameButUsage}
 use Rattle.history.specs.Calls.{Call, after, ticksOf, answerOf, callNumber}
 
--- A call of two states has one answer, one number, as many ticks, and leaves states that are the same but for these numbers.
+-- A call of two states has one answer, one number, as many ticks, and leaves states that are the same but for these
+-- numbers.
 pub record SameOutcome (c : Call) (d e : Dispatcher) : Type 0 where
   pub answer : answerOf c d ≡ answerOf c e
   pub number : callNumber c d ≡ callNumber c e

@@ -5,3 +5,4 @@ pub mod Table
 pub mod Places
 pub mod Search
 pub mod Refusals
+pub mod Exactly

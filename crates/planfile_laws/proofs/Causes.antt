@@ -16,7 +16,7 @@ use Rattle.plan.specs.declared.Guest.{Guest}
 use Rattle.plan.specs.Records.{runOf, everyOf, deadlineOf}
 use Rattle.plan.specs.Ranges.{mostTasks, longest, within, headOk, guestOk, taskOk, tasksOk}
 use Rattle.plan.specs.Order.{newId}
-use Rattle.block.specs.Exactly.{_exactlyWhen_}
+use Rattle.lists.specs.Exactly.{_exactlyWhen_}
 use Rattle.block.specs.Layout.{blockSize, blockWords, guestKind, spareFrom, spareTo, unusedFrom, checkWord}
 use Rattle.block.specs.Reading.{kindIn, placeIn, taskCount, sumsToZero, kindOk, ownPlace, zeroBetween, zerosOk}
 use Rattle.planfile.specs.File.{mostBytes, sizeOk}

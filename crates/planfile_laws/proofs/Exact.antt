@@ -15,11 +15,11 @@ use Rattle.plan.specs.declared.Refusal.{Refusal}
 use Rattle.plan.specs.First.{refused, orElse}
 use Rattle.plan.specs.Order.{newId}
 use Rattle.plan.specs.Ranges.{guestOk, tasksOk}
-use Rattle.block.specs.Exactly.{_exactlyWhen_}
+use Rattle.lists.specs.Exactly.{_exactlyWhen_, _notBut_}
 use Rattle.block.specs.Reading.{guestOf, sumsToZero, kindOk, ownPlace, zerosOk, blockNumber}
 use Rattle.planfile.specs.Finder.{firstWith, placeOrSeven, foundPlace, found}
 use Rattle.planfile.specs.File.{blockAt, idAt, blocksIn, sizeOk, numberAt, sizedBy, fileRefusal}
-use Rattle.planfile_laws.specs.Exact.{_notBut_, FirstAt}
+use Rattle.planfile_laws.specs.Exact.{FirstAt}
 use Rattle.planfile_laws.specs.Causes.{WrongLength, WrongSum, WrongOpening, WrongGuest, WrongZero, WrongTask}
 use Rattle.lists.proofs.All.{and-right, all-at}
 use Rattle.lists.proofs.Search.{Says, least-says, count-at, count-none}
@@ -27,7 +27,8 @@ use Rattle.block.proofs.Reading.{block-in}
 use Rattle.planfile.proofs.File.{sized, unsized, file-in}
 use Rattle.planfile.proofs.Finder.{found-none, found-there}
 use Rattle.planfile_laws.proofs.Causes.{length-fails, sum-fails, opening-fails, guest-fails, zeros-fail, tasks-fail}
-use Rattle.planfile_laws.proofs.Order.{among, not-given, given-first, given-later, first-most, one-first, place-first}
+use Rattle.lists.proofs.Exactly.{among, not-given, given-first, given-later}
+use Rattle.planfile_laws.proofs.Order.{first-most, one-first, place-first}
 
 -- A block is refused by no number above 6.
 most-six : (t2 t3 t4 t5 t6 : Bool)

@@ -11,13 +11,14 @@ use Rattle.plan.specs.Records.{guestAt}
 use Rattle.plan.specs.Ranges.{mostGuests, within, guestOk, tasksOk}
 use Rattle.plan.specs.First.{refused, firstRefused}
 use Rattle.plan.specs.Order.{newId, numberOf, guestNumber, countedBy, planRefusal}
-use Rattle.block.specs.Exactly.{_exactlyWhen_}
+use Rattle.lists.specs.Exactly.{_exactlyWhen_, _notBut_}
 use Rattle.block.specs.Layout.{blockSize, lastPlace}
 use Rattle.block.specs.Writing.{writeNumber}
-use Rattle.planfile_laws.specs.Exact.{_notBut_, FirstAt}
+use Rattle.planfile_laws.specs.Exact.{FirstAt}
 use Rattle.planfile_laws.specs.Causes.{Outside, WrongHead, WrongGuest, WrongTask}
 use Rattle.planfile_laws.proofs.Causes.{leb-fails, within-fails, head-fails, guest-fails, tasks-fail}
-use Rattle.planfile_laws.proofs.Order.{among, not-given, given-first, given-later, one-first, place-first}
+use Rattle.lists.proofs.Exactly.{among, not-given, given-first, given-later}
+use Rattle.planfile_laws.proofs.Order.{one-first, place-first}
 
 -- The writer, lent a buffer of so many bytes.
 module _ (g : Guest) (place size : ℕ) where

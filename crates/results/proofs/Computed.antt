@@ -1,4 +1,5 @@
--- All that is shown by computing, with the one list of definitions that are computed with. Inner: other files of this crate cite its parts.
+-- All that is shown by computing, with the one list of definitions that are computed with. Inner: other files of this
+-- crate cite its parts.
 use mathlib.Core.Path.{_≡_, refl}
 use mathlib.Core.List.{[], _∷_}
 use native.Mathlib.Omega.{arith}
@@ -60,9 +61,16 @@ pub record Computed : Type 0 where
   -- The margin of a job that is one tick late.
   pub late-margin : marginOf 35 36 ≡ negsuc 0
 
--- Each part is computed by the definitions; what case 8 has after 49 and 50 ticks follows from the promises, without 99 ticks computed.
+-- Each part is computed by the definitions; what case 8 has after 49 and 50 ticks follows from the promises, without
+-- 99 ticks computed.
 pub computed : Computed
-unfolding allTo unless refusal least firstFrom sumTo up solve chargedRun orElse firstRefused newId numberOf guestNumber countedBy planRefusal placeOf headOk taskOk tasksOk jitter interference guestRight guestResponse fitted fittedTo gap load periods taskRight responseTo limit taskResponse hasGuest hasTask recordsThen refusedBy guestVerdict quotedBy taskSays taskVerdict met allMet accepted acceptSays acceptance withCapacity works smallest smallestCapacity upTo tasksIn guestInRange taskInRange rowOk stateOk idle startedBy fresh taken releaseNumber releasedBy release lessAt refilled holder isHeld leftAfter worker isWorked restAfter ageAfter waitAfter positionAfter next marginOf answerBy answer finishes runFrom runFor ranBy run tickedBy tick after play times
+unfolding allTo unless refusal least firstFrom sumTo up solve chargedRun orElse firstRefused newId numberOf
+    guestNumber countedBy planRefusal placeOf headOk taskOk tasksOk jitter interference guestRight guestResponse
+    fitted fittedTo gap load periods taskRight responseTo limit taskResponse hasGuest hasTask recordsThen refusedBy
+    guestVerdict quotedBy taskSays taskVerdict met allMet accepted acceptSays acceptance withCapacity works smallest
+    smallestCapacity upTo tasksIn guestInRange taskInRange rowOk stateOk idle startedBy fresh taken releaseNumber
+    releasedBy release lessAt refilled holder isHeld leftAfter worker isWorked restAfter ageAfter waitAfter
+    positionAfter next marginOf answerBy answer finishes runFrom runFor ranBy run tickedBy tick after play times
 computed = record {
   numbers = record {
     alone = refl;

@@ -1,5 +1,6 @@
--- The dispatcher over histories of calls, for any plan in order: its states are never refused, a run is its single ticks, wait and age mean what they
--- say, 9 and 10 have exactly their causes, and the numbers beside the state say where the ticks went and are looked at by nothing else.
+-- The dispatcher over histories of calls, for any plan in order: its states are never refused, a run is its single
+-- ticks, wait and age mean what they say, 9 and 10 have exactly their causes, and the numbers beside the state say
+-- where the ticks went and are looked at by nothing else.
 use mathlib.Core.Path.{_≡_}
 use mathlib.Core.Bool.{true}
 use mathlib.Core.List.{List}
@@ -10,7 +11,7 @@ use Rattle.arrays.specs.Usage.{wrap, nobodys}
 use Rattle.plan.specs.Order.{planRefusal}
 use Rattle.plan.specs.Records.{guestAt}
 use Rattle.plan.specs.declared.Plan.{Plan}
-use Rattle.planfile_laws.specs.Exact.{_exactlyWhen_}
+use Rattle.lists.specs.Exactly.{_exactlyWhen_}
 use Rattle.verdict_laws.specs.Tasks.{TaskThere}
 use Rattle.dispatcher.specs.declared.Dispatcher.{Dispatcher}
 use Rattle.dispatcher.specs.Release.{release}
@@ -33,10 +34,15 @@ pub never-spoiled : (c : Call) (d : Dispatcher) → stateOk d ≡ true → state
 never-spoiled = stays.stays
 
 -- From a fresh start that was not refused, 14 is never given.
-pub never-14 : (p : Plan) → planRefusal p .number ≡ 0 → (cs : List Call) (c : Call) → callNumber c (play cs (start p)) ≡ 14 → ⊥
+pub never-14 :
+    (p : Plan)
+    → planRefusal p .number ≡ 0
+    → (cs : List Call) (c : Call)
+    → callNumber c (play cs (start p)) ≡ 14
+    → ⊥
 never-14 = stays.never-14
 
--- Each guest's periods follow one another from the fresh start on: k whole ones and r ticks more bring it to position r.
+-- Each guest's periods follow one another from the fresh start on: k whole ones and r ticks bring it to position r.
 pub position-means :
     (p : Plan) → planRefusal p .number ≡ 0
     → (g : ℕ) → g < p .count
@@ -46,10 +52,12 @@ pub position-means :
     → nth (play cs (start p) .position) g ≡ r
 position-means p order g h = sure.position-is p g h order
 
--- A run's count, state and answer are those of that many single ticks; it stops after the first finish, never before, or when the number is used up.
+-- A run's count, state and answer are those of that many single ticks; it stops after the first finish, never before,
+-- or when the number is used up.
 pub run-is-ticks : (n : ℕ) (d : Dispatcher) → stateOk d ≡ true → n ≤ 1000000 → RunIs n d
 run-is-ticks = stays.run-is-ticks
 
+-- After the calls cs a release of the task is taken; in the calls ds since then none of it is.
 module _ (p : Plan) (order : planRefusal p .number ≡ 0) (id number : ℕ) (cs : List Call)
     (taken : release (play cs (start p)) id number .refusal .number ≡ 0) (ds : List Call)
     (none : NoneTaken id number ds (released p id number cs)) where
@@ -65,20 +73,20 @@ module _ (p : Plan) (order : planRefusal p .number ≡ 0) (id number : ℕ) (cs 
       → ageBy p id number (play ds (released p id number cs)) ≡ min (ticksIn ds (released p id number cs)) 1000000
   age-means = clocks.age-since p order id number cs taken ds none
 
-  -- A further release is refused by 9 exactly while fewer ticks than the task's period were done since the last taken one.
+  -- A further release is refused by 9 exactly while fewer ticks than the task's period were done since the last.
   pub nine-exactly :
       (release (play ds (released p id number cs)) id number .refusal .number ≡ 9)
       exactlyWhen (ticksIn ds (released p id number cs) < everyBy p id number)
   nine-exactly = again.nine-exactly p order id number cs taken ds none
 
-  -- It is refused by 10 exactly when the period has passed and the last job is unfinished.
+  -- A further release is refused by 10 exactly when the period has passed and the last job is unfinished.
   pub ten-exactly :
       (release (play ds (released p id number cs)) id number .refusal .number ≡ 10)
       exactlyWhen ((everyBy p id number ≤ ticksIn ds (released p id number cs))
       × (0 < restBy p id number (play ds (released p id number cs))))
   ten-exactly = again.ten-exactly p order id number cs taken ds none
 
-  -- It is taken exactly otherwise: the period has passed and the last job is finished.
+  -- A further release is taken exactly otherwise: the period has passed and the last job is finished.
   pub taken-exactly :
       (release (play ds (released p id number cs)) id number .refusal .number ≡ 0)
       exactlyWhen ((everyBy p id number ≤ ticksIn ds (released p id number cs))
@@ -106,21 +114,28 @@ pub first-release-taken :
 first-release-taken = again.first-taken
 
 -- Where the ticks went: after any history each number beside the state is the count of such ticks, modulo 2 to the 64.
-pub usage-counts : (p : Plan) → planRefusal p .number ≡ 0 → (cs : List Call) → Accounts p (answers cs (start p)) (play cs (start p) .usage)
+pub usage-counts :
+    (p : Plan)
+    → planRefusal p .number ≡ 0
+    → (cs : List Call)
+    → Accounts p (answers cs (start p)) (play cs (start p) .usage)
 usage-counts = usage.usage-counts
 
--- All guests' ticks and nobody's are the ticks done.
+-- All guests' ticks and nobody's are the ticks done, modulo 2 to the 64.
 pub usage-adds-up :
     (p : Plan)
     → planRefusal p .number ≡ 0
     → (cs : List Call)
-    → (sumTo (nth (play cs (start p) .usage)) (p .count) + nth (play cs (start p) .usage) nobodys) % wrap ≡ ticksIn cs (start p) % wrap
+    → (sumTo (nth (play cs (start p) .usage)) (p .count) + nth (play cs (start p) .usage) nobodys) % wrap
+    ≡ ticksIn cs (start p) % wrap
 usage-adds-up = usage.usage-adds-up
 
--- Nothing else looks at them: with any numbers beside the state a call has the same answer, number and ticks, and leaves the same state but for them.
+-- Nothing else looks at the numbers beside the state: with any other numbers there a call has the same answer, number
+-- and ticks, and leaves the same state but for these numbers.
 pub usage-unseen : (c : Call) (d : Dispatcher) (u : List ℕ) → SameOutcome c (withUsage d u) d
 usage-unseen = settings.usage-unseen
 
--- A host that sets them between any two calls, to 0 or to anything, keeps every promise: each call comes to what it would have without that.
+-- A host that sets these numbers between any two calls, to 0 or to anything, keeps every promise: each call comes to
+-- what it would have without that.
 pub settings-unseen : (ss : List Step) (d : Dispatcher) (c : Call) → SameOutcome c (handled ss d) (play (callsIn ss) d)
 settings-unseen = settings.settings-unseen

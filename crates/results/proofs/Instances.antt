@@ -21,7 +21,7 @@ unfit-4-6 = rw (numbers .unfit) at (guest-means (planB 4) 9 1 (computed .there-u
 pub met-36 : TaskMet A 1 0 36
 met-36 = rw (numbers .first-task) at (task-means A 9 1 (computed .there-A) 0 (omega arith))
 
--- With deadline 35 it is unmet with 36.
+-- With deadline 35 that task is unmet with 36.
 pub unmet-36 : TaskUnmetAt A35 1 0 36
 unmet-36 = rw (numbers .first-late) at (task-means A35 9 1 (computed .there-A35) 0 (omega arith))
 

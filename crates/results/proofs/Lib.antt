@@ -1,5 +1,5 @@
--- The theorems behind the promises, a file for each subject: statements, each with a line that cites its proof. Numbers, Instances and PlanA show
--- them at document 01's plans, and Computed holds what is shown by computing there.
+-- The theorems behind the promises, a file for each subject: statements, each with a line that cites its proof.
+-- Numbers, Instances and PlanA show them at document 01's plans, and Computed holds what is shown by computing there.
 pub mod Refusals
 pub mod Causes
 pub mod PlanFiles

@@ -1,5 +1,6 @@
--- Demand 2, plan files: plans read back as written, and the only bytes accepted are those we would write. `fileOf p` is what the writer writes for
--- each guest of p at its place, one block after the other; `cleared p` is p with zeros past its guests and past their tasks.
+-- Demand 2, plan files: plans read back as written, and the only bytes accepted are those we would write. `fileOf p`
+-- is what the writer writes for each guest of p at its place, one block after the other; `cleared p` is p with zeros
+-- past its guests and past their tasks.
 use mathlib.Core.Path.{_≡_}
 use mathlib.Core.List.{List, _++_}
 use Prim.Native.Nat.{ℕ, _≤_, _<_}
@@ -9,15 +10,25 @@ use Rattle.plan.specs.Order.{planRefusal}
 use Rattle.plan.specs.Records.{guestAt}
 use Rattle.plan.specs.declared.Plan.{Plan}
 use Rattle.words.specs.Bytes.{Bytes}
+use Rattle.block.specs.Table.{InBytes}
 use Rattle.block.specs.Writing.{blockOf, writeRefusal, written}
 use Rattle.planfile.specs.Records.{readOf}
 use Rattle.planfile_laws.specs.File.{fileOf, cleared}
 use Rattle.planfile_laws.specs.Fits.{PlanInTypes}
+use Rattle.block.proofs.Table as table
 use Rattle.planfile_laws.proofs.OnlyOurs as ours
 use Rattle.planfile_laws.proofs.ReadBack as back
 
+-- Each number stands in a block where document 01's table has it, byte by byte.
+pub in-bytes : (b : List ℕ) → Bytes b → InBytes b
+in-bytes = table.in-bytes
+
 -- Records that pass the check, written block by block, read as those records.
-pub read-back : (p : Plan) → PlanInTypes p → planRefusal p .number ≡ 0 → readOf (fileOf p) ≡ record { refusal = fine; plan = cleared p }
+pub read-back :
+    (p : Plan)
+    → PlanInTypes p
+    → planRefusal p .number ≡ 0
+    → readOf (fileOf p) ≡ record { refusal = fine; plan = cleared p }
 read-back = back.read-back
 
 -- Each block of that file is what the writer, which refuses none of them, leaves in the first 512 of the lent bytes.

@@ -1,5 +1,6 @@
--- Demand 2, the verdicts and the smallest capacity, in terms of the equations themselves. `There p id k`: the records are in order, and the guest
--- with that id stands at place k. Each verdict has its meaning, and is the only one that has it.
+-- Demand 2, the verdicts and the smallest capacity, in terms of the equations themselves. `There p id k`: the records
+-- are in order, and the guest with that id stands at place k. Each verdict has its meaning, and is the only one that
+-- has it.
 use mathlib.Core.Path.{_≡_}
 use Prim.Native.Nat.{ℕ, suc, _-_, _<_}
 use Rattle.plan.specs.Order.{planRefusal}
@@ -32,8 +33,9 @@ module _ (p : Plan) (id k : ℕ) (there : There p id k) where
   pub guest-only : (v : GuestVerdict) → GuestMeans p k v → v ≡ guestVerdict p id
   guest-only = guests.guest-verdict-only p id k there
 
-  -- Met R: the guest and all above are fitted, R is w + J for the least solution w, at most the period, and at most the deadline. Unmet R: the same, and R
-  -- is past the deadline. Unmet: fitted, and no solution has w + J at most the period. Unjudged: the guest or one above is unfit.
+  -- Met R: the guest and all above are fitted, R is w + J for the least solution w, at most the period, and at most
+  -- the deadline. Unmet R: the same, and R is past the deadline. Unmet: fitted, and no solution has w + J at most the
+  -- period. Unjudged: the guest or one above is unfit.
   pub task-means : (i : ℕ) → i < guestAt (p .guests) k .tasks → TaskMeans p k i (taskVerdict p id (suc i))
   task-means i = tasks.task-verdict-means p id k i there
 
@@ -42,7 +44,8 @@ module _ (p : Plan) (id k : ℕ) (there : There p id k) where
       (i : ℕ) → i < guestAt (p .guests) k .tasks → (v : TaskVerdict) → TaskMeans p k i v → v ≡ taskVerdict p id (suc i)
   task-only i = tasks.task-verdict-only p id k i there
 
-  -- Under fitted guests a response is quoted wherever a solution has its response at most the period: it is withheld exactly if none has.
+  -- Under fitted guests a response is quoted wherever a solution has its response at most the period: it is withheld
+  -- exactly if none has.
   pub quoted-where :
       (i : ℕ)
       → i < guestAt (p .guests) k .tasks
@@ -61,9 +64,12 @@ module _ (p : Plan) (id k : ℕ) (there : There p id k) where
   pub capacity-only : (v : CapacityAnswer) → CapacityMeans p k v → v ≡ smallestCapacity p id
   capacity-only = capacities.capacity-answer-only p id k there
 
--- A response that is quoted, by met R or unmet R, is that of a task that is there, under fitted guests: the least solution's, and at most the period.
+-- A response that is quoted, by met R or unmet R, is that of a task that is there, under fitted guests: the least
+-- solution's, and at most the period.
 pub quoted-means :
-    (p : Plan) (id number R : ℕ) → Quoted p id number R → TaskThere p id number × TaskQuoted p (placeOf p id) (number - 1) R
+    (p : Plan) (id number R : ℕ)
+    → Quoted p id number R
+    → TaskThere p id number × TaskQuoted p (placeOf p id) (number - 1) R
 quoted-means = tasks.quoted-means
 
 -- Accepted: all guests are fitted and all tasks met. Not accepted: they are not.

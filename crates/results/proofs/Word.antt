@@ -1,5 +1,6 @@
--- Demand 3, our word kept. Take any records, the fresh dispatcher of them (`start p`), and any list of calls: releases, ticks and runs, with any
--- arguments, refused or not, in any order. Nothing is asked of other guests and tasks: they may be unfit below, unmet, released at any time.
+-- Demand 3, our word kept. Take any records, the fresh dispatcher of them (`start p`), and any list of calls:
+-- releases, ticks and runs, with any arguments, refused or not, in any order. Nothing is asked of other guests and
+-- tasks: they may be unfit below, unmet, released at any time.
 use mathlib.Core.Path.{_≡_}
 use mathlib.Core.List.{List}
 use Prim.Native.Nat.{ℕ, suc, _+_, _-_, _*_, _≤_, _<_}
@@ -33,7 +34,7 @@ pub sure-of-capacity :
     → share id (answers cs (start p)) (k * guestBy p id .period) (guestBy p id .period) ≡ guestBy p id .capacity
 sure-of-capacity = sure.sure-of-capacity
 
--- In each period that it begins, it has had its capacity by the x-th tick, x its response.
+-- In each period that it begins, a fitted guest has had its capacity by the x-th tick, x its response.
 pub had-by-response :
     (p : Plan) (id x : ℕ)
     → guestVerdict p id ≡ Fitted x
@@ -44,21 +45,24 @@ had-by-response = response.had-by-response
 
 -- A task is quoted R if its verdict is met R or unmet R.
 module _ (p : Plan) (id number R : ℕ) (quoted : Quoted p id number R) where
-  -- The guest of a quoted task is fitted, and so is each guest above it: `above` is the id of the guest itself or of one before it in the plan.
+  -- The guest of a quoted task is fitted, and so is each guest above it: `above` is the id of the guest itself or of
+  -- one before it in the plan.
   pub quoted-fitted : (above : ℕ) → placeOf p above ≤ placeOf p id → (x : ℕ) × (guestVerdict p above ≡ Fitted x)
   quoted-fitted = upper.quoted-fitted p id number R quoted
 
-  -- Each of these guests is sure of its capacity.
+  -- The guest of a quoted task, and each guest above it, is sure of its capacity.
   pub quoted-sure :
       (above : ℕ)
       → placeOf p above ≤ placeOf p id
       → (cs : List Call) (k : ℕ)
       → suc k * guestBy p above .period ≤ ticksIn cs (start p)
-      → share above (answers cs (start p)) (k * guestBy p above .period) (guestBy p above .period) ≡ guestBy p above .capacity
+      → share above (answers cs (start p)) (k * guestBy p above .period) (guestBy p above .period)
+      ≡ guestBy p above .capacity
   quoted-sure = upper.quoted-sure p id number R quoted
 
-  -- 2. Finished by R. After a taken release, calls that do R ticks or more hand back the task finished, at an age of at most R: the ticks since
-  -- the release, with the deadline less the age as the margin. It is at least the deadline less R, which may be negative.
+  -- 2. Finished by R. After a taken release, calls that do R ticks or more hand back the task finished, at an age of
+  -- at most R: the ticks since the release, with the deadline less the age as the margin. It is at least the deadline
+  -- less R, which may be negative.
   pub finished-by-R :
       (cs : List Call)
       → release (play cs (start p)) id number .refusal .number ≡ 0
@@ -68,10 +72,14 @@ module _ (p : Plan) (id number R : ℕ) (quoted : Quoted p id number R) where
   finished-by-R = finished.finished-by-R p id number R quoted
 
   -- Said of the state: an unfinished job is younger than R.
-  pub younger : (cs : List Call) → 0 < restBy p id number (play cs (start p)) → ageBy p id number (play cs (start p)) < R
+  pub younger :
+      (cs : List Call)
+      → 0 < restBy p id number (play cs (start p))
+      → ageBy p id number (play cs (start p)) < R
   younger = finished.younger p id number R quoted
 
-  -- Said of the answers: no call hands back the task finished at an age past R, or with another margin than the deadline less the age.
+  -- Said of the answers: no call hands back the task finished at an age past R, or with another margin than the
+  -- deadline less the age.
   pub never-late :
       (cs : List Call) (c : Call) (age : ℕ) (margin : ℤ)
       → answerOf c (play cs (start p)) ≡ Finished id number age margin
@@ -79,7 +87,10 @@ module _ (p : Plan) (id number R : ℕ) (quoted : Quoted p id number R) where
   never-late = late.never-late p id number R quoted
 
   -- 3. Never turned away. A release is taken if none was taken before.
-  pub first-taken : (cs : List Call) → NoneTaken id number cs (start p) → release (play cs (start p)) id number .refusal .number ≡ 0
+  pub first-taken :
+      (cs : List Call)
+      → NoneTaken id number cs (start p)
+      → release (play cs (start p)) id number .refusal .number ≡ 0
   first-taken = turned.first-taken p id number R quoted
 
   -- A release is taken if at least the task's period of ticks was done since the last one taken.
@@ -92,11 +103,12 @@ module _ (p : Plan) (id number R : ℕ) (quoted : Quoted p id number R) where
       → release (play ds (released p id number cs)) id number .refusal .number ≡ 0
   next-taken = turned.next-taken p id number R quoted
 
-  -- Refusal 10 is never given.
+  -- Refusal 10 is never given for a quoted task.
   pub never-10 : (cs : List Call) → release (play cs (start p)) id number .refusal .number ≡ 10 → ⊥
   never-10 = turned.never-10 p id number R quoted
 
--- A task that is met is never late: every answer that says it is finished has an age within the deadline, and what is left of it as the margin.
+-- A task that is met is never late: every answer that says it is finished has an age within the deadline, and what is
+-- left of it as the margin.
 pub met-not-late :
     (p : Plan) (id number R : ℕ)
     → taskVerdict p id number ≡ Met R

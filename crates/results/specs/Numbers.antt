@@ -48,11 +48,13 @@ pub record Numbers : Type 0 where
   pub second-at-6 : taskVerdict (withCapacity A 1 6) 9 2 ≡ Unmet
   -- 6: No capacity works.
   pub none-works : smallestCapacity (planB 3) 9 ≡ Refused 11 0
-  -- 7: The first gap is past the period, so no response is quoted. Released at tick 0, the task is refused by 10 at tick 10.
+  -- 7: The first gap is past the period, so no response is quoted. Released at tick 0, the task is refused by 10 at
+  -- tick 10.
   pub gap-past-period : taskVerdict planD 7 1 ≡ Unmet
   pub gap-taken : release (start planD) 7 1 .refusal .number ≡ 0
   pub gap-again : release (play (times 10) (released planD 7 1 [])) 7 1 .refusal .number ≡ 10
-  -- 8: In plan A guest 9's first task is released before tick 0, or before tick 14 instead, and then again after 49 ticks or after 50.
+  -- 8: In plan A guest 9's first task is released before tick 0, or before tick 14 instead, and then again after 49
+  -- ticks or after 50.
   pub released-at-0 : run (released A 9 1 []) 50 .answer ≡ Finished 9 1 24 (pos 26)
   pub released-at-14 : run (released A 9 1 (running 14 ∷ [])) 50 .answer ≡ Finished 9 1 30 (pos 20)
   pub again-after-49 : release (play (times 49) (released A 9 1 (running 14 ∷ []))) 9 1 .refusal .number ≡ 9

@@ -4,3 +4,8 @@
 infix 20 _exactlyWhen_
 abbrev pub _exactlyWhen_ : Type 0 → Type 0 → Type 0
 A exactlyWhen B = (A → B) × (B → A)
+
+-- The cause that comes earlier in the order does not hold, but the other does.
+infixr 30 _notBut_
+abbrev pub _notBut_ : Type 0 → Type 0 → Type 0
+A notBut B = (A → ⊥) × B
