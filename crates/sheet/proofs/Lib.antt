@@ -5,3 +5,5 @@ pub mod Sheet
 pub mod Whole
 pub mod Entry
 pub mod Promises
+pub mod Answered
+pub mod Causes
