@@ -10,12 +10,12 @@ use Rattle.lists.specs.Search.{least, isAt}
 use Rattle.lists.specs.declared.Found.{Found}
 use Rattle.lists.specs.declared.Found.the-variants.{At, Nothing}
 use Rattle.equation.specs.Solve.{solve}
-use Rattle.equation.specs.System.{right}
+use Rattle.equation.specs.Guest.{guestSide, guestUnder}
+use Rattle.equation.specs.System.{load, right, responseOf, later, taskUnder}
 use Rattle.plan.specs.Charge.{charged}
 use Rattle.plan.specs.Filled.{Filled}
 use Rattle.plan.specs.declared.Guest.{Guest}
-use Rattle.response.specs.Task.{later}
-use Rattle.response.specs.Columns.{guestUnder, loadIn, equationOf, taskUnder, metUnder, acceptedUnder}
+use Rattle.response.specs.Columns.{columnSystem, metUnder, acceptedIn, acceptedUnder}
 use Rattle.capacity.specs.declared.search.Trial.{Trial}
 use Rattle.capacity.specs.declared.search.Trial.the-variants.{Unfit, Unmet, Works}
 use Rattle.capacity.specs.Capacity.{atCapacity}
@@ -27,23 +27,24 @@ use Rattle.equation.proofs.Rise.{Grows, rise-to, rise-under}
 use Rattle.equation.proofs.Turn.{right-past}
 use Rattle.equation.proofs.Compare.{no-later}
 use Rattle.equation.proofs.Halve.{Halving, halve-left, halve-right, halve-lower, halve-here}
-use Rattle.response.proofs.Guest.{response-says}
-use Rattle.response.proofs.Task.{load-grows, regular}
-use Rattle.response.proofs.Ready.{met-is}
+use Rattle.rounding.proofs.Asked.{asked-le}
+use Rattle.response.proofs.GuestLaws.{response-says}
+use Rattle.response.proofs.TaskLaws.{regular}
+use Rattle.response.proofs.ReadyLaws.{met-is}
 
 module _ (above : ℕ → ℕ) (g : Grows above) (period : ℕ) where
   -- fitted at a capacity, so fitted at each smaller one
   pub fits-down : (c c′ : ℕ) → 1 ≤ c → c ≤ c′ → fitsAt above period c′ ≡ true → fitsAt above period c ≡ true
-  unfolding fitsAt guestUnder
+  unfolding fitsAt guestUnder guestSide
   fits-down c c′ pos le e =
       let x = at-of (guestUnder above c′ period) e in
       let s = response-says above c′ period (x .0) (x .1) in
-      let y = rise-to (λ v. c + above v) (λ a b h. omega (arith, g a b h)) (x .0) (omega (arith, s .sol)) c record { rises = omega arith; under = λ z k. omega arith } in
-      is-at (sym (solve-at (λ v. c + above v) period (y .0) (omega (arith, y .1)) (omega (arith, y .2, s .high)) (y .3) (rise-under (λ v. c + above v) (y .0) (y .4))))
+      let y = rise-to (guestSide above c) (λ a b h. omega (arith, g a b h)) (x .0) (omega (arith, s .sol)) c record { rises = omega arith; under = λ z k. omega arith } in
+      is-at (sym (solve-at (guestSide above c) period (y .0) (omega (arith, y .1)) (omega (arith, y .2, s .high)) (y .3) (rise-under (guestSide above c) (y .0) (y .4))))
 
   -- a fitted capacity is at most the period
   pub fits-within : (c : ℕ) → fitsAt above period c ≡ true → c ≤ period
-  unfolding fitsAt
+  unfolding fitsAt guestSide
   fits-within c e =
       let x = at-of (guestUnder above c period) e in
       let s = response-says above c period (x .0) (x .1) in
@@ -51,27 +52,34 @@ module _ (above : ℕ → ℕ) (g : Grows above) (period : ℕ) where
 
 -- the window behind a task's response
 window-of : (gap r : ℕ) (f : Found) → later gap f ≡ At r → (w : ℕ) × (f ≡ At w) × (r ≡ w + gap)
+unfolding responseOf
 window-of gap r Nothing e = absurd (let z : _≡_ {A = ℕ} 0 1 = cc in omega arith)
 window-of gap r (At w) e = (w, refl, (let k : r ≡ w + gap = cc in k))
 
 module _ (above : ℕ → ℕ) (g : Grows above) (period : ℕ) (run every : List ℕ) (i : ℕ) (runs : 1 ≤ nth run i) where
+  -- a larger capacity leaves a smaller gap, and so no larger load
+  load-less : (c c′ : ℕ) → c ≤ c′ → (u w : ℕ) → u ≤ w
+      → load (columnSystem above c′ period run every) i u ≤ load (columnSystem above c period run every) i w
+  unfolding load
+  load-less c c′ le u w h = omega (arith, asked-le (nth run) (nth every) (λ j. period - c′) (λ j. period - c) i u w (λ j l. omega arith))
+
   -- met at a capacity, so met at each larger one that is fitted, with no larger response
-  pub met-up : (c c′ d r : ℕ) → 1 ≤ c → c ≤ c′ → fitsAt above period c′ ≡ true → taskUnder above c period run every i d ≡ At r
-      → (r′ : ℕ) × (taskUnder above c′ period run every i d ≡ At r′) × (r′ ≤ r)
-  unfolding taskUnder loadIn fitsAt
+  pub met-up : (c c′ d r : ℕ) → 1 ≤ c → c ≤ c′ → fitsAt above period c′ ≡ true → taskUnder (columnSystem above c period run every) i d ≡ At r
+      → (r′ : ℕ) × (taskUnder (columnSystem above c′ period run every) i d ≡ At r′) × (r′ ≤ r)
+  unfolding taskUnder responseOf fitsAt
   met-up c c′ d r pos le fit e =
-      let S = equationOf above c period run every i in
-      let S′ = equationOf above c′ period run every i in
-      let w = window-of (period - c) r (solve (right S) (d - (period - c))) e in
-      let s : Solved (right S) (d - (period - c)) (w .0) = rw (w .1) at (solve-answers (right S) (d - (period - c))) in
+      let S = columnSystem above c period run every in
+      let S′ = columnSystem above c′ period run every in
+      let w = window-of (period - c) r (solve (right S i) (d - (period - c))) e in
+      let s : Solved (right S i) (d - (period - c)) (w .0) = rw (w .1) at (solve-answers (right S i) (d - (period - c))) in
       let within : c′ ≤ period = fits-within above g period c′ fit in
-      let sure = regular above g c′ period run every i record { some = omega arith; within = within; fits = fit; runs = runs } in
-      let y = no-later S S′ (sure .0) (w .0)
-      record { some = pos; within = omega arith; loaded = omega arith; sol = s .sol }
+      let sure = regular S′ g i record { some = omega arith; within = within; fits = fit; runs = runs } in
+      let y = no-later S S′ i (sure .0) (w .0)
+      record { some = pos; within = omega arith; runs = runs; sol = s .sol }
       (sure .1)
-      record { period = refl; capacity = le; interference = λ v. le-refl (above v); load = λ u h. load-grows run every i (u + (period - c′)) (w .0 + (period - c)) (omega arith) }
+      record { period = refl; capacity = le; above = λ v. le-refl (above v); load = λ u h. load-less c c′ le u (w .0) h }
       (s .low) in
-      let found = solve-by (right S′) (d - (period - c′)) (y .0) (omega (arith, right-past S′ (sure .0) (sure .1) (y .0), y .2)) (omega (arith, y .1, s .high)) (y .2) in
+      let found = solve-by (right S′ i) (d - (period - c′)) (y .0) (omega (arith, right-past S′ i (sure .0) (sure .1) (y .0), y .2)) (omega (arith, y .1, s .high)) (y .2) in
       (found .0 + (period - c′), ap (later (period - c′)) (found .1), omega (arith, found .2, y .1, w .2))
 
 -- so capacities can be halved
@@ -82,14 +90,14 @@ halving above g period run every deadline tasks runs = record {
   fits = λ a w. and-left (fitsAt above period a) _ w;
   down = λ a b pos le f. fits-down above g period a b pos le f;
   grow = λ a b pos le w f. and-true f
-      (all-by (λ i. isAt (taskUnder above b period run every i (nth deadline i))) tasks (λ i h. (
-      let m = at-of _ (all-at (λ i. isAt (taskUnder above a period run every i (nth deadline i))) tasks i h (and-right (fitsAt above period a) _ w)) in
+      (all-by (λ i. isAt (taskUnder (columnSystem above b period run every) i (nth deadline i))) tasks (λ i h. (
+      let m = at-of _ (all-at (λ i. isAt (taskUnder (columnSystem above a period run every) i (nth deadline i))) tasks i h (and-right (fitsAt above period a) _ w)) in
       is-at (met-up above g period run every i (runs i h) a b (nth deadline i) (m .0) pos le f (m .1) .1))));
 }
 
 -- a trial, by what its two tests come to
 pub trial-is : (above : ℕ → ℕ) (period : ℕ) (run every deadline : List ℕ) (tasks c : ℕ) {a b : Bool}
-    → fitsAt above period c ≡ a → metUnder above c period run every deadline tasks ≡ b → trialBy a b ≡ trialOf above period run every deadline tasks c
+    → fitsAt above period c ≡ a → metUnder (columnSystem above c period run every) (nth deadline) tasks ≡ b → trialBy a b ≡ trialOf above period run every deadline tasks c
 unfolding trialOf
 trial-is above period run every deadline tasks c e q = rw (e, q) refl
 
@@ -129,8 +137,8 @@ module _ (above : ℕ → ℕ) (g : Grows above) (period : ℕ) (run every deadl
   good = halving above g period run every deadline tasks runs
 
   -- the two tests of the middle
-  said : Tells (fitsAt above period mid) (metUnder above mid period run every deadline tasks)
-  said = tells (fitsAt above period mid) (metUnder above mid period run every deadline tasks)
+  said : Tells (fitsAt above period mid) (metUnder (columnSystem above mid period run every) (nth deadline) tasks)
+  said = tells (fitsAt above period mid) (metUnder (columnSystem above mid period run every) (nth deadline) tasks)
 
   -- unfit: to the left
   pub turn-left :
@@ -172,7 +180,7 @@ module _ (above : ℕ → ℕ) (g : Grows above) (period : ℕ) (run every deadl
 -- what the columns of a guest's tasks come to at capacity c is what the guest comes to with it
 pub works-is : (above : ℕ → ℕ) (g : Guest) (run : List ℕ) → Filled run (charged g) (g .tasks) → (c : ℕ)
     → worksAt above (g .period) run (g .every) (g .deadline) (g .tasks) c ≡ acceptedUnder above (atCapacity g c)
-unfolding worksAt fitsAt acceptedUnder
+unfolding worksAt fitsAt acceptedIn
 works-is above g run f c =
     ap (λ (b : Bool). isAt (guestUnder above c (g .period)) && b) (met-is above (atCapacity g c) run record { long = f .long; holds = f .holds })
 

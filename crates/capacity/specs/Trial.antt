@@ -6,7 +6,8 @@ use Rattle.lists.specs.Places.{nth}
 use Rattle.lists.specs.Search.{isAt}
 use Rattle.lists.specs.declared.Found.{Found}
 use Rattle.lists.specs.declared.Found.the-variants.{At, Nothing}
-use Rattle.response.specs.Columns.{guestUnder, metUnder}
+use Rattle.equation.specs.Guest.{guestUnder}
+use Rattle.response.specs.Columns.{columnSystem, metUnder}
 use Rattle.capacity.specs.declared.search.Trial.{Trial}
 use Rattle.capacity.specs.declared.search.Trial.the-variants.{Unfit, Unmet, Works}
 
@@ -20,7 +21,7 @@ fitsAt above period c = isAt (guestUnder above c period)
 
 -- and all its tasks are met
 unfoldable pub worksAt : (above : ℕ → ℕ) → (period : ℕ) → (run every deadline : List ℕ) → (tasks c : ℕ) → Bool
-worksAt above period run every deadline tasks c = fitsAt above period c && metUnder above c period run every deadline tasks
+worksAt above period run every deadline tasks c = fitsAt above period c && metUnder (columnSystem above c period run every) (nth deadline) tasks
 
 -- by the two tests
 unfoldable pub trialBy : Bool → Bool → Trial
@@ -30,7 +31,7 @@ trialBy true true = Works
 
 -- of capacity c
 unfoldable pub trialOf : (above : ℕ → ℕ) → (period : ℕ) → (run every deadline : List ℕ) → (tasks c : ℕ) → Trial
-trialOf above period run every deadline tasks c = trialBy (fitsAt above period c) (metUnder above c period run every deadline tasks)
+trialOf above period run every deadline tasks c = trialBy (fitsAt above period c) (metUnder (columnSystem above c period run every) (nth deadline) tasks)
 
 -- an answer, or else m
 abbrev pub orAt : Found → ℕ → Found

@@ -5,7 +5,7 @@ ghost use Prim.Native.Nat.{_+_, _-_, _≤_, _<_};
 ghost use Rattle.lists.specs.All.{allTo};
 ghost use Rattle.lists.specs.Search.{least};
 ghost use Rattle.response.specs.Columns.{guestsTake, fittedAt, acceptedUnder};
-ghost use Rattle.response.specs.Ready.{Placed};
+ghost use Rattle.response.specs.Ready.{Stands};
 ghost use Rattle.capacity.specs.Capacity.{atCapacity};
 ghost use Rattle.capacity.specs.Answer.{capacitySays};
 ghost use Rattle.capacity.specs.Trial.{Run, worksAt, trialOf, orAt};
@@ -112,7 +112,7 @@ fn smallest_in(
 
 // The smallest capacity of the guest g at place k; none works under an unfit guest.
 pub fn smallest_at(g: Guest, capacities: &[u32; 16], periods: &[u32; 16], k: usize) -> Found
-    requires { ⌜ Placed g (now capacities) (now periods) k × (g .period < 4294967295) ⌝ }
+    requires { ⌜ Stands g (now capacities) (now periods) k × (g .period < 4294967295) ⌝ }
     ensures { λ r. ⌜
         r
         ≡ least

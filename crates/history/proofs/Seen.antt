@@ -8,6 +8,7 @@ use Rattle.lists.specs.Places.{nth}
 use Rattle.plan.specs.declared.Plan.{Plan}
 use Rattle.plan.specs.Records.{guestAt, everyOf}
 use Rattle.plan.specs.Charge.{charged}
+use Rattle.response.specs.Task.{gap}
 use Rattle.dispatcher.specs.declared.Dispatcher.{Dispatcher}
 use Rattle.dispatcher.specs.State.{guestIn, restAt, waitAt, ageAt}
 use Rattle.windows.specs.TaskTick.{Tasks}
@@ -27,6 +28,10 @@ runIn p g j = charged (guestAt (p .guests) g) j
 -- period of task j of guest g
 abbrev pub everyIn : Plan → ℕ → ℕ → ℕ
 everyIn p g j = everyOf (guestAt (p .guests) g) j
+
+-- J of task j of guest g
+abbrev pub gapIn : Plan → ℕ → ℕ → ℕ
+gapIn p g j = gap (guestAt (p .guests) g) j
 
 -- position of guest k
 abbrev pub posAt : Dispatcher → ℕ → ℕ

@@ -3,13 +3,13 @@ use mathlib.Core.Path.{_≡_}
 use Prim.Native.Nat.{ℕ, _≤_}
 use native.Mathlib.Decide.{ℕ-discrete}
 use native.Mathlib.Omega.{arith}
-use Rattle.windows.specs.TaskTick.{Tasks, TaskTick, Taken, Same}
+use Rattle.windows.specs.TaskTick.{Tasks, oldest, TaskTick, Taken, Same}
 use Rattle.windows.specs.Clock.{Clock}
 
--- a tick keeps it; ages stop at 1,000,000, the longest period
+-- a tick keeps it; ages stop at the longest period
 pub clock-tick :
     {a i : ℕ} {every : ℕ → ℕ} {v v' : Tasks}
-    → every i ≤ 1000000
+    → every i ≤ oldest
     → TaskTick i a v v'
     → Clock i every v
     → Clock i every v'

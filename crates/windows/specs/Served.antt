@@ -1,4 +1,5 @@
 -- A tick's one unit goes to the first in order that has something: guests for the core, and tasks inside a guest.
+-- Inner: no promise of an entry names this.
 use mathlib.Core.Path.{_≡_}
 use Prim.Native.Nat.{ℕ, _+_, _≤_, _<_}
 

@@ -7,7 +7,7 @@ use borrow.Fn.PlainCycle.{Measures, is, falls, and}
 use Rattle.response.specs.Columns.{guestsTake}
 use Rattle.capacity.proofs.Trial.{turn-left, turn-right, turn-here}
 use Rattle.equation.proofs.Halve.{halve-none}
-use Rattle.response.proofs.Guest.{take-grows}
+use Rattle.response.proofs.GuestLaws.{take-grows}
 use Rattle.capacity.proofs.search.+smallest_in.{statement}
 use Rattle.capacity.proofs.search.+smallest_in.Tie.{close}
 use Rattle.capacity.proofs.search.smallest_in.Reads as smallest-in

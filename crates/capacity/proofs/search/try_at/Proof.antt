@@ -4,7 +4,7 @@ use borrow.Author.Needs.{needs}
 use borrow.Author.Tests.{not-true, not-false}
 use Rattle.response.specs.Columns.{guestsTake}
 use Rattle.capacity.specs.Trial.{fitsAt, trialBy}
-use Rattle.response.proofs.Columns.{test-is}
+use Rattle.response.proofs.ColumnsLaws.{test-is}
 use Rattle.capacity.proofs.Trial.{trial-is}
 use Rattle.capacity.proofs.search.try_at.Statement.{statement}
 use Rattle.capacity.proofs.search.try_at.Tie as tie

@@ -3,9 +3,10 @@ use mathlib.Core.Path.{_∙_}
 use native.Mathlib.Omega.{arith}
 use borrow.Author.Needs.{needs}
 use borrow.Author.Tests.{not-true, not-false}
+use Rattle.response.specs.Task.{systemOf}
 use Rattle.response.specs.Columns.{guestsTake}
-use Rattle.response.proofs.Columns.{test-is}
-use Rattle.response.proofs.Ready.{placed-ranged, placed-ready, met-is, accepted-unfit, accepted-fit}
+use Rattle.response.proofs.ColumnsLaws.{test-is}
+use Rattle.response.proofs.ReadyLaws.{stands-ranged, stands-ready, met-is, accepted-unfit, accepted-fit}
 use Rattle.verdict.proofs.judge.guest_accepted.Statement.{statement}
 use Rattle.verdict.proofs.judge.guest_accepted.Tie as tie
 
@@ -15,13 +16,13 @@ cast-n c = search needs
 guest-response-requires : tie.Need-guest-response-requires
 guest-response-requires c κs =
     let s = c .before .before .before .pre in
-    (omega (arith, s .place), placed-ranged _ _ _ _ s)
+    (omega (arith, s .place), stands-ranged _ _ _ _ s)
 
 is-at-requires : tie.Need-is-at-requires
 is-at-requires c κs = search needs
 
 returns : tie.Need-returns
-returns c = accepted-unfit (guestsTake _ _ _) _ (test-is (c .before .before .guest-response .ensures) (c .before .is-at .ensures) (not-true _ (c .if1 .taken)))
+returns c = accepted-unfit (systemOf (guestsTake _ _ _) (c .before .before .before .before .before .before .args .g)) _ _ (test-is (c .before .before .guest-response .ensures) (c .before .is-at .ensures) (not-true _ (c .if1 .taken)))
 
 charged-of-requires : tie.Need-charged-of-requires
 charged-of-requires c κs = c .before .before .before .before .before .before .pre .runs
@@ -32,15 +33,16 @@ all-met-requires c κs =
     let test = filled .before in
     let s = test .before .before .before .before .before .before .pre in (
       (omega (arith, s .place), s .runs .few),
-      placed-ready _ _ _ _ s (test-is (test .before .before .guest-response .ensures) (test .before .is-at .ensures) (not-false _ (test .if1 .left))) _ (filled .charged-of .ensures),
+      stands-ready _ _ _ _ s (test-is (test .before .before .guest-response .ensures) (test .before .is-at .ensures) (not-false _ (test .if1 .left))) _ (filled .charged-of .ensures),
     )
 
 returns-2 : tie.Need-returns-2
 returns-2 c =
     let filled = c .before .before .before .before in
     let test = filled .before in
-    accepted-fit (guestsTake _ _ _) _ (test-is (test .before .before .guest-response .ensures) (test .before .is-at .ensures) (not-false _ (test .if1 .left)))
-    (c .all-met .ensures ∙ met-is (guestsTake _ _ _) _ _ (filled .charged-of .ensures))
+    let g = test .before .before .before .before .before .before .args .g in
+    accepted-fit (systemOf (guestsTake _ _ _) g) _ _ (test-is (test .before .before .guest-response .ensures) (test .before .is-at .ensures) (not-false _ (test .if1 .left)))
+    (c .all-met .ensures ∙ met-is (guestsTake _ _ _) g _ (filled .charged-of .ensures))
 
 pub guest-accepted-spec : {M : Type 1} → statement M
 guest-accepted-spec =
