@@ -24,14 +24,14 @@ use Rattle.response.specs.Task.{systemOf, responseTo}
 use Rattle.response.specs.Met.{allMet}
 use Rattle.response.specs.Columns.{guestsTake, fittedAt, columnSystem, acceptedUnder}
 use Rattle.capacity.specs.Capacity.{atCapacity, withCapacity, works, smallest}
-use Rattle.capacity.specs.Trial.{fitsAt}
+use Rattle.capacity.specs.Search.{fitsAt}
 use Rattle.lists.proofs.All.{and-assoc, all-ext}
 use Rattle.rounding.proofs.Asked.{asked-same}
 use Rattle.lists.proofs.Table.{table-length, table-at}
 use Rattle.plan.proofs.Charge.{charged-least}
 use Rattle.plan.proofs.Order.{PlanIn, plan-in}
 use Rattle.response.proofs.ColumnsLaws.{interference-grows, task-is, accepted-is, columns-take, columns-fit}
-use Rattle.capacity.proofs.Trial.{fits-down, met-up}
+use Rattle.capacity.proofs.SearchLaws.{fits-down, met-up}
 
 -- a place that holds a guest in its ranges is a place of the list: no other has an id
 pub in-list : (p : Plan) → PlanIn p → (k : ℕ) → k < p .count → k < length (p .guests)

@@ -4,7 +4,7 @@ use mathlib.Core.Logic.{_⊎_, inl, inr, ⊎-elim}
 use Prim.Native.Nat.{ℕ, zero, suc, _+_, _-_, _*_, _≤_, _<_}
 use native.Mathlib.Nat.{mul-le-mul-left, mul-le-mul-right, eq-or-lt-of-le, le-refl}
 use native.Mathlib.Omega.{arith}
-use Rattle.equation.specs.System.{System, load, served, right}
+use Rattle.equation.specs.System.{System, load, serverPeriods, right}
 use Rattle.rounding.proofs.Up.{up-least, up-holds}
 use Rattle.equation.proofs.System.{Regular, load-grows, load-some, Parts, parts, whole}
 use Rattle.equation.proofs.Solve.{Under}
@@ -28,10 +28,10 @@ module _ (S S′ : System) (i x w : ℕ) (o : Solution S i w) (s : Regular S′ 
   -- the second has no more whole server periods
   fewer : (u : ℕ) → u ≤ w → whole S′ i u ≤ whole S i w
   fewer u h =
-      let n = served (load S i w) (S .capacity) in
+      let n = serverPeriods (load S i w) (S .capacity) in
       let held : load S i w ≤ n * S .capacity = up-holds (load S i w) (S .capacity) (o .some) in
       let more : n * S .capacity ≤ n * S′ .capacity = mul-le-mul-left n (e .capacity) in
-      let least : served (load S′ i u) (S′ .capacity) ≤ n =
+      let least : serverPeriods (load S′ i u) (S′ .capacity) ≤ n =
       up-least (load S′ i u) (S′ .capacity) n (s .some) (omega (arith, e .load u h)) in
       omega arith
 
@@ -47,10 +47,13 @@ module _ (S S′ : System) (i x w : ℕ) (o : Solution S i w) (s : Regular S′ 
 
       go : (whole S′ i u ≡ whole S i w) ⊎ (whole S′ i u < whole S i w) → right S′ i u ≤ w
       go (inl k) =
-          let t : whole S′ i u * S′ .period ≡ whole S i w * S .period = ap (λ (m : ℕ). m * S′ .period) k ∙ ap (λ (t : ℕ). whole S i w * t) (e .period) in
+          let t : whole S′ i u * S′ .period ≡ whole S i w * S .period =
+          ap (λ (m : ℕ). m * S′ .period) k ∙ ap (λ (t : ℕ). whole S i w * t) (e .period) in
           let v : whole S′ i u * S′ .capacity ≡ whole S i w * S′ .capacity = ap (λ (m : ℕ). m * S′ .capacity) k in
-          let y : whole S i w * S .capacity ≤ whole S i w * S′ .capacity = mul-le-mul-left (whole S i w) (e .capacity) in
-          let g : S′ .above (u - whole S′ i u * S′ .period) ≤ S′ .above (w - whole S i w * S .period) = s .grows _ _ (omega arith) in
+          let y : whole S i w * S .capacity ≤ whole S i w * S′ .capacity =
+          mul-le-mul-left (whole S i w) (e .capacity) in
+          let g : S′ .above (u - whole S′ i u * S′ .period) ≤ S′ .above (w - whole S i w * S .period) =
+          s .grows _ _ (omega arith) in
           let b : S′ .above (w - whole S i w * S .period) ≤ S .above (w - whole S i w * S .period) = e .above _ in
           omega (arith, e .load u h, o .sol, p .is, q .is, p .more, q .more)
       go (inr l) =
@@ -70,7 +73,8 @@ module _ (S S′ : System) (i x w : ℕ) (o : Solution S i w) (s : Regular S′ 
   no-later h = climb w 1 (omega arith) h (climb-start S′ i x s)
 
 -- a system is no harder than itself: I3 is kept by a turn
-pub under-turn : (S : System) (i x w : ℕ) → Regular S i x → Climbing S i x w → Under (right S i) w → Under (right S i) (right S i w)
+pub under-turn : (S : System) (i x w : ℕ) → Regular S i x → Climbing S i x w → Under (right S i) w
+    → Under (right S i) (right S i w)
 under-turn S i x w s c u z h q =
     stays S S i x z record { some = s .some; within = s .within; runs = s .runs; sol = q } s
     record { period = refl; capacity = le-refl (S .capacity); above = λ v. le-refl (S .above v); load = λ a k. load-grows S i k }

@@ -1,4 +1,5 @@
--- The scope's plan whose right side falls, as a system: guest 8/9 above guest 1/11, two tasks of run 1 and period 31. Assumes nothing.
+-- The scope's plan whose right side falls, as a system: guest 8/9 above guest 1/11, two tasks of run 1 and period 31.
+-- Assumes nothing.
 use mathlib.Core.Path.{_≡_, refl}
 use Rattle.lists.specs.Search.{least, firstFrom}
 use Rattle.lists.specs.Sum.{sumTo}
@@ -20,7 +21,8 @@ lower = record {
   gap = λ j. 10;
 }
 
--- The second task's right side is 20 at 20, 28 at 21 and 23 at 22; its response is 30, which a deadline of 29 does not hold.
+-- The second task's right side is 20 at 20, 28 at 21 and 23 at 22; its response is 30, which a deadline of 29 does not
+-- hold.
 record Falls : Type 0 where
   fits : guestUnder (lower .above) 1 11 ≡ At 9
   at-20 : right lower 1 20 ≡ 20

@@ -1,4 +1,5 @@
--- Laws: of a solution, of a task's equation, of the recurrences that climb to a solution, of two systems compared, of an interval halved; one instance.
+-- Laws: of a solution, of a task's equation, of the recurrences that climb to a solution, of two systems compared, of
+-- an interval halved; one instance.
 pub mod Solve
 pub mod System
 pub mod Rise

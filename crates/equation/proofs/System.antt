@@ -4,7 +4,7 @@ use Prim.Native.Nat.{ℕ, suc, _+_, _-_, _*_, _≤_, _<_}
 use native.Mathlib.Nat.{mul-add}
 use native.Mathlib.Omega.{arith}
 use Rattle.equation.specs.Guest.{guestSide}
-use Rattle.equation.specs.System.{System, load, served, rightAt, right}
+use Rattle.equation.specs.System.{System, load, serverPeriods, rightAt, right}
 use Rattle.rounding.proofs.Asked.{asked-mono}
 use Rattle.rounding.proofs.Up.{Blocks, blocks}
 
@@ -29,17 +29,18 @@ load-some S i w h = omega arith
 
 -- The right side taken apart: m whole server periods, and 1 to C ticks in the last.
 pub record Parts (S : System) (i w m : ℕ) : Type 0 where
-  pub count : served (load S i w) (S .capacity) ≡ suc m
+  pub count : serverPeriods (load S i w) (S .capacity) ≡ suc m
   pub more : m * S .capacity < load S i w
   pub most : load S i w ≤ m * S .capacity + S .capacity
   pub is : right S i w ≡ m * S .period + (load S i w - m * S .capacity) + S .above (w - m * S .period)
 
 -- the number of whole server periods before the last
 abbrev pub whole : System → (i w : ℕ) → ℕ
-whole S i w = served (load S i w) (S .capacity) - 1
+whole S i w = serverPeriods (load S i w) (S .capacity) - 1
 
--- every right side lies so
-pub parts : (S : System) (i w : ℕ) → 0 < S .capacity → S .capacity ≤ S .period → 0 < load S i w → Parts S i w (whole S i w)
+-- every right side can be taken apart so
+pub parts : (S : System) (i w : ℕ) → 0 < S .capacity → S .capacity ≤ S .period → 0 < load S i w
+    → Parts S i w (whole S i w)
 unfolding right rightAt
 parts S i w pos within loaded =
     let m = whole S i w in

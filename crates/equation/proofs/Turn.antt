@@ -15,7 +15,7 @@ pub record Climbing (S : System) (i x w : ℕ) : Type 0 where
   pub room : w ≤ whole S i w * S .period + x
 
 module _ (S : System) (i x : ℕ) (s : Regular S i x) where
-  -- every right side taken apart
+  -- the right side at each window, taken apart
   pub parts-of : (w : ℕ) → Parts S i w (whole S i w)
   parts-of w = parts S i w (s .some) (s .within) (load-some S i w (s .runs))
 
@@ -34,28 +34,32 @@ module _ (S : System) (i x : ℕ) (s : Regular S i x) where
   pub whole-mono : (a b : ℕ) → a ≤ b → whole S i a ≤ whole S i b
   whole-mono a b h = omega (arith, up-mono (S .capacity) (load-grows S i h))
 
-  -- a loop starts at 1
+  -- the invariants hold at 1, where a loop starts
   pub climb-start : Climbing S i x 1
   unfolding guestSide
   climb-start = record { rises = omega (arith, right-past 1); room = omega (arith, s .fits, s .some) }
 
-  -- a turn
+  -- a turn keeps the invariants
   pub climb-turn : (w : ℕ) → Climbing S i x w → Climbing S i x (right S i w)
   climb-turn w c =
       let mono : whole S i w ≤ whole S i (right S i w) = whole-mono w (right S i w) (c .rises) in
       let ends : right S i w ≤ whole S i w * S .period + x = right-ends w (c .room) in
       record { rises = go ends (eq-or-lt-of-le mono); room = omega (arith, mul-le-mul-right (S .period) mono) }
     where
-      go : right S i w ≤ whole S i w * S .period + x → (whole S i w ≡ whole S i (right S i w)) ⊎ (whole S i w < whole S i (right S i w)) → right S i w ≤ right S i (right S i w)
+      go : right S i w ≤ whole S i w * S .period + x
+          → (whole S i w ≡ whole S i (right S i w)) ⊎ (whole S i w < whole S i (right S i w))
+          → right S i w ≤ right S i (right S i w)
       go ends (inl e) =
           let p = parts-of w in
           let q = parts-of (right S i w) in
           let t : whole S i w * S .period ≡ whole S i (right S i w) * S .period = ap (λ (m : ℕ). m * S .period) e in
-          let u : whole S i w * S .capacity ≡ whole S i (right S i w) * S .capacity = ap (λ (m : ℕ). m * S .capacity) e in
+          let u : whole S i w * S .capacity ≡ whole S i (right S i w) * S .capacity =
+          ap (λ (m : ℕ). m * S .capacity) e in
           omega (
             arith,
             c .rises,
             load-grows S i (c .rises),
-            s .grows (w - whole S i w * S .period) (right S i w - whole S i (right S i w) * S .period) (omega (arith, c .rises)),
+            s .grows (w - whole S i w * S .period) (right S i w - whole S i (right S i w) * S .period)
+                (omega (arith, c .rises)),
           )
       go ends (inr l) = omega (arith, mul-le-mul-right (S .period) l, s .ends, right-past (right S i w))

@@ -1,5 +1,5 @@
--- The equation of a task, over functions of a place. The records of a plan, the columns that the code reads, and the windows
--- behind demand 3 each say which numbers these functions are.
+-- The equation of a task, over functions of a place. The records of a plan, the columns that the code reads, and the
+-- windows behind demand 3 each say which numbers these functions are.
 use Prim.Native.Nat.{ℕ, _+_, _-_, _*_}
 use Rattle.lists.specs.declared.Found.{Found}
 use Rattle.lists.specs.declared.Found.the-variants.{At, Nothing}
@@ -7,8 +7,8 @@ use Rattle.rounding.specs.Up.{up}
 use Rattle.rounding.specs.Asked.{asked}
 use Rattle.equation.specs.Solve.{solve}
 
--- A guest seen from its tasks: its capacity C and its period T, what the guests above take from v ticks, and of the task at each
--- place its charged run, its period and its J, the first gap that a release of it can meet.
+-- A guest seen from its tasks: its capacity C and its period T, what the guests above take from v ticks, and of the
+-- task at each place its charged run, its period and its J, the first gap that a release of it can meet.
 pub record System : Type 0 where
   pub capacity : ℕ
   pub period : ℕ
@@ -17,18 +17,20 @@ pub record System : Type 0 where
   pub every : ℕ → ℕ
   pub gap : ℕ → ℕ
 
--- the load of task i in a window w: its charged run, and for each task above it ((w + that task's J) / its period, rounded up) times its charged run
+-- the load of task i in a window w: its charged run, and for each task above it ((w + that task's J) / that task's
+-- period, rounded up) times that task's charged run
 unfoldable pub load : System → (i w : ℕ) → ℕ
 load S i w = S .run i + asked (S .run) (S .every) (S .gap) i w
 
 -- n, the server periods that a load takes: load / C, rounded up
-abbrev pub served : (load capacity : ℕ) → ℕ
-served load capacity = up load capacity
+abbrev pub serverPeriods : (load capacity : ℕ) → ℕ
+serverPeriods load capacity = up load capacity
 
--- the right side at a load in a window w: the guests above interfere from the start of the last server period on, which n - 1 precede
+-- the right side at a load in a window w: the guests above interfere from the start of the last server period on, which
+-- n - 1 precede
 unfoldable pub rightAt : (above : ℕ → ℕ) → (capacity period load w : ℕ) → ℕ
 rightAt above capacity period load w =
-    let n = served load capacity in
+    let n = serverPeriods load capacity in
     load + (n - 1) * (period - capacity) + above (w - (n - 1) * period)
 
 -- the right side of the equation of task i in a window w

@@ -32,13 +32,14 @@ pub record Above (p : Plan) (k : ℕ) (capacities periods : List ℕ) : Type 0 w
   pub capacity : (j : ℕ) → j < k → nth capacities j ≡ guestAt (p .guests) j .capacity
   pub period : (j : ℕ) → j < k → nth periods j ≡ guestAt (p .guests) j .period
 
--- they take what the plan's guests above take
-pub above-is : (p : Plan) (k : ℕ) (capacities periods : List ℕ) → Above p k capacities periods → guestsTake capacities periods k ≡ interference p k
+-- such columns take what the plan's guests above take
+pub above-is : (p : Plan) (k : ℕ) (capacities periods : List ℕ) → Above p k capacities periods
+    → guestsTake capacities periods k ≡ interference p k
 unfolding guestsTake interference jitter
 above-is p k capacities periods a =
     fun-ext (λ v. asked-same (nth capacities) (nth periods) (λ j. 0) _ _ _ k v (a .capacity) (a .period) (λ j l. refl))
 
--- what they take grows with the window
+-- what the plan's guests above take grows with the window
 pub interference-grows : (p : Plan) (k : ℕ) → Grows (interference p k)
 unfolding interference
 interference-grows p k a b h = asked-mono _ _ _ k h
@@ -48,7 +49,8 @@ load-is : (above : ℕ → ℕ) (g : Guest) (run : List ℕ) (n i : ℕ) → i <
     → load (columnSystem above (g .capacity) (g .period) run (g .every)) i w ≡ load (systemOf above g) i w
 unfolding load gap
 load-is above g run n i h f w =
-    let e = asked-same (nth run) (everyOf g) (λ j. g .period - g .capacity) (charged g) _ _ i w (λ j l. f .holds j (omega arith)) (λ j l. refl) (λ j l. refl) in
+    let e = asked-same (nth run) (everyOf g) (λ j. g .period - g .capacity) (charged g) _ _ i w
+    (λ j l. f .holds j (omega arith)) (λ j l. refl) (λ j l. refl) in
     omega (arith, f .holds i h)
 
 -- the response off the column of charged runs is the guest's
@@ -57,14 +59,16 @@ pub task-is : (above : ℕ → ℕ) (g : Guest) (run : List ℕ) (n i most : ℕ
 unfolding taskUnder right gap
 task-is above g run n i most h f =
     let J = g .period - g .capacity in
-    ap (λ (l : ℕ → ℕ). later J (solve (λ w. rightAt above (g .capacity) (g .period) (l w) w) (most - J))) (fun-ext (load-is above g run n i h f))
+    ap (λ (l : ℕ → ℕ). later J (solve (λ w. rightAt above (g .capacity) (g .period) (l w) w) (most - J)))
+    (fun-ext (load-is above g run n i h f))
 
--- a test of an answer, as the code has it
+-- what the code's test of an answer says of the answer
 pub test-is : {f a : Found} {r b : Bool} → f ≡ a → r ≡ isAt f → r ≡ b → isAt a ≡ b
 test-is e q t = ap isAt (sym e) ∙ sym q ∙ t
 
 -- a guest of a plan is accepted where it is fitted and all its tasks are met
-pub accepted-is : (p : Plan) (k : ℕ) → acceptedUnder (interference p k) (guestAt (p .guests) k) ≡ (fitted p k && allMet p k)
+pub accepted-is : (p : Plan) (k : ℕ)
+    → acceptedUnder (interference p k) (guestAt (p .guests) k) ≡ (fitted p k && allMet p k)
 unfolding acceptedIn metUnder fitted guestResponse allMet met responseTo
 accepted-is p k = refl
 
@@ -92,7 +96,8 @@ module _ (p : Plan) (c : Columns) (f : ColumnsOf (p .guests) c) where
   columns-fit-to k h = rw add-one (columns-fit (suc k) (omega arith))
 
   -- the columns are accepted where the plan's guests and tasks are
-  pub columns-accept : p .count ≤ 8 → allTo (λ k. acceptedUnder (guestsTake (c .capacities) (c .periods) k) (guestAt (p .guests) k)) (p .count) ≡ accepted p
+  pub columns-accept : p .count ≤ 8
+      → allTo (λ k. acceptedUnder (guestsTake (c .capacities) (c .periods) k) (guestAt (p .guests) k)) (p .count) ≡ accepted p
   unfolding accepted
   columns-accept h =
       all-ext _ (λ k. fitted p k && allMet p k) (p .count) (λ k l. rw (columns-take k (omega arith)) (accepted-is p k))

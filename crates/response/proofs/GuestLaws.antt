@@ -1,4 +1,5 @@
--- The guest's recurrence x := C + above x climbs from C to the least solution, since its right side grows. Assumes nothing.
+-- The guest's recurrence x := C + above x climbs from C to the least solution, since its right side grows. Assumes
+-- nothing.
 use mathlib.Core.Path.{_≡_}
 use mathlib.Core.List.{List}
 use Prim.Native.Nat.{ℕ, _+_, _≤_, _<_}
@@ -18,8 +19,9 @@ pub take-grows : (capacities periods : List ℕ) (n : ℕ) → Grows (guestsTake
 unfolding guestsTake
 take-grows capacities periods n a b h = asked-mono (nth capacities) (nth periods) (λ j. 0) n h
 
--- the code's sum is what they take, cut off
-pub take-cut : (capacities periods : List ℕ) (n v : ℕ) {r : ℕ} → r ≡ cut (asked (nth capacities) (nth periods) (λ j. 0) n v)
+-- the code's sum is what the guests above take, cut off
+pub take-cut : (capacities periods : List ℕ) (n v : ℕ) {r : ℕ}
+    → r ≡ cut (asked (nth capacities) (nth periods) (λ j. 0) n v)
     → r ≡ cut (guestsTake capacities periods n v)
 unfolding guestsTake
 take-cut capacities periods n v e = e
@@ -34,7 +36,8 @@ pub record GuestInv (above : ℕ → ℕ) (capacity period x : ℕ) : Type 0 whe
   pub rising : Rising (guestSide above capacity) x
 
 -- the invariant holds at C
-pub guest-start : {above : ℕ → ℕ} {capacity period : ℕ} → Grows above → 1 ≤ capacity → capacity ≤ period → period < bound
+pub guest-start : {above : ℕ → ℕ} {capacity period : ℕ} → Grows above → 1 ≤ capacity → capacity ≤ period
+    → period < bound
     → GuestInv above capacity period capacity
 unfolding guestSide
 guest-start g pos h small = record {
@@ -46,27 +49,28 @@ guest-start g pos h small = record {
   rising = record { rises = omega arith; under = λ z k. omega arith };
 }
 
--- y is the right side, with what the guests above take cut off
-module _ {above : ℕ → ℕ} {capacity period x y : ℕ} (i : GuestInv above capacity period x) (e : y ≡ capacity + cut (above x)) where
+-- Here y is the right side, with what the guests above take cut off.
+module _ {above : ℕ → ℕ} {capacity period x y : ℕ} (i : GuestInv above capacity period x)
+    (e : y ≡ capacity + cut (above x)) where
   -- the real right side climbs on
   turned : Rising (guestSide above capacity) (guestSide above capacity x)
   unfolding guestSide
   turned = rise-turn (guestSide above capacity) (λ a b h. omega (arith, i .grows a b h)) x (i .rising)
 
-  -- a turn
+  -- a turn keeps the invariant
   pub guest-turn : y ≤ period → GuestInv above capacity period y
   guest-turn h =
       let q : y ≡ guestSide above capacity x = unfold guestSide in omega arith in
       record { grows = i .grows; some = i .some; small = i .small; low = omega arith; high = h; rising = rw q turned }
 
-  -- the end at a solution
+  -- the loop's end at a solution
   pub guest-found : y ≤ x → At x ≡ guestUnder above capacity period
   unfolding guestUnder guestSide
   guest-found h =
       solve-at (guestSide above capacity) period x (omega arith) (i .high) (omega (arith, i .rising .rises))
       (rise-under (guestSide above capacity) x (i .rising))
 
-  -- the end past the period
+  -- the loop's end past the period
   pub guest-none : period < y → Nothing ≡ guestUnder above capacity period
   unfolding guestUnder guestSide
   guest-none h =

@@ -1,6 +1,6 @@
 -- What records in their ranges give the inner functions. Assumes nothing.
 use mathlib.Core.Path.{_≡_, sym, _∙_, ap}
-use mathlib.Core.Bool.{Bool, true, false}
+use mathlib.Core.Bool.{Bool, true, _&&_}
 use mathlib.Core.List.{List}
 use Prim.Native.Nat.{ℕ, _+_, _≤_, _<_}
 use native.Mathlib.Omega.{arith}
@@ -8,20 +8,23 @@ use Rattle.lists.specs.All.{allTo}
 use Rattle.lists.specs.Places.{nth}
 use Rattle.lists.specs.Search.{isAt}
 use Rattle.equation.specs.Guest.{guestUnder}
-use Rattle.equation.specs.System.{System}
 use Rattle.plan.specs.Charge.{charged}
 use Rattle.plan.specs.Filled.{Filled, ColumnsOf}
 use Rattle.plan.specs.Records.{guestAt, runOf, deadlineOf}
 use Rattle.plan.specs.declared.Columns.{Columns}
 use Rattle.plan.specs.declared.Guest.{Guest}
 use Rattle.plan.specs.declared.Plan.{Plan}
-use Rattle.response.specs.Columns.{guestsTake, fittedAt, columnSystem, metUnder, acceptedIn}
+use Rattle.response.specs.Columns.{guestsTake, fittedAt, columnSystem, metUnder, acceptedIn, acceptedUnder}
 use Rattle.response.specs.Task.{systemOf}
-use Rattle.response.specs.Ready.{Ready, Stands}
-use Rattle.lists.proofs.All.{all-at, all-ext, and-false-left}
+use Rattle.response.specs.Ready.{Ready, RunsTo, RunsIn, Stands}
+use Rattle.lists.proofs.All.{all-at, all-ext}
 use Rattle.plan.proofs.Charge.{charged-least}
 use Rattle.plan.proofs.Order.{PlanIn}
 use Rattle.response.proofs.ColumnsLaws.{task-is}
+
+-- the charged runs of records in their ranges are runs
+pub charged-runs : (g : Guest) → RunsIn g → (run : List ℕ) → Filled run (charged g) (g .tasks) → RunsTo run (g .tasks)
+charged-runs g r run f i h = omega (arith, f .holds i h, r .some i h, charged-least (runOf g i) (g .charge))
 
 module _ (g : Guest) (capacities periods : List ℕ) (k : ℕ) (s : Stands g capacities periods k) where
   -- the guest's capacity is from 1 to its period
@@ -45,7 +48,7 @@ module _ (g : Guest) (capacities periods : List ℕ) (k : ℕ) (s : Stands g cap
     some = stands-ranged .0;
     within = stands-ranged .1;
     fits = fits;
-    runs = omega (arith, f .holds i h, s .runs .some i h, charged-least (runOf g i) (g .charge));
+    runs = charged-runs g (s .runs) run f i h;
   }
 
 -- the tasks off the column of charged runs are the guest's
@@ -55,17 +58,12 @@ pub met-is : (above : ℕ → ℕ) (g : Guest) (run : List ℕ) → Filled run (
 unfolding metUnder
 met-is above g run f = all-ext _ _ (g .tasks) (λ i h. ap isAt (task-is above g run (g .tasks) i (deadlineOf g i) h f))
 
--- an unfit guest is not accepted
-pub accepted-unfit : (S : System) (deadline : ℕ → ℕ) (n : ℕ) → isAt (guestUnder (S .above) (S .capacity) (S .period)) ≡ false
-    → false ≡ acceptedIn S deadline n
+-- a guest is accepted where its test off the column of charged runs says so
+pub accepted-column : (above : ℕ → ℕ) (g : Guest) (run : List ℕ) → Filled run (charged g) (g .tasks)
+    → acceptedIn (columnSystem above (g .capacity) (g .period) run (g .every)) (deadlineOf g) (g .tasks) ≡ acceptedUnder above g
 unfolding acceptedIn
-accepted-unfit S deadline n e = sym (and-false-left _ e)
-
--- a fitted guest is accepted where its tasks are met
-pub accepted-fit : (S : System) (deadline : ℕ → ℕ) (n : ℕ) {r : Bool} → isAt (guestUnder (S .above) (S .capacity) (S .period)) ≡ true
-    → r ≡ metUnder S deadline n → r ≡ acceptedIn S deadline n
-unfolding acceptedIn
-accepted-fit S deadline n e q = rw e q
+accepted-column above g run f =
+    ap (λ (b : Bool). isAt (guestUnder above (g .capacity) (g .period)) && b) (met-is above g run f)
 
 -- each guest of records in order stands in their columns
 pub stands-at : (p : Plan) (c : Columns) → ColumnsOf (p .guests) c → PlanIn p → (k : ℕ) → k < p .count

@@ -1,5 +1,5 @@
--- The task's recurrence w := right w climbs from 1 to the least solution, though its right side falls at some windows: within a
--- server period it grows, and it never passes a solution in a later one. Assumes nothing.
+-- The task's recurrence w := right w climbs from 1 to the least solution, though its right side falls at some windows:
+-- within a server period it grows, and it never passes a solution in a later one. Assumes nothing.
 use mathlib.Core.Path.{_≡_, ap, _∙_}
 use Prim.Native.Nat.{ℕ, _+_, _-_, _*_, _≤_, _<_}
 use native.Mathlib.Omega.{arith}
@@ -34,7 +34,8 @@ regular S g i r =
       },
     )
 
--- how the right side is worked out: m whole periods of p ticks with g of gaps, the rest v, what is taken from it cut off
+-- how the right side is worked out: m whole periods of p ticks with g of gaps, the rest v, what is taken from it cut
+-- off
 pub right-by : (above : ℕ → ℕ) (capacity period l w : ℕ) {m p v a g d r : ℕ}
     → m ≡ up l capacity - 1
     → p ≡ m * period
@@ -51,12 +52,12 @@ right-by above capacity period l w {m} {p} {v} {a} {g} hm hp hv ha hg hd hr =
     let ev : above v ≡ above (w - (up l capacity - 1) * period) = ap above (hv ∙ ap (λ (k : ℕ). w - k) ep) in
     omega arith
 
--- a load at the bound: the right side is past it
+-- a load at the bound has its right side there too
 pub right-large : (S : System) (i w r : ℕ) → r ≡ cut (load S i w) → bound ≤ r → r ≡ cut (right S i w)
 unfolding right rightAt
 right-large S i w r e h = omega arith
 
--- a load below the bound: the right side at that load
+-- a load below the bound is the load that the right side is worked out at
 pub right-small : (S : System) (i w l r : ℕ) → l ≡ cut (load S i w) → l < bound
     → r ≡ cut (rightAt (S .above) (S .capacity) (S .period) l w) → r ≡ cut (right S i w)
 unfolding right
@@ -64,7 +65,7 @@ right-small S i w l r e h q =
     let k : load S i w ≡ l = omega arith in
     rw k q
 
--- the first gap leaves no window
+-- a first gap past `most` leaves no window
 pub task-late : (S : System) (i most : ℕ) → most ≤ S .gap i → Nothing ≡ taskUnder S i most
 unfolding taskUnder
 task-late S i most h = ap (later (S .gap i)) (solve-none (right S i) (most - S .gap i) 1 (omega arith) (λ z k q. k))
@@ -84,9 +85,9 @@ pub task-start : {S : System} {i x room : ℕ} → Regular S i x → 1 ≤ room 
 task-start {S} {i} {x} s h small =
     record { x = x; sure = s; small = small; low = omega arith; high = h; climbs = climb-start S i x s; under = λ z k e. k }
 
--- y is the right side, cut off
+-- Here y is the right side, cut off.
 module _ {S : System} {i room w y : ℕ} (v : TaskInv S i room w) (e : y ≡ cut (right S i w)) where
-  -- a turn
+  -- a turn keeps the invariant
   pub task-turn : y ≤ room → TaskInv S i room y
   task-turn h =
       let q : y ≡ right S i w = omega arith in
@@ -100,10 +101,11 @@ module _ {S : System} {i room w y : ℕ} (v : TaskInv S i room w) (e : y ≡ cut
         under = under-turn S i (v .x) w (v .sure) (v .climbs) (v .under);
       }
 
-  -- the end at a solution
+  -- the loop's end at a solution
   pub task-at : y ≤ w → At w ≡ solve (right S i) room
   task-at h = solve-at (right S i) room w (v .low) (v .high) (omega (arith, v .climbs .rises)) (v .under)
 
-  -- the end past the room
+  -- the loop's end past the room that the first gap leaves
   pub task-none : room < y → Nothing ≡ solve (right S i) room
-  task-none h = solve-none (right S i) room (right S i w) (omega arith) (under-turn S i (v .x) w (v .sure) (v .climbs) (v .under))
+  task-none h =
+      solve-none (right S i) room (right S i w) (omega arith) (under-turn S i (v .x) w (v .sure) (v .climbs) (v .under))

@@ -1,4 +1,5 @@
--- The equations as the code reads them, off lent columns and off one record, under guests that take `above v` from v ticks.
+-- The equations as the code reads them, off lent columns and off one record, under guests that take `above v` from v
+-- ticks.
 -- Inner: no promise of an entry names this.
 use mathlib.Core.Bool.{Bool, _&&_}
 use mathlib.Core.List.{List}
@@ -36,9 +37,13 @@ columnSystem above capacity period run every = record {
 unfoldable pub metUnder : System → (deadline : ℕ → ℕ) → ℕ → Bool
 metUnder S deadline n = allTo (λ i. isAt (taskUnder S i (deadline i))) n
 
+-- whether the guest of a system is fitted
+abbrev pub fittedIn : System → Bool
+fittedIn S = isAt (guestUnder (S .above) (S .capacity) (S .period))
+
 -- whether the guest of a system is fitted and its first n tasks are met
 unfoldable pub acceptedIn : System → (deadline : ℕ → ℕ) → ℕ → Bool
-acceptedIn S deadline n = isAt (guestUnder (S .above) (S .capacity) (S .period)) && metUnder S deadline n
+acceptedIn S deadline n = fittedIn S && metUnder S deadline n
 
 -- whether a guest is fitted and all its tasks are met
 abbrev pub acceptedUnder : (above : ℕ → ℕ) → Guest → Bool

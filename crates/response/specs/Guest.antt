@@ -21,6 +21,6 @@ guestResponse p k = guestUnder (interference p k) (guestAt (p .guests) k .capaci
 unfoldable pub fitted : Plan → ℕ → Bool
 fitted p k = isAt (guestResponse p k)
 
--- the guest at place k and all above are fitted
+-- whether the guest at place k and all above are fitted
 unfoldable pub fittedTo : Plan → ℕ → Bool
 fittedTo p k = allTo (fitted p) (suc k)

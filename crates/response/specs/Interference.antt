@@ -12,4 +12,5 @@ jitter g = 0
 -- the sum over the guests above place k of ((v + their jitter) / their period, rounded up) times their capacity
 unfoldable pub interference : Plan → ℕ → ℕ → ℕ
 interference p k =
-    asked (λ j. guestAt (p .guests) j .capacity) (λ j. guestAt (p .guests) j .period) (λ j. jitter (guestAt (p .guests) j)) k
+    asked (λ j. guestAt (p .guests) j .capacity) (λ j. guestAt (p .guests) j .period)
+    (λ j. jitter (guestAt (p .guests) j)) k

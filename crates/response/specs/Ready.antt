@@ -4,19 +4,22 @@ use mathlib.Core.Bool.{true}
 use mathlib.Core.List.{List}
 use Prim.Native.Nat.{ℕ, _+_, _≤_, _<_}
 use Rattle.lists.specs.Places.{nth}
-use Rattle.lists.specs.Search.{isAt}
 use Rattle.plan.specs.Records.{runOf}
 use Rattle.plan.specs.Ranges.{mostGuests, mostTasks, longest}
 use Rattle.plan.specs.declared.Guest.{Guest}
-use Rattle.equation.specs.Guest.{guestUnder}
 use Rattle.equation.specs.System.{System}
+use Rattle.response.specs.Columns.{fittedIn}
 
 -- What the recurrence of task i asks: a capacity from 1 to the period that is fitted, and a run.
 pub record Ready (S : System) (i : ℕ) : Type 0 where
   pub some : 1 ≤ S .capacity
   pub within : S .capacity ≤ S .period
-  pub fits : isAt (guestUnder (S .above) (S .capacity) (S .period)) ≡ true
+  pub fits : fittedIn S ≡ true
   pub runs : 1 ≤ S .run i
+
+-- each of the first n tasks has a run
+abbrev pub RunsTo : (run : List ℕ) → ℕ → Type 0
+RunsTo run n = (i : ℕ) → i < n → 1 ≤ nth run i
 
 -- the first n capacities are from 1 to the periods
 abbrev pub Ranged : (capacities periods : List ℕ) → ℕ → Type 0

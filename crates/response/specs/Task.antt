@@ -12,7 +12,8 @@ use Rattle.response.specs.Interference.{interference}
 unfoldable pub gap : Guest → ℕ → ℕ
 gap g i = g .period - g .capacity
 
--- a guest seen from its tasks, under guests that take `above v` from v ticks: each task loads with its charged run, its period and its J
+-- a guest seen from its tasks, under guests that take `above v` from v ticks: each task loads with its charged run, its
+-- period and its J
 abbrev pub systemOf : (above : ℕ → ℕ) → Guest → System
 systemOf above g = record {
   capacity = g .capacity;

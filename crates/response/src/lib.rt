@@ -3,10 +3,11 @@ mod charge;
 mod guest;
 mod met;
 mod task;
+mod trial;
 
 pub use charge::charged_of;
 pub use guest::all_fitted;
-pub use guest::guest_response;
 pub use guest::response_at;
-pub use met::all_met;
 pub use task::task_response;
+pub use trial::Trial;
+pub use trial::try_capacity;

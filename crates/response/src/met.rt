@@ -26,7 +26,8 @@ pub fn all_met(
         ⌝ }
     ensures { λ r. ⌜
         r
-        ≡ metUnder (columnSystem (guestsTake (now (capacities .entry)) (now (periods .entry)) k) capacity period (now (run .entry)) (now (every .entry)))
+        ≡ metUnder (columnSystem (guestsTake (now (capacities .entry)) (now (periods .entry)) k) capacity period
+        (now (run .entry)) (now (every .entry)))
         (nth (now (deadline .entry))) tasks
         ⌝ }
 {

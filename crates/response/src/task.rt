@@ -4,7 +4,7 @@ ghost use Prim.Native.Nat.{_+_, _-_, _*_, _≤_, _<_};
 ghost use Rattle.lists.specs.Places.{nth};
 ghost use Rattle.rounding.specs.Asked.{asked};
 ghost use Rattle.rounding.specs.Cut.{bound, cut};
-ghost use Rattle.equation.specs.System.{served, rightAt, right, taskUnder};
+ghost use Rattle.equation.specs.System.{serverPeriods, rightAt, right, taskUnder};
 ghost use Rattle.response.specs.Columns.{guestsTake, columnSystem};
 ghost use Rattle.response.specs.Ready.{Ready};
 use lists::Found;
@@ -27,12 +27,12 @@ fn load_in(run: &[u32; 16], every: &[u32; 16], gap: u32, i: usize, w: u32) -> u6
 // The server periods before the last one.
 fn whole_of(load: u32, capacity: u32) -> u64
     requires { ⌜ (1 ≤ load) × (1 ≤ capacity) ⌝ }
-    ensures { λ r. ⌜ (r ≡ served load capacity - 1) × (r ≤ bound - 2) ⌝ }
+    ensures { λ r. ⌜ (r ≡ serverPeriods load capacity - 1) × (r ≤ bound - 2) ⌝ }
 {
     quotient(load, capacity) - 1
 }
 
-// m times t, with room for two sums.
+// The product of m and t, with room for two sums.
 fn times(m: u64, t: u32) -> u64
     requires { ⌜ m ≤ bound - 2 ⌝ }
     ensures { λ r. ⌜ (r ≡ m * t) × (r ≤ (bound - 2) * (bound - 1)) ⌝ }
@@ -40,7 +40,7 @@ fn times(m: u64, t: u32) -> u64
     m * wide(t)
 }
 
-// What of w lies past p: 0 where w ends before.
+// What of a window w lies past p: 0 where w ends before.
 fn rest_of(w: u32, p: u64) -> u32
     ensures { λ r. ⌜ r ≡ w - p ⌝ }
 {
@@ -67,7 +67,8 @@ fn right_at(
     capped(wide(load) + times(m, period - capacity) + asked_of(capacities, periods, 0, n, v))
 }
 
-// The right side of task i's equation in a window w, cut off: a load at the bound decides alone, so that no product is too large.
+// The right side of task i's equation in a window w, cut off: a load at the bound decides alone, so that no product is
+// too large.
 fn right_of(
     capacities: &[u32; 16],
     periods: &[u32; 16],
@@ -83,7 +84,8 @@ fn right_of(
     requires { ⌜ w + (period - capacity) < bound ⌝ }
     ensures { λ r. ⌜
         r
-        ≡ cut (right (columnSystem (guestsTake (now (capacities .entry)) (now (periods .entry)) n) capacity period (now (run .entry)) (now (every .entry)))
+        ≡ cut (right (columnSystem (guestsTake (now (capacities .entry)) (now (periods .entry)) n) capacity period
+        (now (run .entry)) (now (every .entry)))
         i w)
         ⌝ }
 {
@@ -112,7 +114,8 @@ pub fn task_response(
         ⌝ }
     ensures { λ r. ⌜
         r
-        ≡ taskUnder (columnSystem (guestsTake (now (capacities .entry)) (now (periods .entry)) n) capacity period (now (run .entry)) (now (every .entry)))
+        ≡ taskUnder (columnSystem (guestsTake (now (capacities .entry)) (now (periods .entry)) n) capacity period
+        (now (run .entry)) (now (every .entry)))
         i most
         ⌝ }
 {

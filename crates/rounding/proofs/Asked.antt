@@ -27,13 +27,15 @@ pub asked-le : (cost every late late′ : ℕ → ℕ) (n v w : ℕ) → ((k : �
 unfolding asked
 asked-le cost every late late′ n v w h = sum-le _ _ n (λ k l. mul-le-mul-right (cost k) (up-mono (every k) (h k l)))
 
--- a longer window is asked for no less
-pub asked-mono : (cost every late : ℕ → ℕ) (n : ℕ) {v w : ℕ} → v ≤ w → asked cost every late n v ≤ asked cost every late n w
+-- the longer of two windows is asked for no less
+pub asked-mono : (cost every late : ℕ → ℕ) (n : ℕ) {v w : ℕ} → v ≤ w
+    → asked cost every late n v ≤ asked cost every late n w
 asked-mono cost every late n {v} {w} h = asked-le cost every late late n v w (λ k l. omega arith)
 
 -- numbers that agree up to n ask the same
 pub asked-same : (cost every late cost′ every′ late′ : ℕ → ℕ) (n v : ℕ)
-    → ((k : ℕ) → k < n → cost k ≡ cost′ k) → ((k : ℕ) → k < n → every k ≡ every′ k) → ((k : ℕ) → k < n → late k ≡ late′ k)
+    → ((k : ℕ) → k < n → cost k ≡ cost′ k) → ((k : ℕ) → k < n → every k ≡ every′ k)
+    → ((k : ℕ) → k < n → late k ≡ late′ k)
     → asked cost every late n v ≡ asked cost′ every′ late′ n v
 unfolding asked
 asked-same cost every late cost′ every′ late′ n v c e l = sum-same _ _ n (λ k h. rw (c k h, e k h, l k h) refl)

@@ -16,14 +16,13 @@ ghost use Rattle.response.specs.Ready.{Stands};
 use crate::GuestVerdict;
 use crate::TaskVerdict;
 use lists::Found;
-use lists::is_at;
 use plan::Guest;
 use plan::Plan;
+use response::Trial;
 use response::all_fitted;
-use response::all_met;
 use response::charged_of;
-use response::guest_response;
 use response::task_response;
+use response::try_capacity;
 
 // The verdict of a guest's response.
 pub fn guest_says(f: Found) -> GuestVerdict
@@ -126,12 +125,8 @@ fn guest_accepted(g: Guest, capacities: &[u32; 16], periods: &[u32; 16], k: usiz
     let every = g.every;
     let deadline = g.deadline;
     let n = g.tasks as usize;
-    let f = guest_response(capacities, periods, k, g.capacity, g.period);
-    if !is_at(f) {
-        return false;
-    }
     let run = charged_of(g);
-    all_met(
+    match try_capacity(
         capacities,
         periods,
         k,
@@ -141,7 +136,11 @@ fn guest_accepted(g: Guest, capacities: &[u32; 16], periods: &[u32; 16], k: usiz
         &every,
         &deadline,
         n,
-    )
+    ) {
+        Trial::Works => true,
+        Trial::Unmet => false,
+        Trial::Unfit => false,
+    }
 }
 
 // Whether all guests are fitted and all tasks met, one guest after the other.

@@ -19,7 +19,8 @@ pub record Lies (S : System) (i w : ℕ) : Type 0 where
   pub solves : v ≡ l + S .above v
 
 -- every solution lies so
-pub lies : (S : System) (i w : ℕ) → 0 < S .capacity → S .capacity ≤ S .period → 0 < S .run i → w ≡ right S i w → Lies S i w
+pub lies : (S : System) (i w : ℕ) → 0 < S .capacity → S .capacity ≤ S .period → 0 < S .run i → w ≡ right S i w
+    → Lies S i w
 lies S i w pos le some e = go (whole S i w) (parts S i w pos le (load-some S i w some))
   where
     go : (n : ℕ) → Parts S i w n → Lies S i w
@@ -34,8 +35,8 @@ lies S i w pos le some e = go (whole S i w) (parts S i w pos le (load-some S i w
       solves = omega (arith, P .is);
     }
 
--- The heart: e ticks early, k periods begun and p ticks into the last, together the window and one period; h of the last capacity
--- is left. Then s, all that the guest had, is the whole load.
+-- The heart: e ticks early, k periods begun and p ticks into the last, together the window and one period; h of the
+-- last capacity is left. Then s, all that the guest had, is the whole load.
 pub enough :
     (S : System) (i w x k e p h s : ℕ) (P : Lies S i w)
     → S .capacity ≤ S .period

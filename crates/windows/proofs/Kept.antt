@@ -23,7 +23,8 @@ module _ {cap per : ℕ → ℕ} {g x : ℕ} {run every : ℕ → ℕ} {i w : �
   lies-of = lies (systemAt cap per g run every) i w (Q .fitted .some) (Q .cap-per) (Q .solves .works) (Q .solves .equal)
 
   -- what the guest part gives the task part
-  given : (held pos : ℕ → ℕ) → Supply cap per g x held pos → pos g < per g → Given (systemAt cap per g run every) i w x (pos g) (held g)
+  given : (held pos : ℕ → ℕ) → Supply cap per g x held pos → pos g < per g
+      → Given (systemAt cap per g run every) i w x (pos g) (held g)
   given held pos S p = record {
     lies = lies-of;
     some = Q .solves .some;
@@ -36,7 +37,7 @@ module _ {cap per : ℕ → ℕ} {g x : ℕ} {run every : ℕ → ℕ} {i w : �
     last = supplied cap per g x held pos (Q .fitted) S (lies-of .l) (lies-of .v) (lies-of .fits) (lies-of .solves);
   }
 
-  -- A tick keeps it: guest k has the tick.
+  -- A tick keeps the invariant: guest k has the tick.
   pub kept-tick :
       {k : ℕ} {held pos left held' pos' : ℕ → ℕ} {v v' : Tasks}
       → GuestTick cap per g k held pos left held' pos'
@@ -72,7 +73,7 @@ module _ {cap per : ℕ → ℕ} {g x : ℕ} {run every : ℕ → ℕ} {i w : �
         clock = clock-tick (Q .solves .short) u (K .clock);
       }
 
-  -- A taken release of task j of this guest keeps it.
+  -- A taken release of task j of this guest keeps the invariant.
   pub kept-taken :
       {j : ℕ} {held pos : ℕ → ℕ} {v v' : Tasks}
       → Taken run every j v v'
@@ -86,7 +87,7 @@ module _ {cap per : ℕ → ℕ} {g x : ℕ} {run every : ℕ → ℕ} {i w : �
     clock = clock-taken R S (K .clock);
   }
 
-  -- Where no task up to i changed, it stands.
+  -- Where no task up to i changed, the invariant stands.
   pub kept-same :
       {held pos : ℕ → ℕ} {v v' : Tasks}
       → ((m : ℕ) → m ≤ i → Same m v v')
@@ -99,7 +100,7 @@ module _ {cap per : ℕ → ℕ} {g x : ℕ} {run every : ℕ → ℕ} {i w : �
     clock = clock-same S (K .clock);
   }
 
-  -- It holds where every position is 0, every guest is about to be filled, and no task has a job or a wait.
+  -- The invariant holds where every position is 0, every guest is about to be filled, and no task has a job or a wait.
   pub kept-fresh :
       (held pos : ℕ → ℕ) (v : Tasks)
       → ((k : ℕ) → k ≤ g → held k ≡ cap k)

@@ -1,4 +1,5 @@
--- A taken release keeps the window of task i, whichever task of the guest is released: one more release is counted. Assumes nothing.
+-- A taken release keeps the window of task i, whichever task of the guest is released: one more release is counted.
+-- Assumes nothing.
 use mathlib.Core.Path.{_≡_, refl, ap}
 use mathlib.Core.Bool.{Bool, true, false}
 use Prim.Native.Nat.{ℕ, suc, _+_, _*_, _≤_, _<_}
@@ -11,21 +12,21 @@ use Rattle.windows.specs.TaskTick.{Tasks, Taken, Same}
 use Rattle.windows.specs.Window.{Window}
 use Rattle.lists.proofs.Sum.{sum-same, sum-bump}
 
--- 1 where the test holds
+-- a test as a number: 1 where it holds
 unfoldable one : Bool → ℕ
 one true = 1
 one false = 0
 
--- one more at place j
+-- counts with one more at place j
 unfoldable more : (ℕ → ℕ) → ℕ → ℕ → ℕ
 more n j m = n m + one (eqb m j)
 
--- at place j
+-- the count at place j
 more-at : (n : ℕ → ℕ) (j : ℕ) → more n j j ≡ n j + 1
 unfolding more one
 more-at n j = rw (eq-eqb j j refl) refl
 
--- at any other place
+-- the count at any other place
 more-else : (n : ℕ → ℕ) (j m : ℕ) → (m ≡ j → ⊥) → more n j m ≡ n m
 unfolding more one
 more-else n j m h = rw (ne-eqb m j h) (omega arith)
@@ -79,7 +80,8 @@ window-more {S} {i} {p = p} {j = j} {v} {v'} l works R E W = record {
       omega (
         arith,
         W .jobs,
-        sum-bump (v .rest) (v' .rest) (S .run j) (suc i) j (omega arith) (omega (arith, R .free, R .filled)) (λ m a n. omega (arith, E m (omega arith) n .left)),
+        sum-bump (v .rest) (v' .rest) (S .run j) (suc i) j (omega arith) (omega (arith, R .free, R .filled))
+            (λ m a n. omega (arith, E m (omega arith) n .left)),
         sum-bump (λ m. W .n m * S .run m) (λ m. more (W .n) j m * S .run m) (S .run j) (suc i) j (omega arith)
             (omega (arith, ap (λ (z : ℕ). z * S .run j) (more-at (W .n) j)))
             (λ m a n. omega (arith, ap (λ (z : ℕ). z * S .run m) (more-else (W .n) j m n))),

@@ -1,6 +1,7 @@
 -- A tick keeps the guest part, and a fitted guest has used up its capacity when its period ends.
--- Strategy: while the guests above or g itself claim ticks, the window y goes on by one a tick; it stays below x, since x ticks hold the
--- whole capacity and all that is asked above. When nobody claims a tick, a new window starts. Assumes nothing.
+-- Strategy: while the guests above or g itself claim ticks, the window y goes on by one a tick; it stays below x, since
+-- x ticks hold the whole capacity and all that is asked above. When nobody claims a tick, a new window starts. Assumes
+-- nothing.
 use mathlib.Core.Path.{_≡_, refl, ap}
 use Prim.Native.Nat.{ℕ, zero, suc, _+_, _-_, _*_, _≤_, _<_}
 use native.Mathlib.Decide.{decLe, decLt, ℕ-discrete}
@@ -15,13 +16,13 @@ use Rattle.lists.proofs.Sum.{sum-le, sum-same, sum-add, sum-bump, sum-zero}
 use Rattle.rounding.proofs.Asked.{asked-mono, asked-counts}
 use Rattle.windows.proofs.GuestTick.{begun, held-le, count-on, count-new, most-on, pace-on, owed-on, owed-new}
 
--- used, where something is held
+-- what a guest has used, where it holds something
 spent-some : (h c : ℕ) → 0 < h → spent h c ≡ c - h
 unfolding spent
 spent-some zero c p = absurd (omega arith)
 spent-some (suc h) c p = refl
 
--- never the whole capacity
+-- what counts as used is never the whole capacity
 spent-below : (h c : ℕ) → 0 < c → spent h c < c
 unfolding spent
 spent-below zero c p = p
@@ -33,7 +34,7 @@ unfolding spent
 spent-full zero = refl
 spent-full (suc c) = omega arith
 
--- and nothing counts of an empty one
+-- nothing counts as used of an empty capacity
 spent-none : (c : ℕ) → spent 0 c ≡ 0
 unfolding spent
 spent-none c = refl
@@ -107,7 +108,8 @@ module _ (cap per : ℕ → ℕ) (g x k : ℕ) (held pos left held' pos' : ℕ �
       counted =
           omega (
             arith,
-            sum-same (λ j. (S .m j + begun (pos' j)) * cap j) (λ j. S .m j * cap j + begun (pos' j) * cap j) g (λ j l. omega arith),
+            sum-same (λ j. (S .m j + begun (pos' j)) * cap j) (λ j. S .m j * cap j + begun (pos' j) * cap j) g
+                (λ j l. omega arith),
             sum-add (λ j. S .m j * cap j) (λ j. begun (pos' j) * cap j) g,
           )
 
@@ -122,7 +124,8 @@ module _ (cap per : ℕ → ℕ) (g x k : ℕ) (held pos left held' pos' : ℕ �
       kept = spent-on (t .moved g (omega arith)) drained
 
   -- nobody up to g has anything left: a new window starts
-  restart : ((j : ℕ) → j < g → left j ≡ 0) → left g ≡ 0 → Supply cap per g x held' pos' × (pos g + 1 ≡ per g → left g ≡ 0)
+  restart : ((j : ℕ) → j < g → left j ≡ 0) → left g ≡ 0
+      → Supply cap per g x held' pos' × (pos g + 1 ≡ per g → left g ≡ 0)
   restart none empty = (
     record {
       y = 0;
@@ -138,7 +141,7 @@ module _ (cap per : ℕ → ℕ) (g x k : ℕ) (held pos left held' pos' : ℕ �
     λ e. empty,
   )
 
-  -- both laws below, by who has the tick
+  -- the invariant and the used-up capacity, by who has the tick
   tick : Supply cap per g x held' pos' × (pos g + 1 ≡ per g → left g ≡ 0)
   tick =
       elim (decLt k g) [

@@ -1,5 +1,5 @@
--- A tick keeps the task part. Strategy: when the window would pass w, the guest has had the whole load of w, and no more than that load was
--- asked for; so nothing is left at or above task i, and a new window starts. Assumes nothing.
+-- A tick keeps the task part. Strategy: when the window would pass w, the guest has had the whole load of w, and no
+-- more than that load was asked for; so nothing is left at or above task i, and a new window starts. Assumes nothing.
 use mathlib.Core.Path.{_≡_, refl}
 use Prim.Native.Nat.{ℕ, suc, _+_, _-_, _*_, _≤_, _<_}
 use native.Mathlib.Nat.{mul-le-mul-right}
@@ -99,7 +99,8 @@ module _ {S : System} {w x p l p' h' : ℕ} (h a i : ℕ) (v v' : Tasks)
             | no q ↦ absurd (omega (arith, sum-le (v' .rest) (v .rest) (suc i) (λ j r. t .less j (omega arith))))
           ]
 
-      by : (k' : ℕ) × (k' * S .period + p' ≡ W .k * S .period + p + 1) × (W .s + a + h' ≡ W .e + k' * S .capacity) → Window S i w p' h' v'
+      by : (k' : ℕ) × (k' * S .period + p' ≡ W .k * S .period + p + 1) × (W .s + a + h' ≡ W .e + k' * S .capacity)
+          → Window S i w p' h' v'
       by (k', el, had) = record {
         k = k';
         e = W .e;

@@ -1,5 +1,5 @@
--- The equations as the windows have them, over columns of numbers: capacity and period of each guest, charged run and period of each
--- task of one guest. Inner: no promise of an entry names this.
+-- The equations as the windows have them, over columns of numbers: capacity and period of each guest, charged run and
+-- period of each task of one guest. Inner: no promise of an entry names this.
 use Prim.Native.Nat.{ℕ, _-_}
 use Rattle.rounding.specs.Asked.{asked}
 use Rattle.equation.specs.System.{System}

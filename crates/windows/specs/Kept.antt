@@ -1,4 +1,5 @@
--- What is kept of one guest and one of its tasks, over ticks and releases: the guest part, the task part and the clocks together.
+-- What is kept of one guest and one of its tasks, over ticks and releases: the guest part, the task part and the clocks
+-- together.
 -- Inner: no promise of an entry names this.
 use mathlib.Core.Path.{_≡_}
 use Prim.Native.Nat.{ℕ, _≤_, _<_}
@@ -10,8 +11,8 @@ use Rattle.windows.specs.TaskTick.{Tasks, oldest}
 use Rattle.windows.specs.Clock.{Clock}
 use Rattle.windows.specs.Window.{Window}
 
--- The window w solves the equation of task i, and the response that w stands for is at most the task's period: so a job is over when
--- the next release is due.
+-- The window w solves the equation of task i, and the response that w stands for is at most the task's period: so a job
+-- is over when the next release is due.
 pub record TaskSolved (S : System) (i w : ℕ) : Type 0 where
   pub some : 0 < w
   pub works : 0 < S .run i

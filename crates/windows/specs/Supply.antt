@@ -1,6 +1,8 @@
--- The guest part of the invariant: how much of its capacity a fitted guest has used at each position of its period, whatever is above it.
+-- The guest part of the invariant: how much of its capacity a fitted guest has used at each position of its period,
+-- whatever is above it.
 -- Inner: no promise of an entry names this.
--- Here y counts the ticks since the guests above and g itself last had nothing to claim, and m k how often guest k was filled since.
+-- Here y counts the ticks since the guests above and g itself last had nothing to claim, and m k how often guest k was
+-- filled since.
 use Prim.Native.Nat.{ℕ, zero, suc, _+_, _-_, _*_, _≤_, _<_}
 use Rattle.lists.specs.Sum.{sumTo}
 use Rattle.windows.specs.Equation.{above}

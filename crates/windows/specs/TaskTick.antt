@@ -1,4 +1,5 @@
--- One tick and one taken release as the tasks of a guest see them, up to task i. Inner: no promise of an entry names this.
+-- One tick and one taken release as the tasks of a guest see them, up to task i.
+-- Inner: no promise of an entry names this.
 use mathlib.Core.Path.{_≡_}
 use Prim.Native.Nat.{ℕ, suc, _+_, _-_, _≤_, _<_, min}
 use Rattle.lists.specs.Sum.{sumTo}

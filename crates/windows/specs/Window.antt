@@ -1,6 +1,8 @@
--- The task part of the invariant: while tasks up to i have run left, the guest's ticks since the window began are what these tasks lost.
+-- The task part of the invariant: while tasks up to i have run left, the guest's ticks since the window began are what
+-- these tasks lost.
 -- Inner: no promise of an entry names this.
--- The window began d ticks before a period's end, with e capacity left; k periods began since; the guest had s ticks; n j releases of task j were taken.
+-- The window began d ticks before a period's end, with e capacity left; k periods began since; the guest had s ticks;
+-- n j releases of task j were taken.
 use mathlib.Core.Path.{_≡_}
 use Prim.Native.Nat.{ℕ, suc, _+_, _-_, _*_, _≤_, _<_}
 use Rattle.lists.specs.Sum.{sumTo}

@@ -3,27 +3,21 @@ use borrow.Author.Needs.{needs}
 use Rattle.rounding.proofs.asked_of.Statement.{statement}
 use Rattle.rounding.proofs.asked_of.Tie as tie
 
--- src/lib.rt:83:8
 add-if1 : tie.Need-add-if1
 add-if1 c = search needs
 
--- src/lib.rt:84:23
 asked-of-short-requires : tie.Need-asked-of-short-requires
 asked-of-short-requires c κs = search needs
 
--- src/lib.rt:84:9
 capped-requires : tie.Need-capped-requires
 capped-requires c κs = search needs
 
--- src/lib.rt:84:9
 returns : tie.Need-returns
 returns c = search needs
 
--- src/lib.rt:86:5
 asked-of-long-requires : tie.Need-asked-of-long-requires
 asked-of-long-requires c κs = search needs
 
--- src/lib.rt:79:1
 returns-2 : tie.Need-returns-2
 returns-2 c = search needs
 

@@ -1,4 +1,5 @@
--- `rounding::asked_of_long` meets its contract: a sum that is cut off at each turn is the whole sum cut off. Assumes nothing.
+-- `rounding::asked_of_long` meets its contract: a sum that is cut off at each turn is the whole sum cut off. Assumes
+-- nothing.
 use mathlib.Core.Path.{_≡_}
 use Prim.Native.Nat.{_≤_, _-_}
 use native.Mathlib.Omega.{arith}
@@ -17,9 +18,9 @@ abbrev μ-loop : tie.MeasureT-loop
 μ-loop cost every late n v sum₀ k₀ sum k = n - k
 
 loop-holds : tie.Need-loop-holds Inv-loop μ-loop
-loop-holds c = (search needs, omega (arith, asked-none (nth (c .args .cost .now)) (nth (c .args .every .now)) (λ j. c .args .late) (c .args .v)))
+loop-holds c =
+    (search needs, omega (arith, asked-none (nth (c .args .cost .now)) (nth (c .args .every .now)) (λ j. c .args .late) (c .args .v)))
 
--- src/lib.rt:72:34
 add-share : tie.Need-add-share Inv-loop μ-loop
 add-share c = search needs
 
@@ -54,7 +55,8 @@ loop-again : tie.Need-loop-again Inv-loop μ-loop
 loop-again c =
     let l = c .before .before .before .before .before in (
       search needs,
-      cut-next (nth (l .before .args .cost .now)) (nth (l .before .args .every .now)) (λ j. l .before .args .late) _ _ _ _ _ (l .loop .inv .1) (c .before .share .ensures .0)
+      cut-next (nth (l .before .args .cost .now)) (nth (l .before .args .every .now)) (λ j. l .before .args .late) _ _ _
+          _ _ (l .loop .inv .1) (c .before .share .ensures .0)
           (c .capped .ensures),
     )
 

@@ -1,4 +1,5 @@
--- `rounding::asked_of_short` meets its contract: each share is below 2 to the 59, so 16 of them fit in 64 bits. Assumes nothing.
+-- `rounding::asked_of_short` meets its contract: each share is below 2 to the 59, so 16 of them fit in 64 bits. Assumes
+-- nothing.
 use mathlib.Core.Path.{_≡_}
 use Prim.Native.Nat.{_*_, _≤_, _-_}
 use native.Mathlib.Omega.{arith}
@@ -11,15 +12,16 @@ use Rattle.rounding.proofs.asked_of_short.Statement.{statement}
 use Rattle.rounding.proofs.asked_of_short.Tie as tie
 
 abbrev Inv-loop : tie.InvT-loop
-Inv-loop cost every late n v sum₀ k₀ sum k = (k ≤ n) × (sum ≡ asked (nth cost) (nth every) (λ j. late) k v) × (sum ≤ k * (long * bound))
+Inv-loop cost every late n v sum₀ k₀ sum k =
+    (k ≤ n) × (sum ≡ asked (nth cost) (nth every) (λ j. late) k v) × (sum ≤ k * (long * bound))
 
 abbrev μ-loop : tie.MeasureT-loop
 μ-loop cost every late n v sum₀ k₀ sum k = n - k
 
 loop-holds : tie.Need-loop-holds Inv-loop μ-loop
-loop-holds c = (search needs, omega (arith, asked-none (nth (c .args .cost .now)) (nth (c .args .every .now)) (λ j. c .args .late) (c .args .v)), search needs)
+loop-holds c =
+    (search needs, omega (arith, asked-none (nth (c .args .cost .now)) (nth (c .args .every .now)) (λ j. c .args .late) (c .args .v)), search needs)
 
--- src/lib.rt:58:22
 add-share : tie.Need-add-share Inv-loop μ-loop
 add-share c = search needs
 

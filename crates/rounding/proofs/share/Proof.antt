@@ -1,4 +1,4 @@
--- `rounding::share` meets its contract. Assumes nothing.
+-- `rounding::share` meets its contract: the quotient is no more than the window. Assumes nothing.
 use mathlib.Core.Path.{_≡_, refl}
 use Prim.Native.Nat.{ℕ, _-_, _*_, _≤_}
 use native.Mathlib.Omega.{arith}
@@ -10,7 +10,7 @@ use Rattle.rounding.proofs.Up.{up-le}
 use Rattle.rounding.proofs.share.Statement.{statement}
 use Rattle.rounding.proofs.share.Tie as tie
 
--- the quotient is no more than the window
+-- a share is no more than the window times the largest cost
 share-most : (v every : ℕ) {q w : ℕ} → q ≡ up v every → w ≤ bound - 1 → q * w ≤ v * (bound - 1)
 share-most v every e h = mul-le-mul (omega (arith, e, up-le v every)) h
 

@@ -1,4 +1,5 @@
--- `response::charge::charged_of` meets its contract: the places passed hold the charged runs, which are far below 2 to the 32. Assumes nothing.
+-- `response::charge::charged_of` meets its contract: the places passed hold the charged runs, which are far below 2 to
+-- the 32. Assumes nothing.
 use mathlib.Core.Path.{refl}
 use Prim.Native.Nat.{_≤_, _-_}
 use native.Mathlib.Omega.{arith}

@@ -1,4 +1,5 @@
--- `response::guest::guest_response` meets its contract: x climbs and never passes a solution, so it ends at the least one or past the period. Assumes nothing.
+-- `response::guest::guest_response` meets its contract: x climbs and never passes a solution, so it ends at the least
+-- one or past the period. Assumes nothing.
 use Prim.Native.Nat.{_-_}
 use native.Mathlib.Omega.{arith}
 use borrow.Author.Needs.{needs}
@@ -29,7 +30,9 @@ wide-requires-2 : tie.Need-wide-requires-2 Inv-loop μ-loop
 wide-requires-2 c κs = search needs
 
 returns-2 : tie.Need-returns-2 Inv-loop μ-loop
-returns-2 c = guest-none (c .before .before .before .before .before .loop .inv) (c .before .before .before .before .guest-right .ensures) (omega arith)
+returns-2 c =
+    guest-none (c .before .before .before .before .before .loop .inv)
+    (c .before .before .before .before .guest-right .ensures) (omega arith)
 
 cast-x : tie.Need-cast-x Inv-loop μ-loop
 cast-x c = search needs
@@ -38,7 +41,9 @@ loop-less : tie.Need-loop-less Inv-loop μ-loop
 loop-less c = search needs
 
 loop-again : tie.Need-loop-again Inv-loop μ-loop
-loop-again c = guest-turn (c .before .before .before .before .before .loop .inv) (c .before .before .before .before .guest-right .ensures) (omega arith)
+loop-again c =
+    guest-turn (c .before .before .before .before .before .loop .inv)
+    (c .before .before .before .before .guest-right .ensures) (omega arith)
 
 pub guest-response-spec : {M : Type 1} → statement M
 guest-response-spec =

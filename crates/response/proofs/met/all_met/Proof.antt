@@ -52,7 +52,8 @@ unfolding metUnder
 loop-again c =
     let l = c .before .before .before .before .before in (
       search needs,
-      all-next _ _ (l .loop .inv .1) (test-is (c .before .before .task-response .ensures) (c .before .is-at .ensures) (not-false _ (c .if1 .left))),
+      all-next _ _ (l .loop .inv .1)
+          (test-is (c .before .before .task-response .ensures) (c .before .is-at .ensures) (not-false _ (c .if1 .left))),
     )
 
 returns-2 : tie.Need-returns-2 Inv-loop μ-loop

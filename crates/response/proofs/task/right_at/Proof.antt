@@ -1,4 +1,5 @@
--- `response::task::right_at` meets its contract: the parts of the equation, each as its leaf ensures it. Assumes nothing.
+-- `response::task::right_at` meets its contract: the parts of the equation, each as its leaf ensures it. Assumes
+-- nothing.
 use borrow.Author.Needs.{needs}
 use Rattle.response.specs.Columns.{guestsTake}
 use Rattle.response.proofs.GuestLaws.{take-cut}
@@ -39,7 +40,8 @@ capped-requires c κs = search needs
 returns : tie.Need-returns
 returns c =
     let s = c .before .before .before .before in
-    right-by (guestsTake _ _ _) _ _ _ _ (s .before .before .whole-of .ensures .0) (s .before .times .ensures .0) (s .rest-of .ensures)
+    right-by (guestsTake _ _ _) _ _ _ _ (s .before .before .whole-of .ensures .0) (s .before .times .ensures .0)
+    (s .rest-of .ensures)
     (c .before .before .before .wide .ensures .0) (c .before .before .times2 .ensures .0) (take-cut _ _ _ _ (c .before .asked-of .ensures))
     (c .capped .ensures)
 

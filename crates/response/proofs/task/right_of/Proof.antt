@@ -1,4 +1,5 @@
--- `response::task::right_of` meets its contract: a load past the cut is past it with all that is added to it. Assumes nothing.
+-- `response::task::right_of` meets its contract: a load past the cut is past it with all that is added to it. Assumes
+-- nothing.
 use native.Mathlib.Omega.{arith}
 use borrow.Author.Needs.{needs}
 use Rattle.equation.specs.System.{load}
@@ -17,7 +18,9 @@ returns : tie.Need-returns
 unfolding load
 returns c =
     let a = c .before .before .args in
-    right-large (columnSystem (guestsTake (a .capacities .now) (a .periods .now) (a .n)) (a .capacity) (a .period) (a .run .now) (a .every .now)) _ _ _
+    right-large
+    (columnSystem (guestsTake (a .capacities .now) (a .periods .now) (a .n)) (a .capacity) (a .period) (a .run .now) (a .every .now))
+    _ _ _
     (c .before .load-in .ensures) (c .if1 .taken)
 
 cast-right-at : tie.Need-cast-right-at
@@ -32,7 +35,9 @@ returns-2 : tie.Need-returns-2
 unfolding load
 returns-2 c =
     let a = c .before .before .before .args in
-    right-small (columnSystem (guestsTake (a .capacities .now) (a .periods .now) (a .n)) (a .capacity) (a .period) (a .run .now) (a .every .now)) _ _ _ _
+    right-small
+    (columnSystem (guestsTake (a .capacities .now) (a .periods .now) (a .n)) (a .capacity) (a .period) (a .run .now) (a .every .now))
+    _ _ _ _
     (c .before .before .load-in .ensures) (omega (arith, c .before .if1 .left)) (c .right-at .ensures)
 
 pub right-of-spec : {M : Type 1} → statement M

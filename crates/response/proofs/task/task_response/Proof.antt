@@ -1,4 +1,5 @@
--- `response::task::task_response` meets its contract: w climbs and never passes a solution, so it ends at the least one or past the room that is left. Assumes nothing.
+-- `response::task::task_response` meets its contract: w climbs and never passes a solution, so it ends at the least one
+-- or past the room that is left. Assumes nothing.
 use mathlib.Core.Path.{ap}
 use Prim.Native.Nat.{_-_}
 use native.Mathlib.Omega.{arith}
@@ -23,7 +24,9 @@ sub-gap c = search needs
 returns : tie.Need-returns Inv-loop μ-loop
 returns c =
     let a = c .before .args in
-    task-late (columnSystem (guestsTake (a .capacities .now) (a .periods .now) (a .n)) (a .capacity) (a .period) (a .run .now) (a .every .now)) _ _ (c .if1 .taken)
+    task-late
+    (columnSystem (guestsTake (a .capacities .now) (a .periods .now) (a .n)) (a .capacity) (a .period) (a .run .now) (a .every .now))
+    _ _ (c .if1 .taken)
 
 sub-room : tie.Need-sub-room Inv-loop μ-loop
 sub-room c = search needs
@@ -45,14 +48,17 @@ add-t17 c = omega (arith, c .before .before .before .loop .inv .high)
 
 returns-2 : tie.Need-returns-2 Inv-loop μ-loop
 unfolding taskUnder responseOf
-returns-2 c = ap (later _) (task-at (c .before .before .before .loop .inv) (c .before .before .right-of .ensures) (omega arith))
+returns-2 c =
+    ap (later _) (task-at (c .before .before .before .loop .inv) (c .before .before .right-of .ensures) (omega arith))
 
 wide-requires-2 : tie.Need-wide-requires-2 Inv-loop μ-loop
 wide-requires-2 c κs = search needs
 
 returns-3 : tie.Need-returns-3 Inv-loop μ-loop
 unfolding taskUnder responseOf
-returns-3 c = ap (later _) (task-none (c .before .before .before .before .before .loop .inv) (c .before .before .before .before .right-of .ensures) (omega arith))
+returns-3 c =
+    ap (later _)
+    (task-none (c .before .before .before .before .before .loop .inv) (c .before .before .before .before .right-of .ensures) (omega arith))
 
 cast-w : tie.Need-cast-w Inv-loop μ-loop
 cast-w c = search needs
@@ -61,7 +67,9 @@ loop-less : tie.Need-loop-less Inv-loop μ-loop
 loop-less c = search needs
 
 loop-again : tie.Need-loop-again Inv-loop μ-loop
-loop-again c = task-turn (c .before .before .before .before .before .loop .inv) (c .before .before .before .before .right-of .ensures) (omega arith)
+loop-again c =
+    task-turn (c .before .before .before .before .before .loop .inv)
+    (c .before .before .before .before .right-of .ensures) (omega arith)
 
 pub task-response-spec : {M : Type 1} → statement M
 task-response-spec =

@@ -1,4 +1,5 @@
--- `response::task::whole_of` meets its contract: a load of at least 1 takes at least one server period, and no more periods than ticks. Assumes nothing.
+-- `response::task::whole_of` meets its contract: a load of at least 1 takes at least one server period, and no more
+-- periods than ticks. Assumes nothing.
 use native.Mathlib.Omega.{arith}
 use borrow.Author.Needs.{needs}
 use Rattle.rounding.proofs.Up.{blocks, up-le}
@@ -9,7 +10,8 @@ quotient-requires : tie.Need-quotient-requires
 quotient-requires c κs = search needs
 
 sub-result : tie.Need-sub-result
-sub-result c = omega (arith, blocks (c .before .args .load) (c .before .args .capacity) (c .before .pre .1) (c .before .pre .0) .count)
+sub-result c =
+    omega (arith, blocks (c .before .args .load) (c .before .args .capacity) (c .before .pre .1) (c .before .pre .0) .count)
 
 returns : tie.Need-returns
 returns c = (search needs, omega (arith, up-le (c .before .args .load) (c .before .args .capacity)))

@@ -1,4 +1,5 @@
--- `verdict::judge::judge_task` meets its contract: unjudged under an unfit guest, else by the recurrence up to the task's period. Assumes nothing.
+-- `verdict::judge::judge_task` meets its contract: unjudged under an unfit guest, else by the recurrence up to the
+-- task's period. Assumes nothing.
 use mathlib.Core.Path.{sym, _∙_}
 use native.Mathlib.Omega.{arith}
 use borrow.Author.Needs.{needs}
@@ -35,7 +36,9 @@ task-response-requires c κs =
     let test = filled .before in
     let s = test .before .before .before .before .pre in (
       (omega (arith, s .0 .place), omega (arith, s .1, s .0 .runs .few)),
-      stands-ready _ _ _ _ (s .0) (stands-fits _ _ _ _ (s .0) (sym (test .before .all-fitted .ensures) ∙ not-false _ (test .if1 .left))) _ (filled .charged-of .ensures) _ (s .1),
+      stands-ready _ _ _ _ (s .0)
+          (stands-fits _ _ _ _ (s .0) (sym (test .before .all-fitted .ensures) ∙ not-false _ (test .if1 .left))) _
+          (filled .charged-of .ensures) _ (s .1),
     )
 
 mul-met-or-not : tie.Need-mul-met-or-not

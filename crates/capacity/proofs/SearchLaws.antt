@@ -1,4 +1,5 @@
--- Fitted capacities are closed downward, and below a fitted one more capacity is never worse; so capacities can be halved. Assumes nothing.
+-- Fitted capacities are closed downward, and below a fitted one more capacity is never worse; so capacities can be
+-- halved. Assumes nothing.
 use mathlib.Core.Path.{_≡_, refl, sym, _∙_, ap, fun-ext}
 use mathlib.Core.Bool.{Bool, true, false, _&&_}
 use mathlib.Core.List.{List}
@@ -16,10 +17,12 @@ use Rattle.plan.specs.Charge.{charged}
 use Rattle.plan.specs.Filled.{Filled}
 use Rattle.plan.specs.declared.Guest.{Guest}
 use Rattle.response.specs.Columns.{columnSystem, metUnder, acceptedIn, acceptedUnder}
-use Rattle.capacity.specs.declared.search.Trial.{Trial}
-use Rattle.capacity.specs.declared.search.Trial.the-variants.{Unfit, Unmet, Works}
+use Rattle.response.specs.declared.trial.Trial.{Trial}
+use Rattle.response.specs.declared.trial.Trial.the-variants.{Unfit, Unmet, Works}
 use Rattle.capacity.specs.Capacity.{atCapacity}
-use Rattle.capacity.specs.Trial.{Run, fitsAt, worksAt, trialBy, trialOf, orAt}
+use Rattle.capacity.specs.Search.{fitsAt, worksAt, orAt}
+use Rattle.response.specs.Ready.{RunsTo}
+use Rattle.response.specs.Trial.{trialOf}
 use Rattle.lists.proofs.All.{and-left, and-right, and-true, and-false-left, all-at, all-by}
 use Rattle.lists.proofs.Search.{at-of, is-at, least-is}
 use Rattle.equation.proofs.Solve.{solve-at, solve-by, Solved, solve-answers}
@@ -30,10 +33,11 @@ use Rattle.equation.proofs.Halve.{Halving, halve-left, halve-right, halve-lower
 use Rattle.rounding.proofs.Asked.{asked-le}
 use Rattle.response.proofs.GuestLaws.{response-says}
 use Rattle.response.proofs.TaskLaws.{regular}
-use Rattle.response.proofs.ReadyLaws.{met-is}
+use Rattle.response.proofs.ReadyLaws.{accepted-column}
+use Rattle.response.proofs.TrialLaws.{trial-unfit, trial-unmet, trial-works}
 
 module _ (above : ℕ → ℕ) (g : Grows above) (period : ℕ) where
-  -- fitted at a capacity, so fitted at each smaller one
+  -- a guest that is fitted at a capacity is fitted at each smaller one
   pub fits-down : (c c′ : ℕ) → 1 ≤ c → c ≤ c′ → fitsAt above period c′ ≡ true → fitsAt above period c ≡ true
   unfolding fitsAt guestUnder guestSide
   fits-down c c′ pos le e =
@@ -61,17 +65,20 @@ module _ (above : ℕ → ℕ) (g : Grows above) (period : ℕ) (run every : Lis
   load-less : (c c′ : ℕ) → c ≤ c′ → (u w : ℕ) → u ≤ w
       → load (columnSystem above c′ period run every) i u ≤ load (columnSystem above c period run every) i w
   unfolding load
-  load-less c c′ le u w h = omega (arith, asked-le (nth run) (nth every) (λ j. period - c′) (λ j. period - c) i u w (λ j l. omega arith))
+  load-less c c′ le u w h =
+      omega (arith, asked-le (nth run) (nth every) (λ j. period - c′) (λ j. period - c) i u w (λ j l. omega arith))
 
-  -- met at a capacity, so met at each larger one that is fitted, with no larger response
-  pub met-up : (c c′ d r : ℕ) → 1 ≤ c → c ≤ c′ → fitsAt above period c′ ≡ true → taskUnder (columnSystem above c period run every) i d ≡ At r
+  -- a task that is met at a capacity is met at each larger one that is fitted, with no larger response
+  pub met-up : (c c′ d r : ℕ) → 1 ≤ c → c ≤ c′ → fitsAt above period c′ ≡ true
+      → taskUnder (columnSystem above c period run every) i d ≡ At r
       → (r′ : ℕ) × (taskUnder (columnSystem above c′ period run every) i d ≡ At r′) × (r′ ≤ r)
   unfolding taskUnder responseOf fitsAt
   met-up c c′ d r pos le fit e =
       let S = columnSystem above c period run every in
       let S′ = columnSystem above c′ period run every in
       let w = window-of (period - c) r (solve (right S i) (d - (period - c))) e in
-      let s : Solved (right S i) (d - (period - c)) (w .0) = rw (w .1) at (solve-answers (right S i) (d - (period - c))) in
+      let s : Solved (right S i) (d - (period - c)) (w .0) =
+      rw (w .1) at (solve-answers (right S i) (d - (period - c))) in
       let within : c′ ≤ period = fits-within above g period c′ fit in
       let sure = regular S′ g i record { some = omega arith; within = within; fits = fit; runs = runs } in
       let y = no-later S S′ i (sure .0) (w .0)
@@ -79,117 +86,92 @@ module _ (above : ℕ → ℕ) (g : Grows above) (period : ℕ) (run every : Lis
       (sure .1)
       record { period = refl; capacity = le; above = λ v. le-refl (above v); load = λ u h. load-less c c′ le u (w .0) h }
       (s .low) in
-      let found = solve-by (right S′ i) (d - (period - c′)) (y .0) (omega (arith, right-past S′ i (sure .0) (sure .1) (y .0), y .2)) (omega (arith, y .1, s .high)) (y .2) in
+      let found = solve-by (right S′ i) (d - (period - c′)) (y .0)
+      (omega (arith, right-past S′ i (sure .0) (sure .1) (y .0), y .2)) (omega (arith, y .1, s .high)) (y .2) in
       (found .0 + (period - c′), ap (later (period - c′)) (found .1), omega (arith, found .2, y .1, w .2))
 
--- so capacities can be halved
-pub halving : (above : ℕ → ℕ) → Grows above → (period : ℕ) (run every deadline : List ℕ) (tasks : ℕ) → Run run tasks
+-- capacities can be halved
+pub halving : (above : ℕ → ℕ) → Grows above → (period : ℕ) (run every deadline : List ℕ) (tasks : ℕ) → RunsTo run tasks
     → Halving (fitsAt above period) (worksAt above period run every deadline tasks)
-unfolding worksAt metUnder
+unfolding worksAt acceptedIn fitsAt metUnder
 halving above g period run every deadline tasks runs = record {
   fits = λ a w. and-left (fitsAt above period a) _ w;
   down = λ a b pos le f. fits-down above g period a b pos le f;
   grow = λ a b pos le w f. and-true f
       (all-by (λ i. isAt (taskUnder (columnSystem above b period run every) i (nth deadline i))) tasks (λ i h. (
-      let m = at-of _ (all-at (λ i. isAt (taskUnder (columnSystem above a period run every) i (nth deadline i))) tasks i h (and-right (fitsAt above period a) _ w)) in
+      let m = at-of _
+      (all-at (λ i. isAt (taskUnder (columnSystem above a period run every) i (nth deadline i))) tasks i h (and-right (fitsAt above period a) _ w))
+      in
       is-at (met-up above g period run every i (runs i h) a b (nth deadline i) (m .0) pos le f (m .1) .1))));
 }
 
--- a trial, by what its two tests come to
-pub trial-is : (above : ℕ → ℕ) (period : ℕ) (run every deadline : List ℕ) (tasks c : ℕ) {a b : Bool}
-    → fitsAt above period c ≡ a → metUnder (columnSystem above c period run every) (nth deadline) tasks ≡ b → trialBy a b ≡ trialOf above period run every deadline tasks c
-unfolding trialOf
-trial-is above period run every deadline tasks c e q = rw (e, q) refl
-
--- what each trial says of its two tests
-record Tells (fit met : Bool) : Type 0 where
-  unfit : trialBy fit met ≡ Unfit → fit ≡ false
-  unmet : trialBy fit met ≡ Unmet → (fit ≡ true) × ((fit && met) ≡ false)
-  works : trialBy fit met ≡ Works → (fit && met) ≡ true
-
--- by cases
-tells : (fit met : Bool) → Tells fit met
-unfolding trialBy
-tells false met =
-    record {
-      unfit = λ e. refl;
-      unmet = λ e. absurd (let z : _≡_ {A = ℕ} 0 1 = cc in omega arith);
-      works = λ e. absurd (let z : _≡_ {A = ℕ} 0 1 = cc in omega arith);
-    }
-tells true false =
-    record {
-      unfit = λ e. absurd (let z : _≡_ {A = ℕ} 0 1 = cc in omega arith);
-      unmet = λ e. (refl, refl);
-      works = λ e. absurd (let z : _≡_ {A = ℕ} 0 1 = cc in omega arith);
-    }
-tells true true =
-    record {
-      unfit = λ e. absurd (let z : _≡_ {A = ℕ} 0 1 = cc in omega arith);
-      unmet = λ e. absurd (let z : _≡_ {A = ℕ} 0 1 = cc in omega arith);
-      works = λ e. refl;
-    }
-
 -- a halving's three turns, by the trial of the middle
-module _ (above : ℕ → ℕ) (g : Grows above) (period : ℕ) (run every deadline : List ℕ) (tasks : ℕ) (runs : Run run tasks)
-    (lo mid hi : ℕ) (pos : 1 ≤ lo) (l : lo ≤ mid) (h : mid < hi) {t : Trial} (e : t ≡ trialOf above period run every deadline tasks mid) where
+module _ (above : ℕ → ℕ) (g : Grows above) (period : ℕ) (run every deadline : List ℕ) (tasks : ℕ)
+    (runs : RunsTo run tasks)
+    (lo mid hi : ℕ) (pos : 1 ≤ lo) (l : lo ≤ mid) (h : mid < hi) {t : Trial}
+    (e : t ≡ trialOf (columnSystem above mid period run every) (nth deadline) tasks) where
   -- the fitted and the working capacities can be halved
   good : Halving (fitsAt above period) (worksAt above period run every deadline tasks)
   good = halving above g period run every deadline tasks runs
 
-  -- the two tests of the middle
-  said : Tells (fitsAt above period mid) (metUnder (columnSystem above mid period run every) (nth deadline) tasks)
-  said = tells (fitsAt above period mid) (metUnder (columnSystem above mid period run every) (nth deadline) tasks)
-
-  -- unfit: to the left
+  -- the middle is unfit: the answer is to the left
   pub turn-left :
       t ≡ Unfit
       → {r : Found}
       → r ≡ least (worksAt above period run every deadline tasks) (mid - lo) lo
       → r ≡ least (worksAt above period run every deadline tasks) (hi - lo) lo
-  unfolding trialOf
-  turn-left q k = k ∙ halve-left (fitsAt above period) (worksAt above period run every deadline tasks) good lo mid hi pos l h (said .unfit (sym e ∙ q))
+  unfolding fitsAt
+  turn-left q k =
+      k
+      ∙ halve-left (fitsAt above period) (worksAt above period run every deadline tasks) good lo mid hi pos l h (trial-unfit _ _ _ e q)
 
-  -- fitted and not all met: to the right
+  -- the middle is fitted and not all tasks are met: the answer is to the right
   pub turn-right :
       t ≡ Unmet
       → {r : Found}
       → r ≡ least (worksAt above period run every deadline tasks) (hi - (mid + 1)) (mid + 1)
       → r ≡ least (worksAt above period run every deadline tasks) (hi - lo) lo
-  unfolding trialOf worksAt
+  unfolding fitsAt worksAt
   turn-right q k =
-      let s = said .unmet (sym e ∙ q) in
-      k ∙ halve-right (fitsAt above period) (worksAt above period run every deadline tasks) good lo mid hi pos l h (s .0) (s .1)
+      let s = trial-unmet _ _ _ e q in
+      k
+      ∙ halve-right (fitsAt above period) (worksAt above period run every deadline tasks) good lo mid hi pos l h (s .0) (s .1)
 
-  -- it works: to the left, or else here
+  -- the middle works: the answer is to the left, or else here
   pub turn-here :
       t ≡ Works
       → {r s : Found}
       → r ≡ least (worksAt above period run every deadline tasks) (mid - lo) lo
       → s ≡ orAt r mid
       → s ≡ least (worksAt above period run every deadline tasks) (hi - lo) lo
-  unfolding trialOf worksAt
-  turn-here q {r} {s} k o = o ∙ ap (λ (f : Found). orAt f mid) k ∙ go (least (worksAt above period run every deadline tasks) (mid - lo) lo) refl
+  unfolding worksAt
+  turn-here q {r} {s} k o =
+      o ∙ ap (λ (f : Found). orAt f mid) k
+      ∙ go (least (worksAt above period run every deadline tasks) (mid - lo) lo) refl
     where
       go :
           (f : Found)
           → least (worksAt above period run every deadline tasks) (mid - lo) lo ≡ f
           → orAt f mid ≡ least (worksAt above period run every deadline tasks) (hi - lo) lo
-      go Nothing a = halve-here (fitsAt above period) (worksAt above period run every deadline tasks) good lo mid hi pos l h (said .works (sym e ∙ q)) a
-      go (At y) a = halve-lower (fitsAt above period) (worksAt above period run every deadline tasks) good lo mid hi pos l h a
+      go Nothing a =
+          halve-here (fitsAt above period) (worksAt above period run every deadline tasks) good lo mid hi pos l h
+          (trial-works _ _ _ e q) a
+      go (At y) a =
+          halve-lower (fitsAt above period) (worksAt above period run every deadline tasks) good lo mid hi pos l h a
 
 -- what the columns of a guest's tasks come to at capacity c is what the guest comes to with it
 pub works-is : (above : ℕ → ℕ) (g : Guest) (run : List ℕ) → Filled run (charged g) (g .tasks) → (c : ℕ)
     → worksAt above (g .period) run (g .every) (g .deadline) (g .tasks) c ≡ acceptedUnder above (atCapacity g c)
-unfolding worksAt fitsAt acceptedIn
-works-is above g run f c =
-    ap (λ (b : Bool). isAt (guestUnder above c (g .period)) && b) (met-is above (atCapacity g c) run record { long = f .long; holds = f .holds })
+unfolding worksAt
+works-is above g run f c = accepted-column above (atCapacity g c) run record { long = f .long; holds = f .holds }
 
 -- a guest above is unfit: nothing works
 pub above-unfit : {b : Bool} (f : ℕ → Bool) (n : ℕ) → b ≡ false → Nothing ≡ least (λ c. b && f c) n 1
 above-unfit f n e = least-is _ n 1 Nothing record { never = λ z h k. and-false-left (f z) e }
 
 -- all above are fitted: what works off the columns works
-pub above-fitted : {b : Bool} {f g : ℕ → Bool} {r : Found} (n : ℕ) → b ≡ true → ((c : ℕ) → f c ≡ g c) → r ≡ least f (n + 1 - 1) 1 → r ≡ least (λ c. b && g c) n 1
+pub above-fitted : {b : Bool} {f g : ℕ → Bool} {r : Found} (n : ℕ) → b ≡ true → ((c : ℕ) → f c ≡ g c)
+    → r ≡ least f (n + 1 - 1) 1 → r ≡ least (λ c. b && g c) n 1
 above-fitted {b} {f} {g} n e h q =
     let m : n + 1 - 1 ≡ n = omega arith in
     rw e (rw (m, fun-ext h) at q)
