@@ -11,7 +11,7 @@ use Rattle.lists.specs.Search.{firstFrom}
 use Rattle.plan.specs.Charge.{chargedRun}
 use Rattle.plan.specs.First.{orElse, firstRefused}
 use Rattle.plan.specs.Order.{newId, numberOf, guestNumber, countedBy, planRefusal}
-use Rattle.plan.specs.Place.{placeOf}
+use Rattle.plan.specs.Place.{placeOf, hasGuest, hasTask}
 use Rattle.plan.specs.Ranges.{headOk, taskOk, tasksOk}
 use Rattle.plan.specs.declared.Plan.{Plan}
 use Rattle.dispatcher.specs.Answer.{marginOf, answerBy, answer, finishes}
@@ -77,5 +77,5 @@ late-margin = refl
 
 -- Case 7: the guest 1/1000 is fitted, but its task is not quoted; released at tick 0, it is turned away at tick 10, though its period has passed.
 pub case-7-turned-away : release (run (release (fresh planD .state) 7 1 .state) 10 .state) 7 1 .refusal .number ≡ 10
-unfolding allTo upTo unless refusal firstFrom chargedRun orElse firstRefused newId numberOf guestNumber countedBy planRefusal placeOf headOk taskOk tasksOk marginOf answerBy answer finishes ranBy run idle startedBy fresh taken releaseNumber releasedBy release runFrom runFor lessAt refilled holder isHeld leftAfter worker isWorked restAfter ageAfter waitAfter positionAfter next tasksIn guestInRange taskInRange rowOk stateOk
+unfolding allTo upTo unless refusal firstFrom chargedRun orElse firstRefused newId numberOf guestNumber countedBy planRefusal placeOf hasGuest hasTask headOk taskOk tasksOk marginOf answerBy answer finishes ranBy run idle startedBy fresh taken releaseNumber releasedBy release runFrom runFor lessAt refilled holder isHeld leftAfter worker isWorked restAfter ageAfter waitAfter positionAfter next tasksIn guestInRange taskInRange rowOk stateOk
 case-7-turned-away = refl
