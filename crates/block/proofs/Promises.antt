@@ -7,7 +7,7 @@ use Rattle.plan.specs.declared.Refusal.{Refusal}
 use Rattle.block.specs.Promises.{Writes}
 use Rattle.plan.proofs.Promises.{one-outcome}
 
--- write: one refusal and one content of the lent bytes
+-- `write` has one refusal and leaves one content of the lent bytes.
 pub writes-once :
     (g : Guest) (p : ℕ) (before : List ℕ) (r s : Refusal) (x y : List ℕ)
     → Writes g p before r x

@@ -17,53 +17,54 @@ use Rattle.lists.proofs.All.{and-left, all-at}
 use Rattle.lists.proofs.Table.{table-at}
 use Rattle.lists.proofs.Refusals.{none-left, go-on, stop, passed}
 
--- the number, by the tests that led to it
+-- The number that a block is refused by, from the tests that led to it.
 module _ (b : List ℕ) (p : ℕ) (new : Bool) where
-  -- the words do not sum to zero
+  -- The words do not sum to zero.
   pub two : sumsToZero b ≡ false → 2 ≡ blockNumber b p new
   unfolding blockNumber
   two e = sym (stop 2 _ e)
 
   module _ (s : sumsToZero b ≡ true) where
-    -- the kind or the place is another
+    -- The kind or the place is another.
     pub three : (kindOk b && ownPlace b p) ≡ false → 3 ≡ blockNumber b p new
     unfolding blockNumber
     three e = sym (go-on 2 _ s ∙ stop 3 _ e)
 
     module _ (k : (kindOk b && ownPlace b p) ≡ true) where
-      -- the head is out of range, or the id is not new
+      -- The head is out of range, or the id is not new.
       pub four : (guestOk (guestOf b) && new) ≡ false → 4 ≡ blockNumber b p new
       unfolding blockNumber
       four e = sym (go-on 2 _ s ∙ go-on 3 _ k ∙ stop 4 _ e)
 
       module _ (h : (guestOk (guestOf b) && new) ≡ true) where
-        -- a byte that must be zero is not
+        -- A byte that must be zero is not.
         pub five : zerosOk b ≡ false → 5 ≡ blockNumber b p new
         unfolding blockNumber
         five e = sym (go-on 2 _ s ∙ go-on 3 _ k ∙ go-on 4 _ h ∙ stop 5 _ e)
 
         module _ (z : zerosOk b ≡ true) where
-          -- a task is out of range
+          -- A task is out of range.
           pub six : tasksOk (guestOf b) ≡ false → 6 ≡ blockNumber b p new
           unfolding blockNumber
           six e = sym (go-on 2 _ s ∙ go-on 3 _ k ∙ go-on 4 _ h ∙ go-on 5 _ z ∙ stop 6 _ e)
 
-          -- nothing is refused
+          -- Nothing is refused.
           pub none : tasksOk (guestOf b) ≡ true → 0 ≡ blockNumber b p new
           unfolding blockNumber
           none e = sym (go-on 2 _ s ∙ go-on 3 _ k ∙ go-on 4 _ h ∙ go-on 5 _ z ∙ go-on 6 _ e ∙ none-left)
 
--- so there are at most 16 tasks where the head passes
+-- Where the head passes there are at most 16 tasks.
 pub few-in-block : (b : List ℕ) (new : Bool) → (guestOk (guestOf b) && new) ≡ true → taskCount b ≤ mostTasks
 few-in-block b new e = head-says _ _ _ _ (and-left (guestOk (guestOf b)) new e) .few
 
--- the tasks' test on columns that are the block's
-pub tasks-are : (b r e d : List ℕ) (n : ℕ) → r ≡ column b runWord → e ≡ column b everyWord → d ≡ column b deadlineWord → n ≡ taskCount b
+-- The tasks' test on columns that are the block's.
+pub tasks-are : (b r e d : List ℕ) (n : ℕ) → r ≡ column b runWord → e ≡ column b everyWord → d ≡ column b deadlineWord
+    → n ≡ taskCount b
     → allTo (λ i. taskOk (nth r i) (nth e i) (nth d i)) n ≡ tasksOk (guestOf b)
 unfolding tasksOk
 tasks-are b r e d n p q s t = rw (p, q, s, t) refl
 
--- a block that no number refuses passes every test
+-- A block that no number refuses passes every test.
 pub record BlockIn (b : List ℕ) (p : ℕ) (new : Bool) : Type 0 where
   pub sums : sumsToZero b ≡ true
   pub opens : (kindOk b && ownPlace b p) ≡ true
@@ -81,14 +82,15 @@ block-in b p new e =
     let a6 = passed (tasksOk (guestOf b)) 6 [] (omega arith) (a5 .1) in
     record { sums = a2 .0; opens = a3 .0; heads = a4 .0; zeros = a5 .0; tasks = a6 .0 }
 
--- a word that must be zero is
+-- A word that must be zero is.
 pub zero-at : (b : List ℕ) (from to k : ℕ) → from ≤ k → k < to → zeroBetween b from to ≡ true → word b k ≡ 0
 unfolding zeroBetween
 zero-at b from to k l h e =
     let q : from + (k - from) ≡ k = omega arith in
-    rw q at (eqb-true (word b (from + (k - from))) 0 (all-at (λ i. eqb (word b (from + i)) 0) (to - from) (k - from) (omega arith) e))
+    rw q at
+    (eqb-true (word b (from + (k - from))) 0 (all-at (λ i. eqb (word b (from + i)) 0) (to - from) (k - from) (omega arith) e))
 
--- a column's number
+-- A column's number.
 pub column-at : (b : List ℕ) (at : ℕ → ℕ) (i : ℕ) → i < mostTasks → nth (column b at) i ≡ word b (at i)
 unfolding column
 column-at b at i h = table-at (λ k. word b (at k)) 0 mostTasks i h

@@ -21,7 +21,7 @@ use Rattle.lists.proofs.Sum.{sum-last}
 use Rattle.block.proofs.Reading.{zero-at, column-at}
 
 -- A word is its four bytes, least first.
-word-bytes : (b : List ℕ) (k : ℕ) → word b k ≡ u32At b (4 * k)
+pub word-bytes : (b : List ℕ) (k : ℕ) → word b k ≡ u32At b (4 * k)
 unfolding word
 word-bytes b k = refl
 
@@ -31,10 +31,12 @@ low-bytes b k h = omega (arith, word-bytes b k, h (4 * k), h (4 * k + 1))
 
 -- The high half of a word is its other two bytes.
 high-bytes : (b : List ℕ) (k : ℕ) → Bytes b → highHalf (word b k) ≡ u16At b (4 * k + 2)
-high-bytes b k h = let e : 4 * k + 2 + 1 ≡ 4 * k + 3 = omega arith in rw e (omega (arith, word-bytes b k, h (4 * k), h (4 * k + 1)))
+high-bytes b k h =
+    let e : 4 * k + 2 + 1 ≡ 4 * k + 3 = omega arith in rw e (omega (arith, word-bytes b k, h (4 * k), h (4 * k + 1)))
 
 -- A number of entry i stands where its word does.
-entry-bytes : (b : List ℕ) (at : ℕ → ℕ) (from i : ℕ) → i < mostTasks → 4 * at i ≡ from + 12 * i → nth (column b at) i ≡ u32At b (from + 12 * i)
+entry-bytes : (b : List ℕ) (at : ℕ → ℕ) (from i : ℕ) → i < mostTasks → 4 * at i ≡ from + 12 * i
+    → nth (column b at) i ≡ u32At b (from + 12 * i)
 entry-bytes b at from i h e = column-at b at i h ∙ rw (← e) (word-bytes b (at i))
 
 -- Where a word is zero, each of its bytes is.
@@ -49,7 +51,7 @@ byte-of : (b : List ℕ) (i : ℕ) → word b (i / 4) ≡ 0 → nth b i ≡ 0
 byte-of b i e = let q : 4 * (i / 4) + i % 4 ≡ i = omega arith in rw q at (byte-at b (i / 4) (i % 4) (omega arith) e)
 
 -- The words from one on, up to another, are zero exactly when their bytes are.
-zero-bytes : (b : List ℕ) (from to : ℕ) → (zeroBetween b from to ≡ true) exactlyWhen ZeroBytes b (4 * from) (4 * to)
+pub zero-bytes : (b : List ℕ) (from to : ℕ) → (zeroBetween b from to ≡ true) exactlyWhen ZeroBytes b (4 * from) (4 * to)
 unfolding zeroBetween
 zero-bytes b from to = (
   λ e i l h. byte-of b i (zero-at b from to (i / 4) (omega arith) (omega arith) e),
@@ -57,7 +59,12 @@ zero-bytes b from to = (
       all-by _ (to - from) (λ k l.
       eq-eqb (word b (from + k)) 0
       (word-bytes b (from + k)
-      ∙ rw (h (4 * (from + k)) (omega arith) (omega arith), h (4 * (from + k) + 1) (omega arith) (omega arith), h (4 * (from + k) + 2) (omega arith) (omega arith), h (4 * (from + k) + 3) (omega arith) (omega arith)) refl)),
+      ∙ rw (
+        h (4 * (from + k)) (omega arith) (omega arith),
+        h (4 * (from + k) + 1) (omega arith) (omega arith),
+        h (4 * (from + k) + 2) (omega arith) (omega arith),
+        h (4 * (from + k) + 3) (omega arith) (omega arith),
+      ) refl)),
 )
 
 -- The bytes that must be zero: the words past the tasks are the entries past them and the bytes past the entries.
@@ -81,7 +88,8 @@ zeros-stand b few =
     )
 
 -- The sum of all words is that of the words before the check, and the check.
-sum-with-check : (b : List ℕ) → wrapped (word b) blockWords ≡ (sumTo (λ k. u32At b (4 * k)) checkWord + u32At b (4 * checkWord)) % wordWrap
+sum-with-check : (b : List ℕ)
+    → wrapped (word b) blockWords ≡ (sumTo (λ k. u32At b (4 * k)) checkWord + u32At b (4 * checkWord)) % wordWrap
 unfolding word
 sum-with-check b = rw (sum-last (word b) checkWord) refl
 

@@ -20,48 +20,50 @@ use Rattle.words.proofs.Bytes.{put-set, bytes-zeros}
 use Rattle.words.proofs.Wrap.{wrapped-bytes}
 use Rattle.lists.proofs.Refusals.{none-left, go-on, stop, passed}
 
--- the writer's number, by the tests that led to it
+-- The writer's number, by the tests that led to it.
 module _ (g : Guest) (p n : ℕ) where
-  -- the buffer is short
+  -- The buffer is short.
   pub twelve : n < blockSize → 12 ≡ writeNumber g p n
   unfolding writeNumber
   twelve h = sym (stop 12 _ (lt-leb blockSize n h))
 
   module _ (h : blockSize ≤ n) where
-    -- the place is above 7
+    -- The place is above 7.
     pub three : lastPlace < p → 3 ≡ writeNumber g p n
     unfolding writeNumber
     three l = sym (go-on 12 _ (le-leb blockSize n h) ∙ stop 3 _ (lt-leb p lastPlace l))
 
     module _ (l : p ≤ lastPlace) where
-      -- the head is out of range
+      -- The head is out of range.
       pub four : guestOk g ≡ false → 4 ≡ writeNumber g p n
       unfolding writeNumber
       four e = sym (go-on 12 _ (le-leb blockSize n h) ∙ go-on 3 _ (le-leb p lastPlace l) ∙ stop 4 _ e)
 
       module _ (o : guestOk g ≡ true) where
-        -- a task is out of range
+        -- A task is out of range.
         pub six : tasksOk g ≡ false → 6 ≡ writeNumber g p n
         unfolding writeNumber
         six e = sym (go-on 12 _ (le-leb blockSize n h) ∙ go-on 3 _ (le-leb p lastPlace l) ∙ go-on 4 _ o ∙ stop 6 _ e)
 
-        -- nothing is refused
+        -- Nothing is refused.
         pub none : tasksOk g ≡ true → 0 ≡ writeNumber g p n
         unfolding writeNumber
-        none e = sym (go-on 12 _ (le-leb blockSize n h) ∙ go-on 3 _ (le-leb p lastPlace l) ∙ go-on 4 _ o ∙ go-on 6 _ e ∙ none-left)
+        none e =
+            sym
+            (go-on 12 _ (le-leb blockSize n h) ∙ go-on 3 _ (le-leb p lastPlace l) ∙ go-on 4 _ o ∙ go-on 6 _ e ∙ none-left)
 
--- a refusal writes nothing
+-- A refusal writes nothing.
 pub by-refused : (x : ℕ) (block before : List ℕ) → 0 < x → before ≡ writtenBy x block before
 unfolding writtenBy
 by-refused zero block before h = absurd (omega arith)
 by-refused (suc n) block before h = refl
 
--- number 0: the block is written
+-- Number 0: the block is written.
 pub by-none : (x : ℕ) (block before : List ℕ) → x ≡ 0 → block ++ drop blockSize before ≡ writtenBy x block before
 unfolding writtenBy
 by-none x block before e = rw e refl
 
--- a record that the writer does not refuse is in its ranges, and there is room for its block
+-- A record that the writer does not refuse is in its ranges, and there is room for its block.
 pub record WriteIn (g : Guest) (p n : ℕ) : Type 0 where
   pub room : blockSize ≤ n
   pub low : p ≤ lastPlace
@@ -77,7 +79,7 @@ write-in g p n e =
     let a6 = passed (tasksOk g) 6 [] (omega arith) (a4 .1) in
     record { room = leb-true blockSize n (a12 .0); low = leb-true p lastPlace (a3 .0); head = a4 .0; tasks = a6 .0 }
 
--- putting numbers in keeps the length
+-- Putting numbers in keeps the length.
 pub head-length : (g : Guest) (p : ℕ) (x : List ℕ) → length (withHead g p x) ≡ length x
 unfolding withHead
 head-length g p x = simp length-set
@@ -87,25 +89,28 @@ unfolding withEntries withEntry
 entries-length r e d zero x = refl
 entries-length r e d (suc n) x = simp length-set (entries-length r e d n x)
 
--- a loop's turn: one entry more
+-- A loop's turn: one entry more.
 pub entries-next : (r e d : List ℕ) (n : ℕ) (x₀ x : List ℕ) → x ≡ withEntries r e d n x₀
     → withEntry n (nth r n) (nth e n) (nth d n) x ≡ withEntries r e d (n + 1) x₀
 unfolding withEntries
 entries-next r e d n x₀ x h = rw (h, add-one) refl
 
--- the bytes of a block's words x before bytes t
+-- The bytes of a block's words x before bytes t.
 abbrev pub laid : List ℕ → List ℕ → List ℕ
 laid x t = bytesOf (nth x) blockWords ++ t
 
--- 512 zero bytes are zero words
+-- 512 zero bytes are zero words.
 pub zeros-laid : (t : List ℕ) → replicate blockSize 0 ++ t ≡ laid (replicate blockWords 0) t
-zeros-laid t = ap (λ (b : List ℕ). b ++ t) (bytes-zeros (nth (replicate blockWords 0)) blockWords (λ k l. getD-replicate blockWords k 0 0 l))
+zeros-laid t =
+    ap (λ (b : List ℕ). b ++ t)
+    (bytes-zeros (nth (replicate blockWords 0)) blockWords (λ k l. getD-replicate blockWords k 0 0 l))
 
--- a word put into them
-put-laid : (x t b c : List ℕ) (k w : ℕ) → length x ≡ blockWords → k < blockWords → b ≡ laid x t → c ≡ withWord b k w → c ≡ laid (set x k w) t
+-- A word put into them.
+put-laid : (x t b c : List ℕ) (k w : ℕ) → length x ≡ blockWords → k < blockWords → b ≡ laid x t → c ≡ withWord b k w
+    → c ≡ laid (set x k w) t
 put-laid x t b c k w l h e q = q ∙ ap (λ (y : List ℕ). withWord y k w) e ∙ put-set x blockWords k w t l h
 
--- the head put into them, one word after the other
+-- The head put into them, one word after the other.
 pub head-puts :
     (g : Guest) (p : ℕ) (b z b0 b1 b2 b3 b4 : List ℕ)
     → z ≡ replicate blockSize 0 ++ drop blockSize b
@@ -128,19 +133,20 @@ head-puts g p b z b0 b1 b2 b3 b4 e e0 e1 e2 e3 e4 =
     let l1 : length x1 ≡ blockWords = length-set x0 idWord (g .id) ∙ l0 in
     let l2 : length x2 ≡ blockWords = length-set x1 capacityWord (g .capacity) ∙ l1 in
     let l3 : length x3 ≡ blockWords = length-set x2 periodWord (g .period) ∙ l2 in
-    let f0 : b0 ≡ laid x0 t = put-laid x t z b0 kindPlaceWord (halves guestKind p) l (omega arith) (e ∙ zeros-laid t) e0 in
+    let f0 : b0 ≡ laid x0 t =
+    put-laid x t z b0 kindPlaceWord (halves guestKind p) l (omega arith) (e ∙ zeros-laid t) e0 in
     let f1 : b1 ≡ laid x1 t = put-laid x0 t b0 b1 idWord (g .id) l0 (omega arith) f0 e1 in
     let f2 : b2 ≡ laid x2 t = put-laid x1 t b1 b2 capacityWord (g .capacity) l1 (omega arith) f1 e2 in
     let f3 : b3 ≡ laid x3 t = put-laid x2 t b2 b3 periodWord (g .period) l2 (omega arith) f2 e3 in
     put-laid x3 t b3 b4 tasksChargeWord (halves (g .tasks) (g .charge)) l3 (omega arith) f3 e4
 
--- three words put in, one after the other
+-- Three words put in, one after the other.
 pub put-three :
     (b b1 b2 b3 : List ℕ) (i j k v w z : ℕ) → b1 ≡ withWord b i v → b2 ≡ withWord b1 j w → b3 ≡ withWord b2 k z
     → b3 ≡ withWord (withWord (withWord b i v) j w) k z
 put-three b b1 b2 b3 i j k v w z p q r = rw (← p, ← q) r
 
--- an entry put into the bytes
+-- An entry put into the bytes.
 entry-laid :
     (i r e d : ℕ) (x t : List ℕ) → i < mostTasks → length x ≡ blockWords
     → withWord (withWord (withWord (laid x t) (runWord i) r) (everyWord i) e) (deadlineWord i) d ≡ laid (withEntry i r e d x) t
@@ -151,28 +157,32 @@ entry-laid i r e d x t h l =
     let l0 : length x0 ≡ blockWords = length-set x (runWord i) r ∙ l in
     let l1 : length x1 ≡ blockWords = length-set x0 (everyWord i) e ∙ l0 in
     let W : List ℕ → ℕ → ℕ → List ℕ = λ b i w. withWord b i w in
-    ap (λ (b : List ℕ). W (W b (everyWord i) e) (deadlineWord i) d) (put-set x blockWords (runWord i) r t l (omega arith))
+    ap (λ (b : List ℕ). W (W b (everyWord i) e) (deadlineWord i) d)
+    (put-set x blockWords (runWord i) r t l (omega arith))
     ∙ ap (λ (b : List ℕ). W b (deadlineWord i) d) (put-set x0 blockWords (everyWord i) e t l0 (omega arith))
     ∙ put-set x1 blockWords (deadlineWord i) d t l1 (omega arith)
 
--- a loop's turn: one entry more
+-- A loop's turn: one entry more.
 pub entries-laid :
-    (R E D : List ℕ) (i : ℕ) (x b t : List ℕ) → i < mostTasks → length x ≡ blockWords → b ≡ laid (withEntries R E D i x) t
+    (R E D : List ℕ) (i : ℕ) (x b t : List ℕ) → i < mostTasks → length x ≡ blockWords → b ≡ laid
+    (withEntries R E D i x) t
     → withWord (withWord (withWord b (runWord i) (nth R i)) (everyWord i) (nth E i)) (deadlineWord i) (nth D i)
     ≡ laid (withEntries R E D (i + 1) x) t
 entries-laid R E D i x b t h l e =
     rw (e, ← entries-next R E D i x (withEntries R E D i x) refl)
     (entry-laid i (nth R i) (nth E i) (nth D i) (withEntries R E D i x) t h (entries-length R E D i x ∙ l))
 
--- the words have their number
+-- The words have their number.
 pub words-count : (g : Guest) (p : ℕ) → length (withHead g p (replicate blockWords 0)) ≡ blockWords
 words-count g p = head-length g p (replicate blockWords 0) ∙ length-replicate {A = ℕ} blockWords 0
 
 pub words-length : (g : Guest) (p : ℕ) → length (wordsOf g p) ≡ blockWords
 unfolding wordsOf
-words-length g p = entries-length (g .run) (g .every) (g .deadline) (g .tasks) (withHead g p (replicate blockWords 0)) ∙ words-count g p
+words-length g p =
+    entries-length (g .run) (g .every) (g .deadline) (g .tasks) (withHead g p (replicate blockWords 0))
+    ∙ words-count g p
 
--- the check put in
+-- The check put in.
 pub check-laid :
     (g : Guest) (p : ℕ) (b t : List ℕ) (s r : ℕ)
     → b ≡ laid (wordsOf g p) t
@@ -182,14 +192,19 @@ pub check-laid :
 unfolding blockOf withCheck
 check-laid g p b t s r e h q =
     let n : length (wordsOf g p) ≡ blockWords = words-length g p in
-    let k : s ≡ wrapped (nth (wordsOf g p)) checkWord = h ∙ ap (λ (y : List ℕ). wrapped (word y) checkWord) e ∙ wrapped-bytes (nth (wordsOf g p)) blockWords t checkWord (omega arith) in
-    rw (q, k, e) (put-set (wordsOf g p) blockWords checkWord (complement (wrapped (nth (wordsOf g p)) checkWord)) t n (omega arith))
+    let k : s ≡ wrapped (nth (wordsOf g p)) checkWord =
+    h
+    ∙ ap (λ (y : List ℕ). wrapped (word y) checkWord) e
+    ∙ wrapped-bytes (nth (wordsOf g p)) blockWords t checkWord (omega arith) in
+    rw (q, k, e)
+    (put-set (wordsOf g p) blockWords checkWord (complement (wrapped (nth (wordsOf g p)) checkWord)) t n (omega arith))
 
--- a refused write leaves every byte as it was
+-- A refused write leaves every byte as it was.
 same-by : (n : ℕ) (block before : List ℕ) → 0 < n → writtenBy n block before ≡ before
 unfolding writtenBy
 same-by zero block before h = absurd (omega arith)
 same-by (suc n) block before h = refl
 
-pub refused-write-same : (g : Guest) (place : ℕ) (before : List ℕ) → 0 < writeRefusal g place (length before) .number → written g place before ≡ before
+pub refused-write-same : (g : Guest) (place : ℕ) (before : List ℕ) → 0 < writeRefusal g place (length before) .number
+    → written g place before ≡ before
 refused-write-same g place before h = same-by (writeNumber g place (length before)) (blockOf g place) before h

@@ -1,5 +1,5 @@
--- A guest's block, line by line as document 01's table has it. Reader, writer and theorems say where a number stands by these names alone;
--- `Table` says the same lines in bytes.
+-- A guest's block, line by line as document 01's table has it, in words. Reader, writer and theorems say where a number
+-- stands by these names alone; `Table` says the same lines in bytes.
 use Prim.Native.Nat.{ℕ, _+_, _*_, _/_, _%_}
 
 -- A block has 512 bytes.

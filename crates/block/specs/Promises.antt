@@ -7,6 +7,6 @@ use Rattle.plan.specs.declared.Guest.{Guest}
 use Rattle.plan.specs.declared.Refusal.{Refusal}
 use Rattle.block.specs.Writing.{writeRefusal, written}
 
--- write: the refusal, or number 0, and every byte of the lent buffer
+-- `write` gives the refusal, or number 0, and settles every byte of the lent buffer.
 abbrev pub Writes : Guest → (place : ℕ) → (before : List ℕ) → Refusal → (after : List ℕ) → Type 0
 Writes g place before r after = (r ≡ writeRefusal g place (length before)) × (after ≡ written g place before)

@@ -12,27 +12,27 @@ use Rattle.plan.specs.declared.Guest.{Guest}
 use Rattle.plan.specs.Ranges.{mostTasks, guestOk, tasksOk}
 use Rattle.block.specs.Layout.{blockWords, kindPlaceWord, guestKind, idWord, capacityWord, periodWord, tasksChargeWord, spareFrom, spareTo, runWord, everyWord, deadlineWord, unusedFrom, checkWord, lowHalf, highHalf}
 
--- the kind that a block says
+-- The kind that a block says.
 abbrev pub kindIn : List ℕ → ℕ
 kindIn b = lowHalf (word b kindPlaceWord)
 
--- the place
+-- The place that a block says.
 abbrev pub placeIn : List ℕ → ℕ
 placeIn b = highHalf (word b kindPlaceWord)
 
--- the guest's id
+-- The guest's id that a block says.
 abbrev pub idIn : List ℕ → ℕ
 idIn b = word b idWord
 
--- the number of tasks
+-- The number of tasks that a block says.
 abbrev pub taskCount : List ℕ → ℕ
 taskCount b = lowHalf (word b tasksChargeWord)
 
--- one number of each of the 16 entries
+-- One number of each of the 16 entries.
 unfoldable pub column : List ℕ → (ℕ → ℕ) → List ℕ
 column b at = table (λ i. word b (at i)) mostTasks
 
--- the record that a block says
+-- The record that a block says.
 abbrev pub guestOf : List ℕ → Guest
 guestOf b = record {
   id = idIn b;
@@ -45,27 +45,27 @@ guestOf b = record {
   deadline = column b deadlineWord;
 }
 
--- passes 2: the sum of the block's 128 words, modulo 4,294,967,296, is zero
+-- Passes 2: the sum of the block's 128 words, modulo 4,294,967,296, is zero.
 abbrev pub sumsToZero : List ℕ → Bool
 sumsToZero b = eqb (wrapped (word b) blockWords) 0
 
--- passes 3: the kind is 1
+-- Passes 3: the kind is 1.
 abbrev pub kindOk : List ℕ → Bool
 kindOk b = eqb (kindIn b) guestKind
 
--- and the place is the block's own
+-- Passes 3 too: the place is the block's own.
 abbrev pub ownPlace : List ℕ → ℕ → Bool
 ownPlace b place = eqb (placeIn b) place
 
--- the words from one on, and before another, are zero
+-- The words from one on, and before another, are zero.
 unfoldable pub zeroBetween : List ℕ → (from to : ℕ) → Bool
 zeroBetween b from to = allTo (λ k. eqb (word b (from + k)) 0) (to - from)
 
--- passes 5: the bytes that must be zero are
+-- Passes 5: the bytes that must be zero are.
 abbrev pub zerosOk : List ℕ → Bool
 zerosOk b = zeroBetween b spareFrom spareTo && zeroBetween b (unusedFrom (taskCount b)) checkWord
 
--- the number that a block at its place is refused by, 0 for none; newId says that its id is no earlier block's
+-- The number that a block at its place is refused by, 0 for none; newId says that its id is no earlier block's.
 unfoldable pub blockNumber : List ℕ → (place : ℕ) (newId : Bool) → ℕ
 blockNumber b place newId =
     refusal (

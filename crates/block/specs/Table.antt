@@ -1,4 +1,5 @@
--- Document 01's table of a block, line by line in bytes: where each number stands that the definitions of reading give, with no word named.
+-- Document 01's table of a block, line by line in bytes: where each number stands that the definitions of reading
+-- give, with no word named.
 use mathlib.Core.Path.{_≡_}
 use mathlib.Core.Bool.{true}
 use mathlib.Core.List.{List}
@@ -15,14 +16,15 @@ use Rattle.block.specs.Reading.{kindIn, placeIn, guestOf, sumsToZero, ze
 abbrev pub ZeroBytes : List ℕ → (from to : ℕ) → Type 0
 ZeroBytes b from to = (i : ℕ) → from ≤ i → i < to → nth b i ≡ 0
 
--- The bytes that must be zero in a block of n tasks are: bytes 20-31, the entries past the number of tasks, and bytes 224-507.
+-- The bytes that must be zero in a block of n tasks are: bytes 20-31, the entries past the tasks, and bytes 224-507.
 pub record ZerosStand (b : List ℕ) (n : ℕ) : Type 0 where
   pub spare : ZeroBytes b 20 32
   pub past-tasks : ZeroBytes b (32 + 12 * n) 224
   pub past-entries : ZeroBytes b 224 508
 
--- The table, a field for each line: bytes 0-1 kind, 2-3 place, 4-7 id, 8-11 capacity, 12-15 period, 16-17 number of tasks, 18-19 charge,
--- 32-223 the entries of 12 bytes, the zeros, and 508-511 the check.
+-- The table has a field for each line: bytes 0-1 are the kind, 2-3 the place, 4-7 the id, 8-11 the capacity, 12-15 the
+-- period, 16-17 the number of tasks, 18-19 the charge, 32-223 the entries of 12 bytes, and 508-511 the check; the
+-- bytes that must be zero are those of the lines between them.
 pub record InBytes (b : List ℕ) : Type 0 where
   pub kind : kindIn b ≡ u16At b 0
   pub place : placeIn b ≡ u16At b 2

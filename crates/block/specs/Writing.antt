@@ -14,7 +14,7 @@ use Rattle.plan.specs.Ranges.{within, guestOk, tasksOk}
 use Rattle.plan.specs.First.{refused}
 use Rattle.block.specs.Layout.{blockSize, blockWords, kindPlaceWord, guestKind, lastPlace, idWord, capacityWord, periodWord, tasksChargeWord, runWord, everyWord, deadlineWord, checkWord, halves}
 
--- the head's numbers put into words x
+-- Words x with the head's numbers put in.
 unfoldable pub withHead : Guest → (place : ℕ) → List ℕ → List ℕ
 withHead g place x =
     set
@@ -23,29 +23,29 @@ withHead g place x =
     periodWord (g .period))
     tasksChargeWord (halves (g .tasks) (g .charge))
 
--- entry i put in
+-- Words x with entry i put in.
 unfoldable pub withEntry : ℕ → (run every deadline : ℕ) → List ℕ → List ℕ
 withEntry i run every deadline x = set (set (set x (runWord i) run) (everyWord i) every) (deadlineWord i) deadline
 
--- the first n entries put in, of the tasks' columns
+-- Words x with the first n entries put in, taken from the tasks' columns.
 unfoldable pub withEntries : (run every deadline : List ℕ) → ℕ → List ℕ → List ℕ
 withEntries run every deadline zero x = x
 withEntries run every deadline (suc n) x =
     withEntry n (nth run n) (nth every n) (nth deadline n) (withEntries run every deadline n x)
 
--- the block's words but for the check: the head, the guest's entries, and zeros everywhere else
+-- The block's words but for the check: the head, the guest's entries, and zeros everywhere else.
 unfoldable pub wordsOf : Guest → (place : ℕ) → List ℕ
 wordsOf g place = withEntries (g .run) (g .every) (g .deadline) (g .tasks) (withHead g place (replicate blockWords 0))
 
--- the check put in, the wrapping complement of the rest
+-- Words x with the check put in, the wrapping complement of the rest.
 unfoldable pub withCheck : List ℕ → List ℕ
 withCheck x = set x checkWord (complement (wrapped (nth x) checkWord))
 
--- a guest's block at a place
+-- A guest's block at a place.
 unfoldable pub blockOf : Guest → (place : ℕ) → List ℕ
 blockOf g place = bytesOf (nth (withCheck (wordsOf g place))) blockWords
 
--- the number that the writer refuses by, 0 for none, for a lent buffer of so many bytes
+-- The number that the writer refuses by, 0 for none, for a lent buffer of so many bytes.
 unfoldable pub writeNumber : Guest → (place size : ℕ) → ℕ
 writeNumber g place size =
     refusal (
@@ -55,19 +55,19 @@ writeNumber g place size =
     ∷ tasksOk g orRefuse 6
     ∷ [])
 
--- numbers 2 to 6 come with the place, all others with place 0
-abbrev pub numbered : (number place : ℕ) → Refusal
-numbered number place = refused number (pick (within 2 6 number) place 0)
+-- Numbers 2 to 6 come with the place, all others with place 0.
+abbrev pub withPlace : (number place : ℕ) → Refusal
+withPlace number place = refused number (pick (within 2 6 number) place 0)
 
--- the writer's refusal
+-- The writer's refusal.
 abbrev pub writeRefusal : Guest → (place size : ℕ) → Refusal
-writeRefusal g place size = numbered (writeNumber g place size) place
+writeRefusal g place size = withPlace (writeNumber g place size) place
 
--- the lent bytes: the block and what stood behind it, or on a refusal what stood there
+-- The lent bytes: the block and what stood behind it, or on a refusal what stood there.
 unfoldable pub writtenBy : (number : ℕ) → (block before : List ℕ) → List ℕ
 writtenBy zero block before = block ++ drop blockSize before
 writtenBy (suc n) block before = before
 
--- the lent bytes after the writer
+-- The lent bytes after the writer.
 abbrev pub written : Guest → (place : ℕ) → List ℕ → List ℕ
 written g place before = writtenBy (writeNumber g place (length before)) (blockOf g place) before

@@ -1,6 +1,6 @@
 // One guest's block of 512 bytes, read into a record and written from one.
 ghost use mathlib.Core.Path.{_≡_};
-ghost use Rattle.block.specs.Writing.{numbered};
+ghost use Rattle.block.specs.Writing.{withPlace};
 ghost use Rattle.block.specs.Promises.{Writes};
 use plan::Guest;
 use plan::Refusal;
@@ -15,7 +15,7 @@ pub use reader::id_of;
 
 // Numbers 2 to 6 come with the place, all others with place 0.
 fn with_place(number: u32, place: u32) -> Refusal
-    ensures { λ r. ⌜ r ≡ numbered number place ⌝ }
+    ensures { λ r. ⌜ r ≡ withPlace number place ⌝ }
 {
     if (2 <= number) & (number <= 6) {
         return Refusal { number, place };

@@ -37,7 +37,10 @@ pub fn write_number(g: Guest, place: u32, size: usize) -> u32
 // The first 512 bytes set to zero, and the head's words put in.
 fn put_head(g: Guest, place: u32, buf: &mut [u8])
     requires { ⌜ (blockSize ≤ length (now buf)) × ((place ≤ lastPlace) × (g .tasks ≤ mostTasks)) ⌝ }
-    ensures { λ _. ⌜ now (buf .exit) ≡ bytesOf (nth (withHead g place (replicate blockWords 0))) blockWords ++ drop blockSize (now (buf .entry)) ⌝ }
+    ensures { λ _. ⌜
+        now (buf .exit)
+        ≡ bytesOf (nth (withHead g place (replicate blockWords 0))) blockWords ++ drop blockSize (now (buf .entry))
+        ⌝ }
 {
     words::put_zeros(buf, layout::SIZE);
     words::put_word(
@@ -59,7 +62,8 @@ fn put_head(g: Guest, place: u32, buf: &mut [u8])
 fn put_entry(buf: &mut [u8], i: usize, run: u32, every: u32, deadline: u32)
     requires { ⌜ (blockSize ≤ length (now buf)) × (i < mostTasks) ⌝ }
     ensures { λ _. ⌜
-        now (buf .exit) ≡ withWord (withWord (withWord (now (buf .entry)) (runWord i) run) (everyWord i) every) (deadlineWord i) deadline
+        now (buf .exit)
+        ≡ withWord (withWord (withWord (now (buf .entry)) (runWord i) run) (everyWord i) every) (deadlineWord i) deadline
         ⌝ }
 {
     words::put_word(buf, layout::RUN + layout::ENTRY * i, run);

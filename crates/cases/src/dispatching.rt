@@ -102,7 +102,8 @@ fn with_job(d: Dispatcher, first: u8, k: usize, value: u32) -> Dispatcher {
     d
 }
 
-// `Start` from the plan; `Release` a guest's task; `Tick`; `Go` on for so many ticks; `Left`, `Position`, `Job`, `Wait` or `Age` at a place set to a number.
+// `Start` from the plan; `Release` a guest's task; `Tick`; `Go` on for so many ticks; `Left`, `Position`, `Job`,
+// `Wait` or `Age` at a place set to a number.
 pub fn call(p: Plan, d: Dispatcher, row: Row) -> Dispatcher {
     let x = row.numbers;
     let first = row.first;

@@ -72,7 +72,8 @@ fn write(p: Plan, place: u32, n: u32) {
     say::text(b"\n");
 }
 
-// `print` the plan; `read` so many bytes; `damage` a block or leave it `unmended`; `find` a guest, in so many bytes; `write` at a place into so many bytes.
+// `print` the plan; `read` so many bytes; `damage` a block or leave it `unmended`; `find` a guest, in so many bytes;
+// `write` at a place into so many bytes.
 pub fn ask(p: Plan, row: Row) {
     let x = row.numbers;
     let first = row.first;

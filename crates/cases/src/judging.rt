@@ -5,7 +5,7 @@ use draft::text::Row;
 use plan::Plan;
 use show::Line;
 
-// Of a guest, or of one of its tasks.
+// The verdict of a guest, or of one of its tasks.
 fn verdict(p: Plan, row: Row) {
     let x = row.numbers;
     say::text(b": ");

@@ -1,5 +1,7 @@
-// Document 01's cases, and plans good and damaged in each way, through every entry; `check` through those that give its refusals.
-// Standard input has the cases, a line for each guest, task or call: its first letter says which. Each line is written out again, a call with its outcome;
+// Document 01's cases, and plans good and damaged in each way, through every entry; `check` through those that give
+// its refusals.
+// Standard input has the cases, a line for each guest, task or call: its first letter says which. Each line is
+// written out again, a call with its outcome;
 // a line that starts with # says why the outcome is right and is left out.
 use dispatcher::Dispatcher;
 use draft::text;

@@ -3,7 +3,8 @@ use draft::text;
 use draft::text::Row;
 use plan::Plan;
 
-// The plan so far, the line in hand and its number from 1; `wrong` is the number of the first line that is none, 0 for none.
+// The plan so far, the line in hand and its number from 1; `wrong` is the number of the first line that is none, 0
+// for none.
 pub struct Text {
     pub plan: Plan,
     pub row: Row,

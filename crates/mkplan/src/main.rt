@@ -1,4 +1,5 @@
-// A plan's text from standard input, its blocks to standard output. Where a line is wrong or the writer refuses a guest, a message and no block.
+// A plan's text from standard input, its blocks to standard output. Where a line is wrong or the writer refuses a
+// guest, a message and no block.
 use plan::Plan;
 
 mod lines;

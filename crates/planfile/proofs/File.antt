@@ -15,7 +15,7 @@ use Rattle.lists.proofs.All.{and-left, and-right}
 use Rattle.plan.proofs.Ranges.{within-says}
 use Rattle.plan.proofs.First.{none-refused}
 
--- a right length
+-- A right length.
 pub record SizeIn (n : ℕ) : Type 0 where
   pub some : 1 ≤ n
   pub most : n ≤ mostBytes
@@ -26,23 +26,24 @@ size-says n e =
     let w = within-says 1 mostBytes n (and-left (within 1 mostBytes n) _ e) in
     record { some = w .0; most = w .1; whole = eqb-true (n % blockSize) 0 (and-right (within 1 mostBytes n) _ e) }
 
--- the length is right: the first refusal of the blocks
+-- Where the length is right, the refusal is the first of the blocks'.
 pub sized : (s : List ℕ) → sizeOk (length s) ≡ true → firstRefused (numberAt s) (blocksIn s) 0 ≡ fileRefusal s
 unfolding fileRefusal sizedBy
 sized s e = rw e refl
 
--- it is not: 1
+-- Where the length is wrong, the refusal is 1.
 pub unsized : (s : List ℕ) → sizeOk (length s) ≡ false → refused 1 0 ≡ fileRefusal s
 unfolding fileRefusal sizedBy
 unsized s e = rw e refl
 
--- by whether the length is right
-sized-none : (b : Bool) (s : List ℕ) → sizedBy b s .number ≡ 0 → (b ≡ true) × (firstRefused (numberAt s) (blocksIn s) 0 .number ≡ 0)
+-- Where nothing is refused, the length is right and no block is refused.
+sized-none : (b : Bool) (s : List ℕ) → sizedBy b s .number ≡ 0
+    → (b ≡ true) × (firstRefused (numberAt s) (blocksIn s) 0 .number ≡ 0)
 unfolding sizedBy
 sized-none true s e = (refl, e)
 sized-none false s e = absurd (omega arith)
 
--- bytes that are not refused: a right length, and no block has a number
+-- Bytes that are not refused: a right length, and no block has a number.
 pub record FileIn (s : List ℕ) : Type 0 where
   pub size : SizeIn (length s)
   pub blocks : (k : ℕ) → k < blocksIn s → numberAt s k ≡ 0
@@ -58,8 +59,10 @@ file-in s e =
 
 -- A part that is block k has the size of a block.
 pub part-long : (s part : List ℕ) (k : ℕ) → part ≡ blockAt s k → k < blocksIn s → length part ≡ blockSize
-part-long s part k e l = rw e (length-take-le blockSize (drop (blockSize * k) s) (rw (length-drop (blockSize * k) s) (omega arith)))
+part-long s part k e l =
+    rw e (length-take-le blockSize (drop (blockSize * k) s) (rw (length-drop (blockSize * k) s) (omega arith)))
 
--- a part of 512 bytes from block k's first on is block k
-pub part-at : (s : List ℕ) (k : ℕ) → take (blockSize * k + blockSize - blockSize * k) (drop (blockSize * k) s) ≡ blockAt s k
+-- A part of 512 bytes from block k's first on is block k.
+pub part-at : (s : List ℕ) (k : ℕ)
+    → take (blockSize * k + blockSize - blockSize * k) (drop (blockSize * k) s) ≡ blockAt s k
 part-at s k = let d : blockSize * k + blockSize - blockSize * k ≡ blockSize = omega arith in rw d refl

@@ -16,33 +16,36 @@ use Rattle.planfile.specs.File.{blockAt, blocksIn, fileRefusal}
 use Rattle.planfile.specs.Records.{recordsOf, planBy, readOf}
 use Rattle.lists.proofs.Table.{table-turn}
 
--- no block is read yet
+-- No block is read yet.
 pub no-records : (s : List ℕ) → replicate mostGuests blank ≡ recordsOf s 0
 unfolding recordsOf table
 no-records s = refl
 
--- a loop's turn: block k's record is put in
-pub records-next : (s : List ℕ) (k : ℕ) (gs : List Guest) (g : Guest) → k < mostGuests → gs ≡ recordsOf s k → g ≡ guestOf (blockAt s k)
+-- A loop's turn: block k's record is put in.
+pub records-next : (s : List ℕ) (k : ℕ) (gs : List Guest) (g : Guest) → k < mostGuests → gs ≡ recordsOf s k
+    → g ≡ guestOf (blockAt s k)
     → set gs k g ≡ recordsOf s (k + 1)
 unfolding recordsOf
 records-next s k gs g h e q = table-turn (λ i. guestOf (blockAt s i)) blank k (replicate mostGuests blank) gs g h e q
 
--- a plan of zeros holds no block's record
+-- A plan of zeros holds no block's record.
 blank-plan : (n : ℕ) (s : List ℕ) → 0 < n → record { count = 0; guests = recordsOf s 0 } ≡ planBy n s
 unfolding planBy
 blank-plan zero s h = absurd (omega arith)
 blank-plan (suc n) s h = ap (λ (gs : List Guest). record { count = 0; guests = gs }) (sym (no-records s))
 
--- a reading by its parts
+-- A reading by its parts.
 abbrev pub reading : Refusal → Plan → Reading
 reading r p = record { refusal = r; plan = p }
 
--- refused: no block's record
-pub read-refused : (s : List ℕ) (r : Refusal) → r ≡ fileRefusal s → 0 < r .number → reading r (record { count = 0; guests = recordsOf s 0 }) ≡ readOf s
+-- On a refusal no block's record is read.
+pub read-refused : (s : List ℕ) (r : Refusal) → r ≡ fileRefusal s → 0 < r .number
+    → reading r (record { count = 0; guests = recordsOf s 0 }) ≡ readOf s
 unfolding readOf
 read-refused s r e h = rw (← e) (ap (reading r) (blank-plan (r .number) s h))
 
--- not refused: every block's
-pub read-fine : (s : List ℕ) (r : Refusal) → r ≡ fileRefusal s → r .number ≤ 0 → reading r (record { count = blocksIn s; guests = recordsOf s (blocksIn s) }) ≡ readOf s
+-- Where nothing is refused, every block's record is read.
+pub read-fine : (s : List ℕ) (r : Refusal) → r ≡ fileRefusal s → r .number ≤ 0
+    → reading r (record { count = blocksIn s; guests = recordsOf s (blocksIn s) }) ≡ readOf s
 unfolding readOf planBy
 read-fine s r e h = let z : r .number ≡ 0 = omega arith in rw (← e, z) refl

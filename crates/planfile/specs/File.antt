@@ -11,35 +11,35 @@ use Rattle.plan.specs.Order.{newId}
 use Rattle.block.specs.Layout.{blockSize}
 use Rattle.block.specs.Reading.{idIn, blockNumber}
 
--- block k of a plan's bytes, from 0
+-- Block k of a plan's bytes, from 0.
 abbrev pub blockAt : List ℕ → ℕ → List ℕ
 blockAt s k = take blockSize (drop (blockSize * k) s)
 
--- the guest id in block k
+-- The guest id in block k.
 abbrev pub idAt : List ℕ → ℕ → ℕ
 idAt s k = idIn (blockAt s k)
 
--- how many blocks there are
+-- How many blocks there are.
 abbrev pub blocksIn : List ℕ → ℕ
 blocksIn s = length s / blockSize
 
--- the length of 8 blocks, 4,096
+-- The length of 8 blocks, 4,096.
 abbrev pub mostBytes : ℕ
 mostBytes = blockSize * mostGuests
 
--- passes 1: a length of 1 to 4,096, a multiple of 512
+-- Passes 1: a length of 1 to 4,096, a multiple of 512.
 abbrev pub sizeOk : ℕ → Bool
 sizeOk n = within 1 mostBytes n && eqb (n % blockSize) 0
 
--- the number that block k is refused by
+-- The number that block k is refused by.
 unfoldable pub numberAt : List ℕ → ℕ → ℕ
 numberAt s k = blockNumber (blockAt s k) k (newId (idAt s) k)
 
--- by whether the length is right: 1, or the first refused block's number and place
+-- The refusal, by whether the length is right: 1, or the first refused block's number and place.
 unfoldable pub sizedBy : Bool → List ℕ → Refusal
 sizedBy false s = refused 1 0
 sizedBy true s = firstRefused (numberAt s) (blocksIn s) 0
 
--- the refusal of reading: 1, then block by block 2, 3, 4, 5, 6
+-- The refusal of reading: 1, then block by block 2, 3, 4, 5, 6.
 unfoldable pub fileRefusal : List ℕ → Refusal
 fileRefusal s = sizedBy (sizeOk (length s)) s

@@ -9,24 +9,24 @@ use Rattle.plan.specs.declared.Refusal.{Refusal}
 use Rattle.plan.specs.First.{refused, orElse}
 use Rattle.planfile.specs.File.{blockAt, idAt, blocksIn, fileRefusal}
 
--- the first place whose block has the id
+-- The first place whose block has the id.
 abbrev pub firstWith : List ℕ → (id : ℕ) → Found
 firstWith s id = least (λ k. eqb (idAt s k) id) (blocksIn s) 0
 
--- as number and place: 0 and the place, or refusal 7
-abbrev pub placed : Found → Refusal
-placed (At k) = refused 0 k
-placed Nothing = refused 7 0
+-- What was found as number and place: 0 and the place, or refusal 7.
+abbrev pub placeOrSeven : Found → Refusal
+placeOrSeven (At k) = refused 0 k
+placeOrSeven Nothing = refused 7 0
 
--- the finder's companion: the reading order, then 7, then the found block's place
+-- The finder's companion: the reading order, then 7, then the found block's place.
 unfoldable pub foundPlace : List ℕ → (id : ℕ) → Refusal
-foundPlace s id = orElse (fileRefusal s .number) (fileRefusal s .place) (placed (firstWith s id))
+foundPlace s id = orElse (fileRefusal s .number) (fileRefusal s .place) (placeOrSeven (firstWith s id))
 
--- the block at a place as it stands in the bytes; nothing on a refusal
+-- The block at a place as it stands in the bytes; nothing on a refusal.
 unfoldable pub partBy : (number place : ℕ) → List ℕ → List ℕ
 partBy zero place s = blockAt s place
 partBy (suc n) place s = []
 
--- the finder: the guest's 512 bytes
+-- The finder: the guest's 512 bytes.
 unfoldable pub found : List ℕ → (id : ℕ) → List ℕ
 found s id = partBy (foundPlace s id .number) (foundPlace s id .place) s

@@ -11,15 +11,15 @@ use Rattle.block.specs.Reading.{guestOf}
 use Rattle.planfile.specs.File.{blockAt, blocksIn, fileRefusal}
 use Rattle.planfile.specs.declared.Reading.{Reading}
 
--- the records of the first n blocks, and records of zeros past them
+-- The records of the first n blocks, and records of zeros past them.
 unfoldable pub recordsOf : List ℕ → ℕ → List Guest
 recordsOf s n = table (λ k. guestOf (blockAt s k)) n ++ drop n (replicate mostGuests blank)
 
--- the plan where nothing is refused, else a plan of zeros
+-- The plan where nothing is refused, else a plan of zeros.
 unfoldable pub planBy : (number : ℕ) → List ℕ → Plan
 planBy zero s = record { count = blocksIn s; guests = recordsOf s (blocksIn s) }
 planBy (suc r) s = blankPlan
 
--- a plan's bytes read
+-- A plan's bytes read.
 unfoldable pub readOf : List ℕ → Reading
 readOf s = record { refusal = fileRefusal s; plan = planBy (fileRefusal s .number) s }

@@ -9,8 +9,8 @@ use block::layout;
 use plan::Plan;
 use plan::Refusal;
 
-mod blocks;
-mod search;
+mod files;
+mod finding;
 
 pub use block::write;
 pub use plan::check;
@@ -25,9 +25,11 @@ pub struct Reading {
 // The records of the first n blocks under a refusal.
 fn with_records(bytes: &[u8], n: usize, refusal: Refusal) -> Reading
     requires { ⌜ (n ≤ mostGuests) × (n ≤ blocksIn (now bytes)) ⌝ }
-    ensures { λ r. ⌜ r ≡ record { refusal = refusal; plan = record { count = n; guests = recordsOf (now (bytes .entry)) n } } ⌝ }
+    ensures { λ r. ⌜
+        r ≡ record { refusal = refusal; plan = record { count = n; guests = recordsOf (now (bytes .entry)) n } }
+        ⌝ }
 {
-    let guests = blocks::records_of(bytes, n);
+    let guests = files::records_of(bytes, n);
     Reading {
         refusal,
         plan: Plan {
@@ -41,7 +43,7 @@ fn with_records(bytes: &[u8], n: usize, refusal: Refusal) -> Reading
 pub fn read(bytes: &[u8]) -> Reading
     ensures { λ r. ⌜ Reads (now (bytes .entry)) r ⌝ }
 {
-    let refusal = blocks::refusal_of(bytes);
+    let refusal = files::refusal_of(bytes);
     if 0 < refusal.number {
         return with_records(bytes, 0, refusal);
     }
@@ -52,11 +54,11 @@ pub fn read(bytes: &[u8]) -> Reading
 pub fn find_place(bytes: &[u8], id: u32) -> Refusal
     ensures { λ r. ⌜ FindsPlace (now (bytes .entry)) id r ⌝ }
 {
-    let r = blocks::refusal_of(bytes);
+    let r = files::refusal_of(bytes);
     if 0 < r.number {
         return r;
     }
-    search::placed_at(search::place_of(bytes, id, bytes.len() / layout::SIZE))
+    finding::place_or_seven(finding::first_with(bytes, id, bytes.len() / layout::SIZE))
 }
 
 // The guest's block as it stands in the bytes; an empty part on a refusal.
@@ -67,5 +69,5 @@ pub fn find(bytes: &[u8], id: u32) -> &[u8]
     if 0 < r.number {
         return &bytes[..0];
     }
-    blocks::block_at(bytes, r.place as usize)
+    files::block_at(bytes, r.place as usize)
 }

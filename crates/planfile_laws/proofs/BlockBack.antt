@@ -1,4 +1,5 @@
--- One block read back: each word of the bytes is the one meant, so every test passes and the record is the guest's. Assumes nothing.
+-- One block read back: each word of the bytes is the one meant, so every test passes and the record is the guest's.
+-- Assumes nothing.
 use mathlib.Core.Path.{_≡_, refl, sym, ap, _∙_}
 use mathlib.Core.Bool.{Bool, true, _&&_}
 use mathlib.Core.List.{List, [], append-nil}
@@ -31,19 +32,20 @@ use Rattle.block.proofs.Reading.{none}
 use Rattle.block.proofs.Writing.{words-length}
 use Rattle.planfile_laws.proofs.Words.{WordsAt, words-at, words-fit, check-other, check-at, check-fits}
 
--- a block has 512 bytes
+-- A block has 512 bytes.
 pub block-length : (g : Guest) (p : ℕ) → length (blockOf g p) ≡ blockSize
 unfolding blockOf
 block-length g p = length-bytesOf (nth (withCheck (wordsOf g p))) blockWords
 
-module _ (g : Guest) (p : ℕ) (fits : GuestInTypes g) (low : p ≤ lastPlace) (head : guestOk g ≡ true) (tasks : tasksOk g ≡ true) where
+module _ (g : Guest) (p : ℕ) (fits : GuestInTypes g) (low : p ≤ lastPlace) (head : guestOk g ≡ true)
+    (tasks : tasksOk g ≡ true) where
   few : g .tasks ≤ mostTasks
   few = head-says (g .id) (g .capacity) (g .period) (g .tasks) head .few
 
   written : WordsAt g p
   written = words-at g p few
 
-  -- each word of the bytes is the one meant
+  -- Each word of the bytes is the one meant.
   full-at : (k : ℕ) → k < blockWords → word (blockOf g p) k ≡ nth (withCheck (wordsOf g p)) k
   unfolding blockOf
   full-at k l =
@@ -56,15 +58,22 @@ module _ (g : Guest) (p : ℕ) (fits : GuestInTypes g) (low : p ≤ lastPlace) (
   sums : sumsToZero (blockOf g p) ≡ true
   sums =
       eq-eqb (wrapped (word (blockOf g p)) blockWords) 0
-      (rw (sum-last (word (blockOf g p)) checkWord, sum-same (word (blockOf g p)) (nth (wordsOf g p)) checkWord at, full-at checkWord (omega arith), check-at (wordsOf g p) (words-length g p))
+      (rw (
+        sum-last (word (blockOf g p)) checkWord,
+        sum-same (word (blockOf g p)) (nth (wordsOf g p)) checkWord at,
+        full-at checkWord (omega arith),
+        check-at (wordsOf g p) (words-length g p),
+      )
       (complement-sum (sumTo (nth (wordsOf g p)) checkWord)))
 
   opens : (kindOk (blockOf g p) && ownPlace (blockOf g p) p) ≡ true
   opens =
-      let e : word (blockOf g p) kindPlaceWord ≡ halves guestKind p = at kindPlaceWord (omega arith) ∙ written .kind-place in
-      and-true (eq-eqb (lowHalf (word (blockOf g p) kindPlaceWord)) guestKind (omega arith)) (eq-eqb (highHalf (word (blockOf g p) kindPlaceWord)) p (omega arith))
+      let e : word (blockOf g p) kindPlaceWord ≡ halves guestKind p =
+      at kindPlaceWord (omega arith) ∙ written .kind-place in
+      and-true (eq-eqb (lowHalf (word (blockOf g p) kindPlaceWord)) guestKind (omega arith))
+      (eq-eqb (highHalf (word (blockOf g p) kindPlaceWord)) p (omega arith))
 
-  -- one number of an entry, or zero past the tasks
+  -- A column of the block is the guest's, with zeros past the tasks.
   column-is :
       (at-word : ℕ → ℕ) (xs : List ℕ)
       → ((i : ℕ) → i < mostTasks → word (blockOf g p) (at-word i) ≡ pick (ltb i (g .tasks)) (nth xs i) 0)
@@ -72,37 +81,57 @@ module _ (g : Guest) (p : ℕ) (fits : GuestInTypes g) (low : p ≤ lastPlace) (
   unfolding column firstTasks
   column-is at-word xs h = table-ext _ _ mostTasks h
 
-  -- by whether it is a task's
-  entry-is : (i k v : ℕ) → k < checkWord → (i < g .tasks → nth (wordsOf g p) k ≡ v) → (g .tasks ≤ i → unusedFrom (g .tasks) ≤ k) → word (blockOf g p) k ≡ pick (ltb i (g .tasks)) v 0
+  -- A word of entry i is the task's number, or zero past the tasks.
+  entry-is : (i k v : ℕ) → k < checkWord → (i < g .tasks → nth (wordsOf g p) k ≡ v)
+      → (g .tasks ≤ i → unusedFrom (g .tasks) ≤ k) → word (blockOf g p) k ≡ pick (ltb i (g .tasks)) v 0
   entry-is i k v l used past =
       elim (decLt i (g .tasks)) [
         | yes m ↦ at k l ∙ used m ∙ rw (lt-ltb i (g .tasks) m) refl
-        | no m ↦ at k l ∙ written .unused k (past (omega arith)) (omega arith) ∙ rw (le-ltb i (g .tasks) (omega arith)) refl
+        | no m ↦ at k l
+            ∙ written .unused k (past (omega arith)) (omega arith)
+            ∙ rw (le-ltb i (g .tasks) (omega arith)) refl
       ]
 
   record-is : guestOf (blockOf g p) ≡ clearedGuest g
   record-is =
-      let w4 : word (blockOf g p) tasksChargeWord ≡ halves (g .tasks) (g .charge) = at tasksChargeWord (omega arith) ∙ written .tasks-charge in
+      let w4 : word (blockOf g p) tasksChargeWord ≡ halves (g .tasks) (g .charge) =
+      at tasksChargeWord (omega arith) ∙ written .tasks-charge in
       let e1 : word (blockOf g p) idWord ≡ g .id = at idWord (omega arith) ∙ written .id in
       let e2 : word (blockOf g p) capacityWord ≡ g .capacity = at capacityWord (omega arith) ∙ written .capacity in
       let e3 : word (blockOf g p) periodWord ≡ g .period = at periodWord (omega arith) ∙ written .period in
       let e4 : lowHalf (word (blockOf g p) tasksChargeWord) ≡ g .tasks = omega (arith, few) in
       let e5 : highHalf (word (blockOf g p) tasksChargeWord) ≡ g .charge = omega (arith, few) in
-      let r = column-is runWord (g .run) (λ i l. entry-is i (runWord i) (nth (g .run) i) (omega arith) (λ m. written .entry i m .run) (λ m. omega arith)) in
-      let e = column-is everyWord (g .every) (λ i l. entry-is i (everyWord i) (nth (g .every) i) (omega arith) (λ m. written .entry i m .every) (λ m. omega arith)) in
-      let d = column-is deadlineWord (g .deadline) (λ i l. entry-is i (deadlineWord i) (nth (g .deadline) i) (omega arith) (λ m. written .entry i m .deadline) (λ m. omega arith)) in
-      λ k. record { id = e1 k; capacity = e2 k; period = e3 k; tasks = e4 k; charge = e5 k; run = r k; every = e k; deadline = d k }
+      let r =
+      column-is runWord (g .run)
+      (λ i l. entry-is i (runWord i) (nth (g .run) i) (omega arith)
+      (λ m. written .entry i m .run) (λ m. omega arith)) in
+      let e =
+      column-is everyWord (g .every)
+      (λ i l. entry-is i (everyWord i) (nth (g .every) i) (omega arith)
+      (λ m. written .entry i m .every) (λ m. omega arith)) in
+      let d =
+      column-is deadlineWord (g .deadline)
+      (λ i l. entry-is i (deadlineWord i) (nth (g .deadline) i) (omega arith)
+      (λ m. written .entry i m .deadline) (λ m. omega arith)) in
+      λ k.
+      record { id = e1 k; capacity = e2 k; period = e3 k; tasks = e4 k; charge = e5 k; run = r k; every = e k; deadline = d k }
 
-  -- a task's numbers are kept
+  -- A task's numbers are kept.
   first-at : (xs : List ℕ) (i : ℕ) → i < g .tasks → nth (firstTasks (g .tasks) xs) i ≡ nth xs i
   unfolding firstTasks
-  first-at xs i l = table-at (λ i. pick (ltb i (g .tasks)) (nth xs i) 0) 0 mostTasks i (omega (arith, few)) ∙ rw (lt-ltb i (g .tasks) l) refl
+  first-at xs i l =
+      table-at (λ i. pick (ltb i (g .tasks)) (nth xs i) 0) 0 mostTasks i (omega (arith, few))
+      ∙ rw (lt-ltb i (g .tasks) l) refl
 
   tasks-pass : tasksOk (clearedGuest g) ≡ true
   unfolding tasksOk
-  tasks-pass = all-ext _ _ (g .tasks) (λ i l. rw (first-at (g .run) i l, first-at (g .every) i l, first-at (g .deadline) i l) refl) ∙ tasks
+  tasks-pass =
+      all-ext _ _ (g .tasks)
+      (λ i l. rw (first-at (g .run) i l, first-at (g .every) i l, first-at (g .deadline) i l) refl)
+      ∙ tasks
 
-  zero-between : (from to : ℕ) → ((k : ℕ) → from ≤ k → k < to → word (blockOf g p) k ≡ 0) → zeroBetween (blockOf g p) from to ≡ true
+  zero-between : (from to : ℕ) → ((k : ℕ) → from ≤ k → k < to → word (blockOf g p) k ≡ 0)
+      → zeroBetween (blockOf g p) from to ≡ true
   unfolding zeroBetween
   zero-between from to h = all-by _ (to - from) (λ k l. eq-eqb _ _ (h (from + k) (omega arith) (omega arith)))
 
@@ -113,10 +142,11 @@ module _ (g : Guest) (p : ℕ) (fits : GuestInTypes g) (low : p ≤ lastPlace) (
       (zero-between spareFrom spareTo (λ k h l. at k (omega arith) ∙ written .spare k h l))
       (rw n (zero-between (unusedFrom (g .tasks)) checkWord (λ k h l. at k l ∙ written .unused k h (omega arith))))
 
-  -- what the reader says of what the writer writes
+  -- What the reader says of what the writer writes.
   pub number-back : (new : Bool) → new ≡ true → blockNumber (blockOf g p) p new ≡ 0
   number-back new e =
-      sym (none (blockOf g p) p new sums opens (and-true (ap guestOk record-is ∙ head) e) zeros (ap tasksOk record-is ∙ tasks-pass))
+      sym
+      (none (blockOf g p) p new sums opens (and-true (ap guestOk record-is ∙ head) e) zeros (ap tasksOk record-is ∙ tasks-pass))
 
   pub guest-back : guestOf (blockOf g p) ≡ clearedGuest g
   guest-back = record-is

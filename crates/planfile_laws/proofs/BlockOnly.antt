@@ -29,7 +29,8 @@ use Rattle.block.proofs.Writing.{words-length}
 use Rattle.planfile_laws.proofs.Words.{WordsAt, words-at, check-other, check-at}
 
 -- A word of the head is one of five.
-head-word : (P : ℕ → Type 0) → P kindPlaceWord → P idWord → P capacityWord → P periodWord → P tasksChargeWord → (k : ℕ) → k < spareFrom → P k
+head-word : (P : ℕ → Type 0) → P kindPlaceWord → P idWord → P capacityWord → P periodWord → P tasksChargeWord
+    → (k : ℕ) → k < spareFrom → P k
 head-word P a b c d e zero h = a
 head-word P a b c d e (suc zero) h = b
 head-word P a b c d e (suc (suc zero)) h = c
@@ -38,7 +39,8 @@ head-word P a b c d e (suc (suc (suc (suc zero)))) h = e
 head-word P a b c d e (suc (suc (suc (suc (suc j))))) h = absurd (omega arith)
 
 -- A word of entry i is its run, its period or its deadline.
-entry-word : (P : ℕ → Type 0) (i k : ℕ) → runWord i ≤ k → k < runWord (suc i) → P (runWord i) → P (everyWord i) → P (deadlineWord i) → P k
+entry-word : (P : ℕ → Type 0) (i k : ℕ) → runWord i ≤ k → k < runWord (suc i) → P (runWord i) → P (everyWord i)
+    → P (deadlineWord i) → P k
 entry-word P i k l h run every deadline =
     elim (decLt k (everyWord i)) [
       | yes m ↦ let e : k ≡ runWord i = omega arith in rw e run
@@ -48,7 +50,8 @@ entry-word P i k l h run every deadline =
       ]
     ]
 
-module _ (b : List ℕ) (p : ℕ) (new : Bool) (long : length b ≡ blockSize) (bytes : Bytes b) (ok : blockNumber b p new ≡ 0) where
+module _ (b : List ℕ) (p : ℕ) (new : Bool) (long : length b ≡ blockSize) (bytes : Bytes b)
+    (ok : blockNumber b p new ≡ 0) where
   passed : BlockIn b p new
   passed = block-in b p new ok
 
@@ -58,24 +61,31 @@ module _ (b : List ℕ) (p : ℕ) (new : Bool) (long : length b ≡ blockSize) (
   written : WordsAt (guestOf b) p
   written = words-at (guestOf b) p few
 
-  -- the head
+  -- The head.
   head-at : (k : ℕ) → k < spareFrom → nth (wordsOf (guestOf b) p) k ≡ word b k
   head-at =
       let k1 : kindIn b ≡ guestKind = eqb-true _ _ (and-left (kindOk b) (ownPlace b p) (passed .opens)) in
       let k2 : placeIn b ≡ p = eqb-true _ _ (and-right (kindOk b) (ownPlace b p) (passed .opens)) in
       let e0 = written .kind-place in
       let e4 = written .tasks-charge in
-      head-word (λ k. nth (wordsOf (guestOf b) p) k ≡ word b k) (omega arith) (written .id) (written .capacity) (written .period) (omega arith)
+      head-word (λ k. nth (wordsOf (guestOf b) p) k ≡ word b k) (omega arith) (written .id) (written .capacity)
+      (written .period) (omega arith)
 
-  -- the bytes that must be zero
+  -- The bytes that must be zero.
   spare-at : (k : ℕ) → spareFrom ≤ k → k < spareTo → nth (wordsOf (guestOf b) p) k ≡ word b k
-  spare-at k h l = written .spare k h l ∙ sym (zero-at b spareFrom spareTo k h l (and-left (zeroBetween b spareFrom spareTo) _ (passed .zeros)))
+  spare-at k h l =
+      written .spare k h l
+      ∙ sym (zero-at b spareFrom spareTo k h l (and-left (zeroBetween b spareFrom spareTo) _ (passed .zeros)))
 
   unused-at : (k : ℕ) → unusedFrom (taskCount b) ≤ k → k < checkWord → nth (wordsOf (guestOf b) p) k ≡ word b k
-  unused-at k h l = written .unused k h (omega arith) ∙ sym (zero-at b (unusedFrom (taskCount b)) checkWord k h l (and-right (zeroBetween b spareFrom spareTo) _ (passed .zeros)))
+  unused-at k h l =
+      written .unused k h (omega arith)
+      ∙ sym
+      (zero-at b (unusedFrom (taskCount b)) checkWord k h l (and-right (zeroBetween b spareFrom spareTo) _ (passed .zeros)))
 
-  -- the words of entry i
-  entry-at : (i : ℕ) → i < taskCount b → (k : ℕ) → runWord i ≤ k → k < runWord (suc i) → nth (wordsOf (guestOf b) p) k ≡ word b k
+  -- The words of entry i.
+  entry-at : (i : ℕ) → i < taskCount b → (k : ℕ) → runWord i ≤ k → k < runWord (suc i)
+      → nth (wordsOf (guestOf b) p) k ≡ word b k
   entry-at i l k m h =
       let o = written .entry i l in
       entry-word (λ k. nth (wordsOf (guestOf b) p) k ≡ word b k) i k m h
@@ -96,20 +106,24 @@ module _ (b : List ℕ) (p : ℕ) (new : Bool) (long : length b ≡ blockSize) (
         ]
       ]
 
-  -- the check is the only word that makes the sum zero
+  -- The check is the only word that makes the sum zero.
   last-at : nth (withCheck (wordsOf (guestOf b) p)) checkWord ≡ word b checkWord
   last-at =
       let z : wrapped (word b) blockWords ≡ 0 = eqb-true _ _ (passed .sums) in
       check-at (wordsOf (guestOf b) p) (words-length (guestOf b) p)
       ∙ rw (sum-same (nth (wordsOf (guestOf b) p)) (word b) checkWord word-at)
-      (complement-only (word b checkWord) (sumTo (word b) checkWord) (rw (sum-last (word b) checkWord) at z) (word-fits b checkWord bytes))
+      (complement-only (word b checkWord) (sumTo (word b) checkWord)
+      (rw (sum-last (word b) checkWord) at z) (word-fits b checkWord bytes))
 
   full-at : (k : ℕ) → k < blockWords → nth (withCheck (wordsOf (guestOf b) p)) k ≡ word b k
   full-at k l =
-      ⊎-elim (λ e. rw e last-at) (λ m. check-other (wordsOf (guestOf b) p) k m ∙ word-at k m) (eq-or-lt-of-le {n = k} {m = checkWord} (omega arith))
+      ⊎-elim (λ e. rw e last-at) (λ m. check-other (wordsOf (guestOf b) p) k m ∙ word-at k m)
+      (eq-or-lt-of-le {n = k} {m = checkWord} (omega arith))
 
-  -- the bytes that the writer writes for what the reader gives
+  -- The bytes that the writer writes for what the reader gives.
   pub written-again : blockOf (guestOf b) p ≡ b
   unfolding blockOf
   written-again =
-      bytes-ext (nth (withCheck (wordsOf (guestOf b) p))) (word b) blockWords full-at ∙ bytesOf-word b blockWords (omega arith) bytes ∙ take-all blockSize b (omega arith)
+      bytes-ext (nth (withCheck (wordsOf (guestOf b) p))) (word b) blockWords full-at
+      ∙ bytesOf-word b blockWords (omega arith) bytes
+      ∙ take-all blockSize b (omega arith)

@@ -11,7 +11,7 @@ use Rattle.block.specs.Layout.{blockSize}
 use Rattle.planfile.specs.File.{blockAt}
 use Rattle.planfile_laws.specs.File.{joined}
 
--- parts that agree join to the same
+-- Parts that agree join to the same.
 pub joined-ext : (f g : ℕ → List ℕ) (n : ℕ) → ((k : ℕ) → k < n → f k ≡ g k) → joined f n ≡ joined g n
 unfolding joined
 joined-ext f g zero h = refl
@@ -23,7 +23,7 @@ module _ (f : ℕ → List ℕ) (long : (k : ℕ) → length (f k) ≡ blockSize
   joined-length zero = refl
   joined-length (suc n) = simp length-append (omega (arith, joined-length n, long n))
 
-  -- each part, with more behind
+  -- Each part, with more behind.
   joined-before : (n : ℕ) (t : List ℕ) (k : ℕ) → k < n → blockAt (joined f n ++ t) k ≡ f k
   unfolding joined
   joined-before zero t k l = absurd (omega arith)
@@ -31,15 +31,17 @@ module _ (f : ℕ → List ℕ) (long : (k : ℕ) → length (f k) ≡ blockSize
       rw append-assoc
       (⊎-elim
       (λ (e : k ≡ n).
-      rw e (ap (take blockSize) (drop-at (joined f n) (f n ++ t) (blockSize * n) (joined-length n)) ∙ take-at (f n) t blockSize (long n)))
+      rw e
+      (ap (take blockSize) (drop-at (joined f n) (f n ++ t) (blockSize * n) (joined-length n))
+      ∙ take-at (f n) t blockSize (long n)))
       (λ (m : k < n). joined-before n (f n ++ t) k m)
       (eq-or-lt-of-le {n = k} {m = n} (omega arith)))
 
-  -- each part is a block of the whole
+  -- Each part is a block of the whole.
   pub joined-at : (n k : ℕ) → k < n → blockAt (joined f n) k ≡ f k
   joined-at n k l = rw (← append-nil (joined f n)) (joined-before n [] k l)
 
--- the blocks of a list joined are its first bytes
+-- The blocks of a list joined are its first bytes.
 pub blocks-joined : (s : List ℕ) (n : ℕ) → joined (blockAt s) n ≡ take (blockSize * n) s
 unfolding joined
 blocks-joined s zero = refl

@@ -5,5 +5,8 @@ pub mod BlockOnly
 pub mod Joined
 pub mod ReadBack
 pub mod OnlyOurs
+pub mod Causes
+pub mod Order
 pub mod Exact
+pub mod ExactRecords
 pub mod Worked

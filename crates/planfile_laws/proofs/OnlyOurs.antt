@@ -35,17 +35,24 @@ module _ (s : List ℕ) (ok : fileRefusal s .number ≡ 0) where
   block-bytes : Bytes s → (k : ℕ) → Bytes (blockAt s k)
   block-bytes bytes k i =
       elim (decLt i blockSize) [
-        | yes h ↦ rw (getD-take blockSize (drop (blockSize * k) s) i 0 h, getD-drop (blockSize * k) s i 0) (bytes (blockSize * k + i))
-        | no h ↦ rw (List·getD-eq-default {A = ℕ} (blockAt s k) 0 {n = i} (rw (length-take blockSize (drop (blockSize * k) s)) (omega arith))) (omega arith)
+        | yes h ↦ rw (getD-take blockSize (drop (blockSize * k) s) i 0 h, getD-drop (blockSize * k) s i 0)
+            (bytes (blockSize * k + i))
+        | no h ↦ rw
+            (List·getD-eq-default {A = ℕ} (blockAt s k) 0 {n = i} (rw (length-take blockSize (drop (blockSize * k) s)) (omega arith)))
+            (omega arith)
       ]
 
   block-again : Bytes s → (k : ℕ) → k < blocksIn s → blockOf (guestOf (blockAt s k)) k ≡ blockAt s k
   unfolding numberAt
-  block-again bytes k l = written-again (blockAt s k) k (newId (idAt s) k) (part-long s (blockAt s k) k refl l) (block-bytes bytes k) (inside .blocks k l)
+  block-again bytes k l =
+      written-again (blockAt s k) k (newId (idAt s) k) (part-long s (blockAt s k) k refl l) (block-bytes bytes k)
+      (inside .blocks k l)
 
   guest-at : (k : ℕ) → k < blocksIn s → guestAt (recordsOf s (blocksIn s)) k ≡ guestOf (blockAt s k)
   unfolding recordsOf
-  guest-at k l = table-before (λ k. guestOf (blockAt s k)) absent (blocksIn s) (drop (blocksIn s) (replicate mostGuests blank)) k l
+  guest-at k l =
+      table-before (λ k. guestOf (blockAt s k)) absent (blocksIn s)
+      (drop (blocksIn s) (replicate mostGuests blank)) k l
 
   plan-is : readOf s .plan ≡ record { count = blocksIn s; guests = recordsOf s (blocksIn s) }
   unfolding readOf planBy
@@ -55,11 +62,12 @@ module _ (s : List ℕ) (ok : fileRefusal s .number ≡ 0) where
   unfolding fileOf
   again bytes =
       let z = inside .size .whole in
-      joined-ext _ (blockAt s) (blocksIn s) (λ k l. ap (λ (g : Guest). blockOf g k) (guest-at k l) ∙ block-again bytes k l)
+      joined-ext _ (blockAt s) (blocksIn s)
+      (λ k l. ap (λ (g : Guest). blockOf g k) (guest-at k l) ∙ block-again bytes k l)
       ∙ blocks-joined s (blocksIn s)
       ∙ take-all (blockSize * blocksIn s) s (omega arith)
 
-  -- the records read pass the records' order
+  -- The records read pass the records' order.
   id-at : (k : ℕ) → k < blocksIn s → guestAt (recordsOf s (blocksIn s)) k .id ≡ idAt s k
   id-at k l = ap (λ (g : Guest). g .id) (guest-at k l)
 
@@ -79,12 +87,12 @@ module _ (s : List ℕ) (ok : fileRefusal s .number ≡ 0) where
       sym (counted (record { count = blocksIn s; guests = recordsOf s (blocksIn s) }) (omega arith) (omega arith))
       ∙ first-fine (guestNumber (recordsOf s (blocksIn s))) (blocksIn s) 0 (λ k l m. guest-passes k (omega arith))
 
--- bytes that are read without a refusal are exactly what the writer writes for what was read, block after block
+-- Bytes that are read without a refusal are exactly what the writer writes for what was read, block after block.
 pub only-ours : (s : List ℕ) → Bytes s → readOf s .refusal .number ≡ 0 → fileOf (readOf s .plan) ≡ s
 unfolding readOf
 only-ours s bytes ok = ap fileOf (plan-is s ok) ∙ again s ok bytes
 
--- what was read passes the records' order, so the writer does not refuse it
+-- What was read passes the records' order, so the writer does not refuse it.
 pub read-passes : (s : List ℕ) → readOf s .refusal .number ≡ 0 → planRefusal (readOf s .plan) ≡ fine
 unfolding readOf
 read-passes s ok = ap planRefusal (plan-is s ok) ∙ passes s ok

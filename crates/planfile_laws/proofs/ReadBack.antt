@@ -1,4 +1,5 @@
--- Read-back: a plan that passes the records' order, written and read, is that plan with zeros past its guests and tasks. Assumes nothing.
+-- Read-back: a plan that passes the records' order, written and read, is that plan with zeros past its guests and
+-- tasks. Assumes nothing.
 use mathlib.Core.Path.{_≡_, refl, sym, ap, _∙_}
 use mathlib.Core.Bool.{true}
 use mathlib.Core.List.{List, _++_}
@@ -30,17 +31,21 @@ use Rattle.planfile.proofs.Records.{reading, read-fine}
 use Rattle.planfile_laws.proofs.BlockBack.{block-length, number-back, guest-back}
 use Rattle.planfile_laws.proofs.Joined.{joined-length, joined-at}
 
--- a guest in its ranges passes the tests
+-- A guest in its ranges passes the tests.
 head-passes : {id capacity period tasks : ℕ} → HeadIn id capacity period tasks → headOk id capacity period tasks ≡ true
 unfolding headOk
 head-passes {id} {capacity} {period} {tasks} h =
-    and-true (and-true (and-true (le-leb _ _ (h .named)) (and-true (le-leb _ _ (h .some)) (le-leb _ _ (h .fits)))) (and-true (le-leb 1 period (omega arith)) (le-leb _ _ (h .short))))
+    and-true
+    (and-true (and-true (le-leb _ _ (h .named)) (and-true (le-leb _ _ (h .some)) (le-leb _ _ (h .fits))))
+    (and-true (le-leb 1 period (omega arith)) (le-leb _ _ (h .short))))
     (and-true (le-leb _ _ (h .many)) (le-leb _ _ (h .few)))
 
 task-passes : {run every deadline : ℕ} → TaskIn run every deadline → taskOk run every deadline ≡ true
 unfolding taskOk
 task-passes t =
-    and-true (and-true (and-true (le-leb _ _ (t .runs)) (le-leb _ _ (t .run-short))) (and-true (le-leb _ _ (t .some)) (le-leb _ _ (t .short))))
+    and-true
+    (and-true (and-true (le-leb _ _ (t .runs)) (le-leb _ _ (t .run-short)))
+    (and-true (le-leb _ _ (t .some)) (le-leb _ _ (t .short))))
     (and-true (le-leb _ _ (t .due)) (le-leb _ _ (t .in-time)))
 
 tasks-pass : (g : Guest) → GuestIn g → tasksOk g ≡ true
@@ -69,12 +74,14 @@ module _ (p : Plan) (fits : PlanInTypes p) (ok : planRefusal p .number ≡ 0) wh
   guest-at k l =
       let i = inside .guests k l in
       ap (λ (b : List ℕ). guestOf b) (block-at k l)
-      ∙ guest-back (guestAt (p .guests) k) k (fits k l) (omega (arith, inside .few)) (head-passes (i .head)) (tasks-pass (guestAt (p .guests) k) i)
+      ∙ guest-back (guestAt (p .guests) k) k (fits k l) (omega (arith, inside .few)) (head-passes (i .head))
+      (tasks-pass (guestAt (p .guests) k) i)
 
   new-at : (k : ℕ) → k < p .count → newId (idAt s) k ≡ true
   unfolding newId
   new-at k l =
-      let id : (j : ℕ) → j ≤ k → idAt s j ≡ guestAt (p .guests) j .id = λ j m. ap (λ (g : Guest). g .id) (guest-at j (omega arith)) in
+      let id : (j : ℕ) → j ≤ k → idAt s j ≡ guestAt (p .guests) j .id =
+      λ j m. ap (λ (g : Guest). g .id) (guest-at j (omega arith)) in
       all-ext _ _ k (λ j m. rw (id j (omega arith), id k (omega arith)) refl) ∙ inside .new k l
 
   number-zero : (k : ℕ) → k < p .count → numberAt s k ≡ 0
@@ -82,7 +89,8 @@ module _ (p : Plan) (fits : PlanInTypes p) (ok : planRefusal p .number ≡ 0) wh
   number-zero k l =
       let i = inside .guests k l in
       rw (block-at k l)
-      (number-back (guestAt (p .guests) k) k (fits k l) (omega (arith, inside .few)) (head-passes (i .head)) (tasks-pass (guestAt (p .guests) k) i) (newId (idAt s) k) (new-at k l))
+      (number-back (guestAt (p .guests) k) k (fits k l) (omega (arith, inside .few)) (head-passes (i .head))
+      (tasks-pass (guestAt (p .guests) k) i) (newId (idAt s) k) (new-at k l))
 
   count-is : blocksIn s ≡ p .count
   count-is = rw size (omega arith)
@@ -92,17 +100,21 @@ module _ (p : Plan) (fits : PlanInTypes p) (ok : planRefusal p .number ≡ 0) wh
       let a = inside .some in
       let b = inside .few in
       rw size
-      (and-true (and-true (le-leb 1 (blockSize * p .count) (omega arith)) (le-leb (blockSize * p .count) mostBytes (omega arith))) (eq-eqb (blockSize * p .count % blockSize) 0 (omega arith)))
+      (and-true
+      (and-true (le-leb 1 (blockSize * p .count) (omega arith)) (le-leb (blockSize * p .count) mostBytes (omega arith)))
+      (eq-eqb (blockSize * p .count % blockSize) 0 (omega arith)))
 
   nothing-refused : fine ≡ fileRefusal s
   nothing-refused =
-      sym (first-fine (numberAt s) (blocksIn s) 0 (λ z l m. number-zero z (omega (arith, count-is)))) ∙ sized s size-right
+      sym (first-fine (numberAt s) (blocksIn s) 0 (λ z l m. number-zero z (omega (arith, count-is))))
+      ∙ sized s size-right
 
   records-are : recordsOf s (p .count) ≡ cleared p .guests
   unfolding recordsOf cleared
-  records-are = ap (λ (gs : List Guest). gs ++ drop (p .count) (replicate mostGuests blank)) (table-ext _ _ (p .count) guest-at)
+  records-are =
+      ap (λ (gs : List Guest). gs ++ drop (p .count) (replicate mostGuests blank)) (table-ext _ _ (p .count) guest-at)
 
-  -- the whole file
+  -- The whole file.
   back : readOf s ≡ reading fine (cleared p)
   unfolding cleared
   back =
@@ -110,18 +122,22 @@ module _ (p : Plan) (fits : PlanInTypes p) (ok : planRefusal p .number ≡ 0) wh
       ∙ ap (λ (n : ℕ). reading fine (record { count = n; guests = recordsOf s n })) count-is
       ∙ ap (λ (gs : List Guest). reading fine (record { count = p .count; guests = gs })) records-are
 
--- for records that pass the check, the file of their blocks is read without a refusal as those records, with zeros past the counts
-pub read-back : (p : Plan) → PlanInTypes p → planRefusal p .number ≡ 0 → readOf (fileOf p) ≡ record { refusal = fine; plan = cleared p }
+-- For records that pass the check, the file of their blocks is read without a refusal as those records, with zeros
+-- past the counts.
+pub read-back : (p : Plan) → PlanInTypes p → planRefusal p .number ≡ 0
+    → readOf (fileOf p) ≡ record { refusal = fine; plan = cleared p }
 unfolding s
 read-back p fits ok = back p fits ok
 
--- and each block of that file is what the writer, which refuses none of them, leaves in the first 512 of the lent bytes
-pub written-so : (p : Plan) → planRefusal p .number ≡ 0 → (k : ℕ) → k < p .count → (before : List ℕ) → blockSize ≤ length before
+-- Each block of that file is what the writer, which refuses none of them, leaves in the first 512 of the lent bytes.
+pub written-so : (p : Plan) → planRefusal p .number ≡ 0 → (k : ℕ) → k < p .count → (before : List ℕ)
+    → blockSize ≤ length before
     → (writeRefusal (guestAt (p .guests) k) k (length before) ≡ fine)
     × (written (guestAt (p .guests) k) k before ≡ blockOf (guestAt (p .guests) k) k ++ drop blockSize before)
 written-so p ok k l before h =
     let i = plan-in p ok in
     let g : Guest = guestAt (p .guests) k in
     let n : 0 ≡ writeNumber g k (length before) =
-    none g k (length before) h (omega (arith, i .few)) (head-passes (i .guests k l .head)) (tasks-pass g (i .guests k l)) in
+    none g k (length before) h (omega (arith, i .few)) (head-passes (i .guests k l .head))
+    (tasks-pass g (i .guests k l)) in
     (rw (← n) refl, sym (by-none _ (blockOf g k) before (sym n)))

@@ -20,13 +20,13 @@ use Rattle.planfile_laws.specs.Fits.{GuestInTypes}
 use Rattle.lists.proofs.Places.{set-get}
 use Rattle.block.proofs.Writing.{head-length, entries-length}
 
--- an entry that stands
+-- An entry that stands.
 pub record EntryAt (x : List ℕ) (i r e d : ℕ) : Type 0 where
   pub run : nth x (runWord i) ≡ r
   pub every : nth x (everyWord i) ≡ e
   pub deadline : nth x (deadlineWord i) ≡ d
 
--- the entry put in stands
+-- The entry put in stands.
 entry-here : (n r e d : ℕ) (x : List ℕ) → n < mostTasks → length x ≡ blockWords → EntryAt (withEntry n r e d x) n r e d
 unfolding withEntry
 entry-here n r e d x h l =
@@ -36,13 +36,16 @@ entry-here n r e d x h l =
     let l2 : length x2 ≡ blockWords = length-set x1 (everyWord n) e ∙ l1 in
     record {
       run =
-          getD-set-other x2 (deadlineWord n) (runWord n) d 0 (λ q. omega arith) ∙ getD-set-other x1 (everyWord n) (runWord n) e 0 (λ q. omega arith)
+          getD-set-other x2 (deadlineWord n) (runWord n) d 0 (λ q. omega arith)
+          ∙ getD-set-other x1 (everyWord n) (runWord n) e 0 (λ q. omega arith)
           ∙ getD-set-same x (runWord n) r 0 (omega arith);
-      every = getD-set-other x2 (deadlineWord n) (everyWord n) d 0 (λ q. omega arith) ∙ getD-set-same x1 (everyWord n) e 0 (omega arith);
+      every =
+          getD-set-other x2 (deadlineWord n) (everyWord n) d 0 (λ q. omega arith)
+          ∙ getD-set-same x1 (everyWord n) e 0 (omega arith);
       deadline = getD-set-same x2 (deadlineWord n) d 0 (omega arith);
     }
 
--- the words before it are as they were
+-- The words before an entry put in are as they were.
 entry-before : (n r e d : ℕ) (x : List ℕ) (k : ℕ) → k < runWord n → nth (withEntry n r e d x) k ≡ nth x k
 unfolding withEntry
 entry-before n r e d x k h =
@@ -50,7 +53,7 @@ entry-before n r e d x k h =
     ∙ getD-set-other (set x (runWord n) r) (everyWord n) k e 0 (λ q. omega arith)
     ∙ getD-set-other x (runWord n) k r 0 (λ q. omega arith)
 
--- and those after it
+-- The words after an entry put in are as they were.
 entry-after : (n r e d : ℕ) (x : List ℕ) (k : ℕ) → unusedFrom (suc n) ≤ k → nth (withEntry n r e d x) k ≡ nth x k
 unfolding withEntry
 entry-after n r e d x k h =
@@ -58,27 +61,29 @@ entry-after n r e d x k h =
     ∙ getD-set-other (set x (runWord n) r) (everyWord n) k e 0 (λ q. omega arith)
     ∙ getD-set-other x (runWord n) k r 0 (λ q. omega arith)
 
--- a number that fits put among numbers that fit
+-- A number that fits put among numbers that fit.
 set-fits : (b : ℕ) (x : List ℕ) (i v : ℕ) → Below b x → v < b → Below b (set x i v)
 set-fits b x i v f h k = ⊎-elim (λ e. rw e h) (λ e. rw e (f k)) (set-get x i v k)
 
 module _ (R E D : List ℕ) where
-  -- the words before the entries are as they were
+  -- The words before the entries are as they were.
   entries-before : (n : ℕ) (x : List ℕ) (k : ℕ) → k < spareTo → nth (withEntries R E D n x) k ≡ nth x k
   unfolding withEntries
   entries-before zero x k h = refl
   entries-before (suc n) x k h =
       entry-before n (nth R n) (nth E n) (nth D n) (withEntries R E D n x) k (omega arith) ∙ entries-before n x k h
 
-  -- and those after them
+  -- The words after the entries are as they were.
   entries-after : (n : ℕ) (x : List ℕ) (k : ℕ) → unusedFrom n ≤ k → nth (withEntries R E D n x) k ≡ nth x k
   unfolding withEntries
   entries-after zero x k h = refl
   entries-after (suc n) x k h =
-      entry-after n (nth R n) (nth E n) (nth D n) (withEntries R E D n x) k (omega arith) ∙ entries-after n x k (omega arith)
+      entry-after n (nth R n) (nth E n) (nth D n) (withEntries R E D n x) k (omega arith)
+      ∙ entries-after n x k (omega arith)
 
-  -- each entry stands
-  entries-at : (n : ℕ) (x : List ℕ) → n ≤ mostTasks → length x ≡ blockWords → (i : ℕ) → i < n → EntryAt (withEntries R E D n x) i (nth R i) (nth E i) (nth D i)
+  -- Each entry stands.
+  entries-at : (n : ℕ) (x : List ℕ) → n ≤ mostTasks → length x ≡ blockWords → (i : ℕ) → i < n
+      → EntryAt (withEntries R E D n x) i (nth R i) (nth E i) (nth D i)
   unfolding withEntries
   entries-at zero x h l i m = absurd (omega arith)
   entries-at (suc n) x h l i m =
@@ -94,21 +99,23 @@ module _ (R E D : List ℕ) where
       })
       (eq-or-lt-of-le {n = i} {m = n} (omega arith))
 
-  -- numbers that fit stay so
+  -- Among numbers that fit, entries that fit keep it so.
   entries-fit : (b n : ℕ) (x : List ℕ) → Below b R → Below b E → Below b D → Below b x → Below b (withEntries R E D n x)
   unfolding withEntries withEntry
   entries-fit b zero x r e d f = f
   entries-fit b (suc n) x r e d f =
       let y : List ℕ = withEntries R E D n x in
       set-fits b (set (set y (runWord n) (nth R n)) (everyWord n) (nth E n)) (deadlineWord n) (nth D n)
-      (set-fits b (set y (runWord n) (nth R n)) (everyWord n) (nth E n) (set-fits b y (runWord n) (nth R n) (entries-fit b n x r e d f) (r n)) (e n)) (d n)
+      (set-fits b (set y (runWord n) (nth R n)) (everyWord n) (nth E n)
+      (set-fits b y (runWord n) (nth R n) (entries-fit b n x r e d f) (r n)) (e n))
+      (d n)
 
--- what is put in: nothing stands before
+-- Before anything is put in, all words are zero.
 zeros : List ℕ
 zeros = replicate blockWords 0
 
 module _ (g : Guest) (p : ℕ) where
-  -- the head's words
+  -- The head's words.
   head-opening : nth (withHead g p zeros) kindPlaceWord ≡ halves guestKind p
   unfolding withHead zeros
   head-opening = refl
@@ -129,15 +136,20 @@ module _ (g : Guest) (p : ℕ) where
   unfolding withHead zeros
   head-tasks = refl
 
-  -- zeros past them
+  -- The words past the head are zero.
   head-past : (k : ℕ) → spareFrom ≤ k → k < blockWords → nth (withHead g p zeros) k ≡ 0
   unfolding withHead zeros
   head-past k h l =
-      getD-set-other (set (set (set (set (replicate blockWords 0) kindPlaceWord (halves guestKind p)) idWord (g .id)) capacityWord (g .capacity)) periodWord (g .period)) tasksChargeWord k (halves (g .tasks) (g .charge)) 0 (λ q. omega arith)
-      ∙ getD-set-other (set (set (set (replicate blockWords 0) kindPlaceWord (halves guestKind p)) idWord (g .id)) capacityWord (g .capacity)) periodWord k (g .period) 0 (λ q. omega arith)
-      ∙ getD-set-other (set (set (replicate blockWords 0) kindPlaceWord (halves guestKind p)) idWord (g .id)) capacityWord k (g .capacity) 0 (λ q. omega arith)
-      ∙ getD-set-other (set (replicate blockWords 0) kindPlaceWord (halves guestKind p)) idWord k (g .id) 0 (λ q. omega arith)
-      ∙ getD-set-other (replicate blockWords 0) kindPlaceWord k (halves guestKind p) 0 (λ q. omega arith)
+      let x : List ℕ = replicate blockWords 0 in
+      let x0 : List ℕ = set x kindPlaceWord (halves guestKind p) in
+      let x1 : List ℕ = set x0 idWord (g .id) in
+      let x2 : List ℕ = set x1 capacityWord (g .capacity) in
+      let x3 : List ℕ = set x2 periodWord (g .period) in
+      getD-set-other x3 tasksChargeWord k (halves (g .tasks) (g .charge)) 0 (λ q. omega arith)
+      ∙ getD-set-other x2 periodWord k (g .period) 0 (λ q. omega arith)
+      ∙ getD-set-other x1 capacityWord k (g .capacity) 0 (λ q. omega arith)
+      ∙ getD-set-other x0 idWord k (g .id) 0 (λ q. omega arith)
+      ∙ getD-set-other x kindPlaceWord k (halves guestKind p) 0 (λ q. omega arith)
       ∙ getD-replicate blockWords k 0 0 l
 
   zeros-fit : Below wordWrap zeros
@@ -145,22 +157,26 @@ module _ (g : Guest) (p : ℕ) where
   zeros-fit k =
       elim (decLt k blockWords) [
         | yes h ↦ rw (getD-replicate {A = ℕ} blockWords k 0 0 h) (omega arith)
-        | no h ↦ rw (List·getD-eq-default {A = ℕ} (replicate blockWords 0) 0 {n = k} (rw (length-replicate {A = ℕ} blockWords 0) (omega arith))) (omega arith)
+        | no h ↦ rw
+            (List·getD-eq-default {A = ℕ} (replicate blockWords 0) 0 {n = k} (rw (length-replicate {A = ℕ} blockWords 0) (omega arith)))
+            (omega arith)
       ]
 
   head-fits : GuestInTypes g → p ≤ lastPlace → g .tasks ≤ mostTasks → Below wordWrap (withHead g p zeros)
   unfolding withHead
   head-fits f l h =
       let c = f .charge in
-      let y1 : List ℕ = set zeros 0 (halves guestKind p) in
-      let y2 : List ℕ = set y1 1 (g .id) in
-      let y3 : List ℕ = set y2 2 (g .capacity) in
-      let y4 : List ℕ = set y3 3 (g .period) in
-      set-fits wordWrap y4 4 (halves (g .tasks) (g .charge))
-      (set-fits wordWrap y3 3 (g .period) (set-fits wordWrap y2 2 (g .capacity) (set-fits wordWrap y1 1 (g .id) (set-fits wordWrap zeros 0 (halves guestKind p) zeros-fit (omega arith)) (f .id)) (f .capacity)) (f .period))
-      (omega arith)
+      let y1 : List ℕ = set zeros kindPlaceWord (halves guestKind p) in
+      let y2 : List ℕ = set y1 idWord (g .id) in
+      let y3 : List ℕ = set y2 capacityWord (g .capacity) in
+      let y4 : List ℕ = set y3 periodWord (g .period) in
+      let f1 : Below wordWrap y1 = set-fits wordWrap zeros kindPlaceWord (halves guestKind p) zeros-fit (omega arith) in
+      let f2 : Below wordWrap y2 = set-fits wordWrap y1 idWord (g .id) f1 (f .id) in
+      let f3 : Below wordWrap y3 = set-fits wordWrap y2 capacityWord (g .capacity) f2 (f .capacity) in
+      let f4 : Below wordWrap y4 = set-fits wordWrap y3 periodWord (g .period) f3 (f .period) in
+      set-fits wordWrap y4 tasksChargeWord (halves (g .tasks) (g .charge)) f4 (omega arith)
 
-  -- the words of the block but for the check
+  -- The words of the block but for the check.
   pub record WordsAt : Type 0 where
     pub kind-place : nth (wordsOf g p) kindPlaceWord ≡ halves guestKind p
     pub id : nth (wordsOf g p) idWord ≡ g .id
@@ -168,14 +184,17 @@ module _ (g : Guest) (p : ℕ) where
     pub period : nth (wordsOf g p) periodWord ≡ g .period
     pub tasks-charge : nth (wordsOf g p) tasksChargeWord ≡ halves (g .tasks) (g .charge)
     pub spare : (k : ℕ) → spareFrom ≤ k → k < spareTo → nth (wordsOf g p) k ≡ 0
-    pub entry : (i : ℕ) → i < g .tasks → EntryAt (wordsOf g p) i (nth (g .run) i) (nth (g .every) i) (nth (g .deadline) i)
+    pub entry : (i : ℕ) → i < g .tasks
+        → EntryAt (wordsOf g p) i (nth (g .run) i) (nth (g .every) i) (nth (g .deadline) i)
     pub unused : (k : ℕ) → unusedFrom (g .tasks) ≤ k → k < blockWords → nth (wordsOf g p) k ≡ 0
 
   pub words-at : g .tasks ≤ mostTasks → WordsAt
   unfolding wordsOf zeros
   words-at h =
       let x : List ℕ = withHead g p zeros in
-      let before : (k : ℕ) → k < spareTo → nth (withEntries (g .run) (g .every) (g .deadline) (g .tasks) x) k ≡ nth x k = entries-before (g .run) (g .every) (g .deadline) (g .tasks) x in
+      let y : List ℕ = withEntries (g .run) (g .every) (g .deadline) (g .tasks) x in
+      let before : (k : ℕ) → k < spareTo → nth y k ≡ nth x k =
+      entries-before (g .run) (g .every) (g .deadline) (g .tasks) x in
       record {
         kind-place = before kindPlaceWord (omega arith) ∙ head-opening;
         id = before idWord (omega arith) ∙ head-id;
@@ -184,24 +203,28 @@ module _ (g : Guest) (p : ℕ) where
         tasks-charge = before tasksChargeWord (omega arith) ∙ head-tasks;
         spare = λ k l m. before k m ∙ head-past k l (omega arith);
         entry = entries-at (g .run) (g .every) (g .deadline) (g .tasks) x h (head-length g p zeros);
-        unused = λ k l m. entries-after (g .run) (g .every) (g .deadline) (g .tasks) x k l ∙ head-past k (omega arith) m;
+        unused =
+            λ k l m. entries-after (g .run) (g .every) (g .deadline) (g .tasks) x k l ∙ head-past k (omega arith) m;
       }
 
   pub words-fit : GuestInTypes g → p ≤ lastPlace → g .tasks ≤ mostTasks → Below wordWrap (wordsOf g p)
   unfolding wordsOf zeros
-  words-fit f l h = entries-fit (g .run) (g .every) (g .deadline) wordWrap (g .tasks) (withHead g p zeros) (f .run) (f .every) (f .deadline) (head-fits f l h)
+  words-fit f l h =
+      entries-fit (g .run) (g .every) (g .deadline) wordWrap (g .tasks) (withHead g p zeros) (f .run) (f .every)
+      (f .deadline) (head-fits f l h)
 
--- with the check put in, every other word is as it was
+-- With the check put in, every other word is as it was.
 pub check-other : (x : List ℕ) (k : ℕ) → k < checkWord → nth (withCheck x) k ≡ nth x k
 unfolding withCheck
 check-other x k h = getD-set-other x checkWord k (complement (wrapped (nth x) checkWord)) 0 (λ q. omega arith)
 
--- and the check is the complement of the rest
-pub check-at : (x : List ℕ) → length x ≡ blockWords → nth (withCheck x) checkWord ≡ complement (wrapped (nth x) checkWord)
+-- The check put in is the complement of the rest.
+pub check-at : (x : List ℕ) → length x ≡ blockWords
+    → nth (withCheck x) checkWord ≡ complement (wrapped (nth x) checkWord)
 unfolding withCheck
 check-at x l = getD-set-same x checkWord (complement (wrapped (nth x) checkWord)) 0 (omega arith)
 
--- which fits
+-- A block's words fit with the check put in too.
 pub check-fits : (x : List ℕ) → Below wordWrap x → Below wordWrap (withCheck x)
 unfolding withCheck
 check-fits x f = set-fits wordWrap x checkWord (complement (wrapped (nth x) checkWord)) f (omega arith)

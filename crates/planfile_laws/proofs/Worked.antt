@@ -19,17 +19,17 @@ use Rattle.worked.specs.Plans.{A}
 use Rattle.planfile.specs.Records.{recordsOf, planBy, readOf}
 use Rattle.planfile_laws.specs.File.{joined, fileOf}
 
--- 512 zero bytes: refusal 3, place 0
+-- 512 zero bytes: refusal 3, place 0.
 pub zero-bytes : readOf (replicate 512 0) ≡ record { refusal = refused 3 0; plan = blankPlan }
 unfolding readOf planBy fileRefusal sizedBy firstRefused orElse numberAt blockNumber refusal unless word sumTo
 zero-bytes = refl
 
--- empty input: 1
+-- Empty input: 1.
 pub empty : readOf [] ≡ record { refusal = refused 1 0; plan = blankPlan }
 unfolding readOf planBy fileRefusal sizedBy
 empty = refl
 
--- it is written to 1,024 bytes and read back as it was
+-- Plan A is written to 1,024 bytes and read back as it was.
 pub plan-a-length : length (fileOf A) ≡ 1024
 unfolding fileOf joined blockOf bytesOf
 plan-a-length = refl

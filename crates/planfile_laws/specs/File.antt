@@ -12,20 +12,20 @@ use Rattle.plan.specs.Records.{guestAt, blank}
 use Rattle.plan.specs.Ranges.{mostGuests, mostTasks}
 use Rattle.block.specs.Writing.{blockOf}
 
--- the parts f 0, f 1, … and f (n - 1) one after the other
+-- The parts f 0, f 1, … and f (n - 1) one after the other.
 unfoldable pub joined : (ℕ → List ℕ) → ℕ → List ℕ
 joined f zero = []
 joined f (suc n) = joined f n ++ f n
 
--- a plan's file: the blocks that the writer writes for its guests at places 0, 1, … and count - 1
+-- A plan's file: the blocks that the writer writes for its guests at places 0, 1, … and count - 1.
 unfoldable pub fileOf : Plan → List ℕ
 fileOf p = joined (λ k. blockOf (guestAt (p .guests) k) k) (p .count)
 
--- a column with zeros past the first n tasks
+-- A column with zeros past the first n tasks.
 unfoldable pub firstTasks : ℕ → List ℕ → List ℕ
 firstTasks n column = table (λ i. pick (ltb i n) (nth column i) 0) mostTasks
 
--- a guest with zeros past its tasks
+-- A guest with zeros past its tasks.
 abbrev pub clearedGuest : Guest → Guest
 clearedGuest g = record {
   id = g .id;
@@ -38,7 +38,7 @@ clearedGuest g = record {
   deadline = firstTasks (g .tasks) (g .deadline);
 }
 
--- a plan with zeros past its guests and past their tasks
+-- A plan with zeros past its guests and past their tasks.
 unfoldable pub cleared : Plan → Plan
 cleared p = record {
   count = p .count;

@@ -7,7 +7,7 @@ use Rattle.plan.specs.declared.Guest.{Guest}
 use Rattle.plan.specs.declared.Plan.{Plan}
 use Rattle.plan.specs.Records.{guestAt}
 
--- a guest's numbers are u32, its charge u16
+-- A guest's numbers are u32, its charge u16.
 pub record GuestInTypes (g : Guest) : Type 0 where
   pub id : g .id < wordWrap
   pub capacity : g .capacity < wordWrap
@@ -17,6 +17,6 @@ pub record GuestInTypes (g : Guest) : Type 0 where
   pub every : Below wordWrap (g .every)
   pub deadline : Below wordWrap (g .deadline)
 
--- those of a plan's guests
+-- The numbers of a plan's guests fit their types.
 abbrev pub PlanInTypes : Plan → Type 0
 PlanInTypes p = (k : ℕ) → k < p .count → GuestInTypes (guestAt (p .guests) k)

@@ -1,3 +1,4 @@
 pub mod File
 pub mod Fits
+pub mod Causes
 pub mod Exact

@@ -12,13 +12,13 @@ use Rattle.lists.specs.Places.{nth}
 use Rattle.words.specs.Bytes.{Bytes, bytes4, withU32, withWord, bytesOf}
 use Rattle.words.specs.Word.{wordWrap, u32At, word}
 
--- four bytes a word
+-- Four bytes a word.
 pub length-bytesOf : (f : ℕ → ℕ) (n : ℕ) → length (bytesOf f n) ≡ 4 * n
 unfolding bytesOf
 length-bytesOf f zero = refl
 length-bytesOf f (suc n) = simp length-append (omega (arith, length-bytesOf f n))
 
--- four known elements at a seam
+-- Four known elements at a seam.
 at-seam : (p : List ℕ) (a b c d : ℕ) (t : List ℕ) (n : ℕ) → length p ≡ n →
     u32At (p ++ (a ∷ b ∷ c ∷ d ∷ t)) n ≡ a + 256 * b + 65536 * c + 16777216 * d
 at-seam [] a b c d t zero e = refl
@@ -34,8 +34,9 @@ at-seam (x ∷ p) a b c d t (suc n) e =
 by256 : (x : ℕ) → x ≡ x % 256 + 256 * (x / 256)
 by256 x = omega arith
 
--- a number's four bytes say it modulo 2 to the 32
-digits4 : (w r0 r1 r2 r3 q1 q2 q3 q4 : ℕ) → w ≡ r0 + 256 * q1 → q1 ≡ r1 + 256 * q2 → q2 ≡ r2 + 256 * q3 → q3 ≡ r3 + 256 * q4 →
+-- A number's four bytes say it modulo 2 to the 32.
+digits4 : (w r0 r1 r2 r3 q1 q2 q3 q4 : ℕ) → w ≡ r0 + 256 * q1 → q1 ≡ r1 + 256 * q2 → q2 ≡ r2 + 256 * q3
+    → q3 ≡ r3 + 256 * q4 →
     r0 < 256 → r1 < 256 → r2 < 256 → r3 < 256 →
     r0 + 256 * r1 + 65536 * r2 + 16777216 * r3 ≡ w % wordWrap
 digits4 w r0 r1 r2 r3 q1 q2 q3 q4 h0 h1 h2 h3 l0 l1 l2 l3 = omega arith
@@ -43,15 +44,17 @@ digits4 w r0 r1 r2 r3 q1 q2 q3 q4 h0 h1 h2 h3 l0 l1 l2 l3 = omega arith
 byte : (x : ℕ) → x % 256 < 256
 byte x = omega arith
 
-join4-mod : (w : ℕ) → w % 256 + 256 * (w / 256 % 256) + 65536 * (w / 65536 % 256) + 16777216 * (w / 16777216 % 256) ≡ w % wordWrap
+join4-mod : (w : ℕ)
+    → w % 256 + 256 * (w / 256 % 256) + 65536 * (w / 65536 % 256) + 16777216 * (w / 16777216 % 256) ≡ w % wordWrap
 join4-mod w =
-    digits4 w (w % 256) (w / 256 % 256) (w / 65536 % 256) (w / 16777216 % 256) (w / 256) (w / 65536) (w / 16777216) (w / 16777216 / 256)
+    digits4 w (w % 256) (w / 256 % 256) (w / 65536 % 256) (w / 16777216 % 256) (w / 256) (w / 65536) (w / 16777216)
+    (w / 16777216 / 256)
     (by256 w)
     (by256 (w / 256) ∙ ap (λ (q : ℕ). w / 256 % 256 + 256 * q) (div-div-eq-div-mul w 256 256))
     (by256 (w / 65536) ∙ ap (λ (q : ℕ). w / 65536 % 256 + 256 * q) (div-div-eq-div-mul w 65536 256))
     (by256 (w / 16777216)) (byte w) (byte (w / 256)) (byte (w / 65536)) (byte (w / 16777216))
 
--- and bytes are those of the number that they say
+-- Bytes are those of the number that they say.
 low : (a y : ℕ) → a < 256 → (a + 256 * y) % 256 ≡ a
 low a y h = omega arith
 
@@ -64,27 +67,29 @@ split4 a b c d ha hb hc hd =
     let w : ℕ = a + 256 * (b + 256 * (c + 256 * d)) in
     let e : a + 256 * b + 65536 * c + 16777216 * d ≡ w = omega arith in
     let q1 : w / 256 ≡ b + 256 * (c + 256 * d) = high a (b + 256 * (c + 256 * d)) ha in
-    let q2 : w / 65536 ≡ c + 256 * d = sym (div-div-eq-div-mul w 256 256) ∙ ap (λ (q : ℕ). q / 256) q1 ∙ high b (c + 256 * d) hb in
+    let q2 : w / 65536 ≡ c + 256 * d =
+    sym (div-div-eq-div-mul w 256 256) ∙ ap (λ (q : ℕ). q / 256) q1 ∙ high b (c + 256 * d) hb in
     let q3 : w / 16777216 ≡ d = sym (div-div-eq-div-mul w 65536 256) ∙ ap (λ (q : ℕ). q / 256) q2 ∙ high c d hc in
     rw (e, q1, q2, q3, low a (b + 256 * (c + 256 * d)) ha, low b (c + 256 * d) hb, low c d hc, mod-eq-of-lt hd)
 
--- words of the bytes of words, modulo 2 to the 32
+-- Words of the bytes of words, modulo 2 to the 32.
 pub word-bytesOf-mod : (f : ℕ → ℕ) (n : ℕ) (t : List ℕ) (k : ℕ) → k < n → word (bytesOf f n ++ t) k ≡ f k % wordWrap
 unfolding word bytesOf
 word-bytesOf-mod f zero t k l = absurd (omega arith)
 word-bytesOf-mod f (suc n) t k l =
     rw append-assoc
     (⊎-elim
-    (λ e. rw e (at-seam (bytesOf f n) (f n % 256) (f n / 256 % 256) (f n / 65536 % 256) (f n / 16777216 % 256) t (4 * n) (length-bytesOf f n)
+    (λ e. rw e (at-seam (bytesOf f n) (f n % 256) (f n / 256 % 256) (f n / 65536 % 256) (f n / 16777216 % 256) t (4 * n)
+    (length-bytesOf f n)
     ∙ join4-mod (f n)))
     (λ m. word-bytesOf-mod f n (bytes4 (f n) ++ t) k m)
     (eq-or-lt-of-le {n = k} {m = n} (omega arith)))
 
--- and themselves where they fit
+-- Words that fit are read back from their bytes as themselves.
 pub word-bytesOf : (f : ℕ → ℕ) (n : ℕ) (t : List ℕ) (k : ℕ) → k < n → f k < wordWrap → word (bytesOf f n ++ t) k ≡ f k
 word-bytesOf f n t k l h = word-bytesOf-mod f n t k l ∙ mod-eq-of-lt h
 
--- the first elements, and four more
+-- The first elements, and four more.
 take4 : (l : List ℕ) (n : ℕ) → n + 4 ≤ length l →
     take (n + 4) l ≡ take n l ++ (getD l n 0 ∷ getD l (n + 1) 0 ∷ getD l (n + 2) 0 ∷ getD l (n + 3) 0 ∷ [])
 take4 (a ∷ b ∷ c ∷ d ∷ l) zero h = refl
@@ -99,7 +104,7 @@ take4 (a ∷ []) zero h = absurd (omega arith)
 take4 (a ∷ b ∷ []) zero h = absurd (omega arith)
 take4 (a ∷ b ∷ c ∷ []) zero h = absurd (omega arith)
 
--- the bytes of a list's words are the list's
+-- The bytes of a list's words are the list's.
 pub bytesOf-word : (b : List ℕ) (n : ℕ) → 4 * n ≤ length b → Bytes b → bytesOf (word b) n ≡ take (4 * n) b
 unfolding word bytesOf
 bytesOf-word b zero h bs = refl
@@ -109,10 +114,12 @@ bytesOf-word b (suc n) h bs =
       e,
       bytesOf-word b n (omega arith) bs,
       take4 b (4 * n) (omega arith),
-      split4 (getD b (4 * n) 0) (getD b (4 * n + 1) 0) (getD b (4 * n + 2) 0) (getD b (4 * n + 3) 0) (bs _) (bs _) (bs _) (bs _),
+      split4 (getD b (4 * n) 0) (getD b (4 * n + 1) 0) (getD b (4 * n + 2) 0) (getD b (4 * n + 3) 0) (bs _) (bs _)
+          (bs _) (bs _),
     )
 
-with-seam : (p : List ℕ) (a b c d : ℕ) (t : List ℕ) (w n : ℕ) → length p ≡ n → withU32 (p ++ (a ∷ b ∷ c ∷ d ∷ t)) n w ≡ p ++ (bytes4 w ++ t)
+with-seam : (p : List ℕ) (a b c d : ℕ) (t : List ℕ) (w n : ℕ) → length p ≡ n
+    → withU32 (p ++ (a ∷ b ∷ c ∷ d ∷ t)) n w ≡ p ++ (bytes4 w ++ t)
 with-seam [] a b c d t w zero e = refl
 with-seam [] a b c d t w (suc n) e = absurd (omega arith)
 with-seam (x ∷ p) a b c d t w zero e = absurd (omega arith)
@@ -122,7 +129,7 @@ with-seam (x ∷ p) a b c d t w (suc n) e =
     let s3 : suc n + 3 ≡ suc (n + 3) = omega arith in
     rw (s1, s2, s3) (ap (λ (r : List ℕ). x ∷ r) (with-seam p a b c d t w n (omega arith)))
 
--- bytes of words that agree
+-- Bytes of words that agree.
 pub bytes-ext : (f g : ℕ → ℕ) (n : ℕ) → ((k : ℕ) → k < n → f k ≡ g k) → bytesOf f n ≡ bytesOf g n
 unfolding bytesOf
 bytes-ext f g zero h = refl
@@ -134,9 +141,10 @@ put-last f g n k w t q e o =
     let h : g n ≡ w = rw (← q) e in
     let s : bytesOf g n ≡ bytesOf f n = bytes-ext g f n (λ j l. o j (λ p. omega arith)) in
     rw (q, h, s)
-    (with-seam (bytesOf f n) (f n % 256) (f n / 256 % 256) (f n / 65536 % 256) (f n / 16777216 % 256) t w (4 * n) (length-bytesOf f n))
+    (with-seam (bytesOf f n) (f n % 256) (f n / 256 % 256) (f n / 65536 % 256) (f n / 16777216 % 256) t w (4 * n)
+    (length-bytesOf f n))
 
--- a word put among the bytes of words
+-- A word put among the bytes of words.
 put-among : (f g : ℕ → ℕ) (n k w : ℕ) (t : List ℕ) → k < n → g k ≡ w → ((j : ℕ) → j ≢ k → g j ≡ f j) →
     withWord (bytesOf f n ++ t) k w ≡ bytesOf g n ++ t
 unfolding bytesOf
@@ -148,25 +156,30 @@ put-among f g (suc n) k w t l e o =
     (λ m. rw (o n (λ q. omega arith)) (put-among f g n k w (bytes4 (f n) ++ t) m e o))
     (eq-or-lt-of-le {n = k} {m = n} (omega arith)))
 
--- word k of a list put in
+-- Word k of a list put in.
 pub put-set : (x : List ℕ) (n k w : ℕ) (t : List ℕ) → length x ≡ n → k < n →
     withWord (bytesOf (nth x) n ++ t) k w ≡ bytesOf (nth (set x k w)) n ++ t
-put-set x n k w t e l = put-among (nth x) (nth (set x k w)) n k w t l (getD-set-same x k w 0 (omega arith)) (λ j o. getD-set-other x k j w 0 o)
+put-set x n k w t e l =
+    put-among (nth x) (nth (set x k w)) n k w t l (getD-set-same x k w 0 (omega arith))
+    (λ j o. getD-set-other x k j w 0 o)
 
--- one byte more is zero
-pub zeros-next : (n : ℕ) (b : List ℕ) → n < length b → set (replicate n 0 ++ drop n b) n 0 ≡ replicate (suc n) 0 ++ drop (suc n) b
+-- One byte more is zero.
+pub zeros-next : (n : ℕ) (b : List ℕ) → n < length b
+    → set (replicate n 0 ++ drop n b) n 0 ≡ replicate (suc n) 0 ++ drop (suc n) b
 zeros-next zero (x ∷ b) h = refl
 zeros-next (suc n) (x ∷ b) h = ap (λ (r : List ℕ). 0 ∷ r) (zeros-next n b (omega arith))
 zeros-next n [] h = absurd (omega arith)
 
--- a loop's turn
-pub zeros-turn : (n : ℕ) (b₀ b : List ℕ) → n < length b₀ → b ≡ replicate n 0 ++ drop n b₀ → set b n 0 ≡ replicate (n + 1) 0 ++ drop (n + 1) b₀
+-- A loop's turn.
+pub zeros-turn : (n : ℕ) (b₀ b : List ℕ) → n < length b₀ → b ≡ replicate n 0 ++ drop n b₀
+    → set b n 0 ≡ replicate (n + 1) 0 ++ drop (n + 1) b₀
 zeros-turn n b₀ b h e = rw (e, add-one n) (zeros-next n b₀ h)
 
--- zero bytes are zero words
+-- Zero bytes are zero words.
 pub bytes-zeros : (f : ℕ → ℕ) (n : ℕ) → ((k : ℕ) → k < n → f k ≡ 0) → replicate (4 * n) 0 ≡ bytesOf f n
 unfolding bytesOf
 bytes-zeros f zero h = refl
 bytes-zeros f (suc n) h =
     let e : 4 * suc n ≡ 4 * n + 4 = omega arith in
-    rw (e, h n (omega arith), ← bytes-zeros f n (λ k l. h k (omega arith))) (sym (replicate-append-replicate (4 * n) 4 0))
+    rw (e, h n (omega arith), ← bytes-zeros f n (λ k l. h k (omega arith)))
+    (sym (replicate-append-replicate (4 * n) 4 0))

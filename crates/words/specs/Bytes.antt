@@ -12,20 +12,20 @@ Below bound l = (i : ℕ) → nth l i < bound
 abbrev pub Bytes : List ℕ → Type 0
 Bytes = Below 256
 
--- the four bytes of the word w, least first
+-- The four bytes of the word w, least first.
 abbrev pub bytes4 : ℕ → List ℕ
 bytes4 w = w % 256 ∷ w / 256 % 256 ∷ w / 65536 % 256 ∷ w / 16777216 % 256 ∷ []
 
--- the bytes b with those of the word w from i on
+-- The bytes b with those of the word w from i on.
 abbrev pub withU32 : List ℕ → ℕ → ℕ → List ℕ
 withU32 b i w =
     set (set (set (set b i (w % 256)) (i + 1) (w / 256 % 256)) (i + 2) (w / 65536 % 256)) (i + 3) (w / 16777216 % 256)
 
--- the bytes b with those of the word w as word k
+-- The bytes b with those of the word w as word k.
 abbrev pub withWord : List ℕ → ℕ → ℕ → List ℕ
 withWord b k w = withU32 b (4 * k) w
 
--- the bytes of the words f 0, f 1, … and f (n - 1)
+-- The bytes of the words f 0, f 1, … and f (n - 1).
 unfoldable pub bytesOf : (ℕ → ℕ) → ℕ → List ℕ
 bytesOf f zero = []
 bytesOf f (suc n) = bytesOf f n ++ bytes4 (f n)

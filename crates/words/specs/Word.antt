@@ -11,10 +11,10 @@ wordWrap = 2 ^ 32
 abbrev pub u16At : List ℕ → ℕ → ℕ
 u16At b i = nth b i + 256 * nth b (i + 1)
 
--- the number that the four bytes from i on say, least first
+-- The number that the four bytes from i on say, least first.
 abbrev pub u32At : List ℕ → ℕ → ℕ
 u32At b i = nth b i + 256 * nth b (i + 1) + 65536 * nth b (i + 2) + 16777216 * nth b (i + 3)
 
--- word k of the bytes b, counted from 0
+-- Word k of the bytes b, counted from 0.
 unfoldable pub word : List ℕ → ℕ → ℕ
 word b k = u32At b (4 * k)

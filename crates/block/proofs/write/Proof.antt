@@ -4,7 +4,7 @@ use Prim.Native.Nat.{ℕ}
 use native.Mathlib.Omega.{arith}
 use lib.ListN.{length}
 use borrow.Author.Needs.{needs}
-use Rattle.block.specs.Writing.{numbered, writeNumber, blockOf}
+use Rattle.block.specs.Writing.{withPlace, writeNumber, blockOf}
 use Rattle.block.proofs.Writing.{by-refused, by-none, WriteIn, write-in}
 use Rattle.plan.proofs.Ranges.{head-says}
 use Rattle.block.proofs.write.Statement.{statement}
@@ -13,11 +13,12 @@ use Rattle.block.proofs.write.Tie as tie
 abbrev start : tie.Else1 → tie.Start
 start c = c .before .before .before
 
--- past the test nothing is refused
-none : (c : tie.Else1) → writeNumber (start c .args .guest) (start c .args .place) (length (start c .args .buf .now)) ≡ 0
+-- Past the test nothing is refused.
+none : (c : tie.Else1)
+    → writeNumber (start c .args .guest) (start c .args .place) (length (start c .args .buf .now)) ≡ 0
 none c = let e = c .before .write-number .ensures in omega arith
 
--- so the record is in its ranges and there is room
+-- The record is in its ranges there, and the buffer has room for its block.
 inside : (c : tie.Else1) → WriteIn (start c .args .guest) (start c .args .place) (length (start c .args .buf .now))
 inside c = write-in _ _ _ (none c)
 
@@ -30,8 +31,10 @@ with-place-requires c κs = search needs
 returns : tie.Need-returns
 returns c =
     let n = c .before .before in
-    let a = n .before .before .args in
-    (c .with-place .ensures ∙ ap (λ (x : ℕ). numbered x (a .place)) (n .write-number .ensures), by-refused _ (blockOf (a .guest) (a .place)) (a .buf .now) (rw (n .write-number .ensures) at (c .before .if1 .taken)))
+    let a = n .before .before .args in (
+      c .with-place .ensures ∙ ap (λ (x : ℕ). withPlace x (a .place)) (n .write-number .ensures),
+      by-refused _ (blockOf (a .guest) (a .place)) (a .buf .now) (rw (n .write-number .ensures) at (c .before .if1 .taken)),
+    )
 
 put-block-requires : tie.Need-put-block-requires
 put-block-requires c κs = let i = inside (c .before) in (i .room, (i .low, head-says _ _ _ _ (i .head) .few))
@@ -46,8 +49,10 @@ returns-2 : tie.Need-returns-2
 returns-2 c =
     let w = c .before .before .before in
     let o = w .before .before in
-    let a = start o .args in
-    (c .with-place2 .ensures ∙ ap (λ (x : ℕ). numbered x (a .place)) (sym (none o)), w .put-block .ensures ∙ by-none _ _ (a .buf .now) (none o))
+    let a = start o .args in (
+      c .with-place2 .ensures ∙ ap (λ (x : ℕ). withPlace x (a .place)) (sym (none o)),
+      w .put-block .ensures ∙ by-none _ _ (a .buf .now) (none o),
+    )
 
 pub write-spec : {M : Type 1} → statement M
 write-spec =

@@ -1,4 +1,5 @@
--- `draft::write` is safe and ends: the loop goes over at most eight places, and no call changes the buffer's length. Assumes nothing.
+-- `draft::write` is safe and ends: the loop goes over at most eight places, and no call changes the buffer's length.
+-- Assumes nothing.
 use mathlib.Core.Path.{_≡_}
 use Prim.Native.Nat.{_≤_, _-_}
 use lib.ListN.{length}

@@ -1,4 +1,4 @@
--- `words::put_zeros` meets its contract: after i turns the first i bytes are zero, and the rest is as it was. Assumes nothing.
+-- `words::put_zeros` meets its contract: after i turns the first i bytes are zero. Assumes nothing.
 use mathlib.Core.Path.{_≡_}
 use mathlib.Core.List.{_++_}
 use Prim.Native.Nat.{_-_, _≤_}
@@ -37,7 +37,8 @@ same-length : tie.Need-same-length Inv-loop μ-loop
 same-length c = c .before .loop .inv .1 .1
 
 returns : tie.Need-returns Inv-loop μ-loop
-returns c = let e : c .before .loop .i ≡ c .before .before .args .n = omega arith in rw e at (c .before .loop .inv .1 .0)
+returns c =
+    let e : c .before .loop .i ≡ c .before .before .args .n = omega arith in rw e at (c .before .loop .inv .1 .0)
 
 pub put-zeros-spec : {M : Type 1} → statement M
 put-zeros-spec =

@@ -33,10 +33,16 @@ loop-less c = search needs
 loop-again : tie.Need-loop-again Inv-loop μ-loop
 loop-again c =
     let l = c .before .before .before in
-    (search needs, c .wrapping-add-u32 .ensures ∙ wrapped-next (word (l .before .before .args .b .now)) (l .loop .k) (l .loop .sum) _ (l .loop .inv .1) (c .before .word-at .ensures))
+    let b = l .before .before .args .b .now in (
+      search needs,
+      c .wrapping-add-u32 .ensures
+          ∙ wrapped-next (word b) (l .loop .k) (l .loop .sum) _ (l .loop .inv .1) (c .before .word-at .ensures),
+    )
 
 returns : tie.Need-returns Inv-loop μ-loop
-returns c = let e : c .before .loop .k ≡ c .before .before .before .args .n = omega arith in rw (← e) (c .before .loop .inv .1)
+returns c =
+    let e : c .before .loop .k ≡ c .before .before .before .args .n = omega arith in
+    rw (← e) (c .before .loop .inv .1)
 
 pub sum-words-spec : {M : Type 1} → statement M
 sum-words-spec =

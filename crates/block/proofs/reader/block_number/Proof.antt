@@ -1,4 +1,4 @@
--- `block::reader::block_number` meets its contract: tests in the order 2, 3, 4, 5, 6, each on the way past those before it. Assumes nothing.
+-- `block::reader::block_number` meets its contract: each test is met on the way past those before it. Assumes nothing.
 use mathlib.Core.Path.{_≡_, sym, ap, _∙_}
 use mathlib.Core.Bool.{Bool, true, _&&_}
 use borrow.Author.Needs.{needs}
@@ -9,7 +9,7 @@ use Rattle.block.proofs.Reading.{two, three, four, five, six, none, few
 use Rattle.block.proofs.reader.block_number.Statement.{statement}
 use Rattle.block.proofs.reader.block_number.Tie as tie
 
--- from each place to that of the test before it, and to the start
+-- Each of these leads from a test to the one before it, or to the start.
 abbrev to1 : tie.Else2 → tie.Else1
 to1 c = c .before .before
 
@@ -28,7 +28,7 @@ at2 c = at1 (to1 c)
 abbrev at3 : tie.Else3 → tie.Start
 at3 c = at2 (to2 c)
 
--- the tests passed so far
+-- The tests passed so far.
 sums : (c : tie.Else1) → sumsToZero (at1 c .args .b .now) ≡ true
 sums c = eq-eqb _ _ (sym (c .before .sum-words .ensures) ∙ c .if1 .left)
 
@@ -49,7 +49,9 @@ sum-words-requires : tie.Need-sum-words-requires
 sum-words-requires c κs = search needs
 
 returns : tie.Need-returns
-returns c = let a = c .before .before .before .args in two (a .b .now) (a .place) (a .new) (ne-eqb _ _ (λ e. c .if1 .taken (c .before .sum-words .ensures ∙ e)))
+returns c =
+    let a = c .before .before .before .args in
+    two (a .b .now) (a .place) (a .new) (ne-eqb _ _ (λ e. c .if1 .taken (c .before .sum-words .ensures ∙ e)))
 
 opening-ok-requires : tie.Need-opening-ok-requires
 opening-ok-requires c κs = search needs
@@ -67,7 +69,8 @@ returns-3 : tie.Need-returns-3
 returns-3 c =
     let o = c .before .before in
     let a = at2 o .args in
-    four (a .b .now) (a .place) (a .new) (sums (to1 o)) (opens o) (head-of o (c .before .head-in .ensures) ∙ not-true _ (c .if3 .taken))
+    four (a .b .now) (a .place) (a .new) (sums (to1 o)) (opens o)
+    (head-of o (c .before .head-in .ensures) ∙ not-true _ (c .if3 .taken))
 
 zeros-ok-requires : tie.Need-zeros-ok-requires
 zeros-ok-requires c κs = (at3 c .pre, few-in-block _ (at3 c .args .new) (heads c))
@@ -76,7 +79,8 @@ returns-4 : tie.Need-returns-4
 returns-4 c =
     let o = c .before .before in
     let a = at3 o .args in
-    five (a .b .now) (a .place) (a .new) (sums (to1 (to2 o))) (opens (to2 o)) (heads o) (sym (c .before .zeros-ok .ensures) ∙ not-true _ (c .if4 .taken))
+    five (a .b .now) (a .place) (a .new) (sums (to1 (to2 o))) (opens (to2 o)) (heads o)
+    (sym (c .before .zeros-ok .ensures) ∙ not-true _ (c .if4 .taken))
 
 tasks-in-requires : tie.Need-tasks-in-requires
 tasks-in-requires c κs = let o = to3 c in (at3 o .pre, few-in-block _ (at3 o .args .new) (heads o))
@@ -86,14 +90,16 @@ returns-5 c =
     let z = c .before .before in
     let o = to3 z in
     let a = at3 o .args in
-    six (a .b .now) (a .place) (a .new) (sums (to1 (to2 o))) (opens (to2 o)) (heads o) (zeros z) (sym (c .before .tasks-in .ensures) ∙ not-true _ (c .if5 .taken))
+    six (a .b .now) (a .place) (a .new) (sums (to1 (to2 o))) (opens (to2 o)) (heads o) (zeros z)
+    (sym (c .before .tasks-in .ensures) ∙ not-true _ (c .if5 .taken))
 
 returns-6 : tie.Need-returns-6
 returns-6 c =
     let z = c .before .before in
     let o = to3 z in
     let a = at3 o .args in
-    none (a .b .now) (a .place) (a .new) (sums (to1 (to2 o))) (opens (to2 o)) (heads o) (zeros z) (sym (c .before .tasks-in .ensures) ∙ not-false _ (c .if5 .left))
+    none (a .b .now) (a .place) (a .new) (sums (to1 (to2 o))) (opens (to2 o)) (heads o) (zeros z)
+    (sym (c .before .tasks-in .ensures) ∙ not-false _ (c .if5 .left))
 
 pub block-number-spec : {M : Type 1} → statement M
 block-number-spec =

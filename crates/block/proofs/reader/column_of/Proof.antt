@@ -15,7 +15,9 @@ use Rattle.block.proofs.reader.column_of.Statement.{statement}
 use Rattle.block.proofs.reader.column_of.Tie as tie
 
 abbrev Inv-loop : tie.InvT-loop
-Inv-loop b first x₀ i₀ x i = (i ≤ mostTasks) × ((x ≡ table (λ k. word b (first + entryWords * k)) i ++ drop i (replicate mostTasks 0)) × (length x ≡ mostTasks))
+Inv-loop b first x₀ i₀ x i =
+    (i ≤ mostTasks) ×
+    ((x ≡ table (λ k. word b (first + entryWords * k)) i ++ drop i (replicate mostTasks 0)) × (length x ≡ mostTasks))
 
 abbrev μ-loop : tie.MeasureT-loop
 μ-loop b first x₀ i₀ x i = mostTasks - i
@@ -51,7 +53,8 @@ loop-again c =
     let a = c .before .before .before .before .args in (
       search needs,
       (
-        table-turn (λ k. word (a .b .now) (a .first + entryWords * k)) 0 (l .i) (replicate mostTasks 0) (l .x) (c .word-at .result) (omega arith) (l .inv .1 .0) (c .word-at .ensures),
+        table-turn (λ k. word (a .b .now) (a .first + entryWords * k)) 0 (l .i) (replicate mostTasks 0) (l .x)
+            (c .word-at .result) (omega arith) (l .inv .1 .0) (c .word-at .ensures),
         simp length-set (omega arith),
       ),
     )
@@ -60,7 +63,8 @@ returns : tie.Need-returns Inv-loop μ-loop
 unfolding column
 returns c =
     let a = c .before .before .before .args in
-    table-done (λ k. word (a .b .now) (a .first + entryWords * k)) (c .before .loop .i) (replicate mostTasks 0) (c .before .loop .x) (omega arith) (c .before .loop .inv .1 .0)
+    table-done (λ k. word (a .b .now) (a .first + entryWords * k)) (c .before .loop .i) (replicate mostTasks 0)
+    (c .before .loop .x) (omega arith) (c .before .loop .inv .1 .0)
 
 pub column-of-spec : {M : Type 1} → statement M
 column-of-spec =

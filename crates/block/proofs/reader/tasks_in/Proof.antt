@@ -27,7 +27,9 @@ returns : tie.Need-returns
 returns c =
     let t = c .before in
     let d = t .before .before .before .before in
-    c .tasks-ok .ensures ∙ tasks-are _ _ _ _ _ (d .before .before .column-of .ensures) (d .before .column-of2 .ensures) (d .column-of3 .ensures) (t .tasks-of .ensures)
+    c .tasks-ok .ensures
+    ∙ tasks-are _ _ _ _ _ (d .before .before .column-of .ensures) (d .before .column-of2 .ensures)
+    (d .column-of3 .ensures) (t .tasks-of .ensures)
 
 pub tasks-in-spec : {M : Type 1} → statement M
 tasks-in-spec =

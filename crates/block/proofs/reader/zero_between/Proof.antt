@@ -40,7 +40,8 @@ loop-again : tie.Need-loop-again Inv-loop μ-loop
 loop-again c =
     let l = c .before .before .loop in
     let a = c .before .before .before .before .args in
-    (search needs, all-turn (λ i. eqb (word (a .b .now) (a .from + i)) 0) _ _ _ (l .inv .1) (ap (λ (w : ℕ). eqb w 0) (c .word-at .ensures)))
+    let w = ap (λ (w : ℕ). eqb w 0) (c .word-at .ensures) in
+    (search needs, all-turn (λ i. eqb (word (a .b .now) (a .from + i)) 0) _ _ _ (l .inv .1) w)
 
 returns : tie.Need-returns Inv-loop μ-loop
 unfolding zeroBetween

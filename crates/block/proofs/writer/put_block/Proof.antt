@@ -1,4 +1,4 @@
--- `block::writer::put_block` meets its contract: the words, with the complement of their sum as the check. Assumes nothing.
+-- `block::writer::put_block` meets its contract: the check is the complement of the sum. Assumes nothing.
 use mathlib.Core.Path.{_∙_}
 use lib.ListN.{drop}
 use borrow.Author.Needs.{needs}
@@ -29,7 +29,8 @@ returns c =
     let e = s .before .before .before .before in
     let a = e .before .before .before .args in
     p .put-word .ensures
-    ∙ check-laid (a .g) (a .place) _ (drop blockSize (a .buf .now)) (s .sum-words .result) _ (e .put-entries .ensures) (s .sum-words .ensures) (p .before .complement-of .ensures)
+    ∙ check-laid (a .g) (a .place) _ (drop blockSize (a .buf .now)) (s .sum-words .result) _ (e .put-entries .ensures)
+    (s .sum-words .ensures) (p .before .complement-of .ensures)
 
 pub put-block-spec : {M : Type 1} → statement M
 put-block-spec =

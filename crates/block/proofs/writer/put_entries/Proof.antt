@@ -13,7 +13,9 @@ use Rattle.block.proofs.writer.put_entries.Tie as tie
 
 abbrev Inv-loop : tie.InvT-loop
 Inv-loop place buf₀ run every deadline n i₀ buf i =
-    (i ≤ n) × (((x t : List ℕ) → length x ≡ blockWords → buf₀ ≡ laid x t → buf ≡ laid (withEntries run every deadline i x) t) × (length buf ≡ length buf₀))
+    (i ≤ n) ×
+    (((x t : List ℕ) → length x ≡ blockWords → buf₀ ≡ laid x t → buf ≡ laid (withEntries run every deadline i x) t)
+    × (length buf ≡ length buf₀))
 
 abbrev μ-loop : tie.MeasureT-loop
 μ-loop place buf₀ run every deadline n i₀ buf i = n - i
@@ -62,11 +64,18 @@ loop-again c =
     let l = h .before .loop in
     let s = h .before .before .before .before .before .before .before .before .before .before .before in (
       search needs,
-      (λ x t n e. p .put-entry .ensures ∙ entries-laid _ _ _ (l .i) x (l .buf) t (omega (arith, s .pre .1 .1)) n (l .inv .1 .0 x t n e), p .put-entry .kept .0 ∙ l .inv .1 .1),
+      (
+        λ x t n e.
+            p .put-entry .ensures
+            ∙ entries-laid _ _ _ (l .i) x (l .buf) t (omega (arith, s .pre .1 .1)) n (l .inv .1 .0 x t n e),
+        p .put-entry .kept .0 ∙ l .inv .1 .1,
+      ),
     )
 
 same-length : tie.Need-same-length Inv-loop μ-loop
-same-length c = c .before .loop .inv .1 .1 ∙ c .before .before .before .before .before .before .before .before .put-head .kept .1 .1 .0
+same-length c =
+    c .before .loop .inv .1 .1
+    ∙ c .before .before .before .before .before .before .before .before .put-head .kept .1 .1 .0
 
 returns : tie.Need-returns Inv-loop μ-loop
 unfolding wordsOf
@@ -75,7 +84,9 @@ returns c =
     let h = c .before .before .before .before .before .before .before .before in
     let a = h .before .before .before .args in
     let e : l .i ≡ a .g .tasks = omega arith in
-    rw e at (l .inv .1 .0 (withHead (a .g) (a .place) (replicate blockWords 0)) (drop blockSize (a .buf .now)) (words-count (a .g) (a .place)) (h .put-head .ensures))
+    rw e at
+    (l .inv .1 .0 (withHead (a .g) (a .place) (replicate blockWords 0)) (drop blockSize (a .buf .now))
+    (words-count (a .g) (a .place)) (h .put-head .ensures))
 
 pub put-entries-spec : {M : Type 1} → statement M
 put-entries-spec =

@@ -41,7 +41,8 @@ returns c =
     let p2 = p3 .before .before .before .before in
     let p1 = p2 .before .before .before .before in
     let a = p1 .before .before .before .args in
-    put-three (a .buf .now) (p1 .put-word .last .0) (p2 .put-word2 .last .0) _ (runWord (a .i)) (everyWord (a .i)) (deadlineWord (a .i)) (a .run) (a .every) (a .deadline)
+    put-three (a .buf .now) (p1 .put-word .last .0) (p2 .put-word2 .last .0) _ (runWord (a .i)) (everyWord (a .i))
+    (deadlineWord (a .i)) (a .run) (a .every) (a .deadline)
     (p1 .put-word .ensures) (p2 .put-word2 .ensures) (p3 .put-word3 .ensures)
 
 pub put-entry-spec : {M : Type 1} → statement M

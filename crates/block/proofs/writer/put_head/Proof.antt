@@ -1,4 +1,4 @@
--- `block::writer::put_head` meets its contract: the bytes are set to zero, and the head's words are put in. Assumes nothing.
+-- `block::writer::put_head` meets its contract: zero bytes, and the head's words put in. Assumes nothing.
 use borrow.Author.Needs.{needs}
 use Rattle.block.proofs.Writing.{head-puts}
 use Rattle.block.proofs.writer.put_head.Statement.{statement}
@@ -49,8 +49,10 @@ returns c =
     let p1 = p2 .before .before .before .before in
     let z = p1 .before .before .before .before in
     let a = z .before .before .before .args in
-    head-puts (a .g) (a .place) (a .buf .now) (z .put-zeros .last .0) (p1 .put-word .last .0) (p2 .put-word2 .last .0) (p3 .put-word3 .last .0) (p4 .put-word4 .last .0) _
-    (z .put-zeros .ensures) (p1 .put-word .ensures) (p2 .put-word2 .ensures) (p3 .put-word3 .ensures) (p4 .put-word4 .ensures) (p5 .put-word5 .ensures)
+    head-puts (a .g) (a .place) (a .buf .now) (z .put-zeros .last .0) (p1 .put-word .last .0) (p2 .put-word2 .last .0)
+    (p3 .put-word3 .last .0) (p4 .put-word4 .last .0) _
+    (z .put-zeros .ensures) (p1 .put-word .ensures) (p2 .put-word2 .ensures) (p3 .put-word3 .ensures)
+    (p4 .put-word4 .ensures) (p5 .put-word5 .ensures)
 
 pub put-head-spec : {M : Type 1} → statement M
 put-head-spec =

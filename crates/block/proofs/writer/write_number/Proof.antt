@@ -13,18 +13,18 @@ use Rattle.block.proofs.writer.write_number.Tie as tie
 abbrev start : tie.Else3 → tie.Start
 start c = c .before .before .before .before
 
--- from the last test to the one before it
+-- These lead from the last test to the one before it.
 abbrev at3 : tie.Then4 → tie.Else3
 at3 c = c .before .before .before .before .before .before .before .before .before
 
 abbrev at3-too : tie.Else4 → tie.Else3
 at3-too c = c .before .before .before .before .before .before .before .before .before
 
--- the head passed
+-- The head passed.
 head-is : (c : tie.Else3) → guestOk (start c .args .g) ≡ true
 head-is c = sym (c .before .head-ok .ensures) ∙ not-false _ (c .if3 .left)
 
--- so there are at most 16 tasks
+-- A head that passed has at most 16 tasks.
 few : (c : tie.Else3) → start c .args .g .tasks ≤ mostTasks
 few c = head-says _ _ _ _ (head-is c) .few
 
@@ -38,7 +38,9 @@ head-ok-requires : tie.Need-head-ok-requires
 head-ok-requires c κs = search needs
 
 returns-3 : tie.Need-returns-3
-returns-3 c = let o = c .before .before in four _ _ _ (o .before .if1 .left) (o .if2 .left) (sym (c .before .head-ok .ensures) ∙ not-true _ (c .if3 .taken))
+returns-3 c =
+    let o = c .before .before in
+    four _ _ _ (o .before .if1 .left) (o .if2 .left) (sym (c .before .head-ok .ensures) ∙ not-true _ (c .if3 .taken))
 
 cast-n : tie.Need-cast-n
 cast-n c = search needs
@@ -50,13 +52,15 @@ returns-4 : tie.Need-returns-4
 unfolding tasksOk
 returns-4 c =
     let h = at3 c in
-    six _ _ _ (h .before .before .before .if1 .left) (h .before .before .if2 .left) (head-is h) (sym (c .before .tasks-ok .ensures) ∙ not-true _ (c .if4 .taken))
+    six _ _ _ (h .before .before .before .if1 .left) (h .before .before .if2 .left) (head-is h)
+    (sym (c .before .tasks-ok .ensures) ∙ not-true _ (c .if4 .taken))
 
 returns-5 : tie.Need-returns-5
 unfolding tasksOk
 returns-5 c =
     let h = at3-too c in
-    none _ _ _ (h .before .before .before .if1 .left) (h .before .before .if2 .left) (head-is h) (sym (c .before .tasks-ok .ensures) ∙ not-false _ (c .if4 .left))
+    none _ _ _ (h .before .before .before .if1 .left) (h .before .before .if2 .left) (head-is h)
+    (sym (c .before .tasks-ok .ensures) ∙ not-false _ (c .if4 .left))
 
 pub write-number-spec : {M : Type 1} → statement M
 write-number-spec =

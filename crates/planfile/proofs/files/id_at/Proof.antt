@@ -1,10 +1,10 @@
--- `planfile::blocks::id_at` meets its contract: the part is block k. Assumes nothing.
+-- `planfile::files::id_at` meets its contract: the part is block k. Assumes nothing.
 use mathlib.Core.Path.{ap, _∙_}
 use borrow.Author.Needs.{needs}
 use Rattle.block.specs.Reading.{idIn}
 use Rattle.planfile.proofs.File.{part-long}
-use Rattle.planfile.proofs.blocks.id_at.Statement.{statement}
-use Rattle.planfile.proofs.blocks.id_at.Tie as tie
+use Rattle.planfile.proofs.files.id_at.Statement.{statement}
+use Rattle.planfile.proofs.files.id_at.Tie as tie
 
 block-at-requires : tie.Need-block-at-requires
 block-at-requires c κs = search needs

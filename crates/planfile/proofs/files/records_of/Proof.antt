@@ -1,4 +1,4 @@
--- `planfile::blocks::records_of` meets its contract: after k turns the first k records stand. Assumes nothing.
+-- `planfile::files::records_of` meets its contract: after k turns the first k records stand. Assumes nothing.
 use mathlib.Core.Path.{_≡_, refl, ap, _∙_}
 use Prim.Native.Nat.{_-_, _≤_}
 use native.Mathlib.Omega.{arith}
@@ -7,8 +7,8 @@ use borrow.Author.Needs.{needs}
 use Rattle.plan.specs.Ranges.{mostGuests}
 use Rattle.planfile.specs.Records.{recordsOf}
 use Rattle.planfile.proofs.Records.{no-records, records-next}
-use Rattle.planfile.proofs.blocks.records_of.Statement.{statement}
-use Rattle.planfile.proofs.blocks.records_of.Tie as tie
+use Rattle.planfile.proofs.files.records_of.Statement.{statement}
+use Rattle.planfile.proofs.files.records_of.Tie as tie
 
 abbrev Inv-loop : tie.InvT-loop
 Inv-loop s n guests₀ k₀ guests k = (k ≤ n) × ((guests ≡ recordsOf s k) × (length guests ≡ mostGuests))
@@ -20,7 +20,9 @@ blank-guest-requires : tie.Need-blank-guest-requires Inv-loop μ-loop
 blank-guest-requires c κs = search needs
 
 loop-holds : tie.Need-loop-holds Inv-loop μ-loop
-loop-holds c = let a = c .before .before .args in (search needs, (ap (replicate mostGuests) (c .blank-guest .ensures) ∙ no-records (a .s .now), refl))
+loop-holds c =
+    let a = c .before .before .args in
+    (search needs, (ap (replicate mostGuests) (c .blank-guest .ensures) ∙ no-records (a .s .now), refl))
 
 guest-at-requires : tie.Need-guest-at-requires Inv-loop μ-loop
 guest-at-requires c κs = search needs
@@ -41,7 +43,8 @@ loop-again : tie.Need-loop-again Inv-loop μ-loop
 loop-again c =
     let l = c .before .before in
     let a = l .before .before .before .args in
-    (search needs, (records-next (a .s .now) (l .loop .k) _ _ (omega arith) (l .loop .inv .1 .0) (c .guest-at .ensures), simp length-set (l .loop .inv .1 .1)))
+    let next = records-next (a .s .now) (l .loop .k) _ _ (omega arith) (l .loop .inv .1 .0) (c .guest-at .ensures) in
+    (search needs, (next, simp length-set (l .loop .inv .1 .1)))
 
 returns : tie.Need-returns Inv-loop μ-loop
 returns c =

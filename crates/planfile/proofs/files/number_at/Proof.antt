@@ -1,4 +1,4 @@
--- `planfile::blocks::number_at` meets its contract: the part is block k. Assumes nothing.
+-- `planfile::files::number_at` meets its contract: the part is block k. Assumes nothing.
 use mathlib.Core.Path.{ap, _∙_}
 use mathlib.Core.List.{List}
 use Prim.Native.Nat.{ℕ}
@@ -6,8 +6,8 @@ use borrow.Author.Needs.{needs}
 use Rattle.block.specs.Reading.{blockNumber}
 use Rattle.planfile.specs.File.{blockAt, numberAt}
 use Rattle.planfile.proofs.File.{part-long}
-use Rattle.planfile.proofs.blocks.number_at.Statement.{statement}
-use Rattle.planfile.proofs.blocks.number_at.Tie as tie
+use Rattle.planfile.proofs.files.number_at.Statement.{statement}
+use Rattle.planfile.proofs.files.number_at.Tie as tie
 
 block-at-requires : tie.Need-block-at-requires
 block-at-requires c κs = search needs

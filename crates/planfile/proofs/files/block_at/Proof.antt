@@ -1,8 +1,8 @@
--- `planfile::blocks::block_at` meets its contract: 512 bytes from the block's first on. Assumes nothing.
+-- `planfile::files::block_at` meets its contract: 512 bytes from the block's first on. Assumes nothing.
 use borrow.Author.Needs.{needs}
 use Rattle.planfile.proofs.File.{part-at}
-use Rattle.planfile.proofs.blocks.block_at.Statement.{statement}
-use Rattle.planfile.proofs.blocks.block_at.Tie as tie
+use Rattle.planfile.proofs.files.block_at.Statement.{statement}
+use Rattle.planfile.proofs.files.block_at.Tie as tie
 
 mul-a : tie.Need-mul-a
 mul-a c = search needs

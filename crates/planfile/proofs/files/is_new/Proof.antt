@@ -1,4 +1,4 @@
--- `planfile::blocks::is_new` meets its contract: a turn compares one id more. Assumes nothing.
+-- `planfile::files::is_new` meets its contract: a turn compares one id more. Assumes nothing.
 use mathlib.Core.Path.{_≡_, ap, _∙_}
 use mathlib.Core.Bool.{not}
 use Prim.Native.Nat.{ℕ, _-_, _≤_}
@@ -9,8 +9,8 @@ use Rattle.planfile.specs.File.{idAt}
 use Rattle.plan.specs.Order.{newId}
 use Rattle.lists.specs.All.{allTo}
 use Rattle.lists.proofs.All.{all-turn}
-use Rattle.planfile.proofs.blocks.is_new.Statement.{statement}
-use Rattle.planfile.proofs.blocks.is_new.Tie as tie
+use Rattle.planfile.proofs.files.is_new.Statement.{statement}
+use Rattle.planfile.proofs.files.is_new.Tie as tie
 
 abbrev Inv-loop : tie.InvT-loop
 Inv-loop s k id ok₀ j₀ ok j = (j ≤ k) × (ok ≡ allTo (λ i. not (eqb (idAt s i) id)) j)
@@ -37,7 +37,8 @@ loop-less c = search needs
 loop-again : tie.Need-loop-again Inv-loop μ-loop
 loop-again c =
     let l = c .before .before in
-    (search needs, all-turn _ _ _ _ (l .loop .inv .1) (ap (λ (x : ℕ). not (eqb x (l .before .id-at .result))) (c .id-at2 .ensures)))
+    let other = ap (λ (x : ℕ). not (eqb x (l .before .id-at .result))) (c .id-at2 .ensures) in
+    (search needs, all-turn _ _ _ _ (l .loop .inv .1) other)
 
 returns : tie.Need-returns Inv-loop μ-loop
 unfolding newId

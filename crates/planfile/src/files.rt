@@ -1,4 +1,5 @@
-// The blocks of a plan one by one, in order.
+// A plan's bytes block by block: the refusal of reading, and the records. It meets specs/File.antt and
+// specs/Records.antt.
 ghost use mathlib.Core.Path.{_≡_};
 ghost use Prim.Native.Nat.{_≤_, _<_};
 ghost use Rattle.plan.specs.Ranges.{mostGuests};
@@ -62,29 +63,6 @@ fn number_at(s: &[u8], k: usize) -> u32
     block::block_number(block_at(s, k), k as u32, is_new(s, k))
 }
 
-// The record of block k.
-fn guest_at(s: &[u8], k: usize) -> Guest
-    requires { ⌜ k < blocksIn (now s) ⌝ }
-    ensures { λ r. ⌜ r ≡ guestOf (blockAt (now (s .entry)) k) ⌝ }
-{
-    block::decode(block_at(s, k))
-}
-
-// The records of the first n blocks, and records of zeros.
-pub fn records_of(s: &[u8], n: usize) -> [Guest; 8]
-    requires { ⌜ (n ≤ mostGuests) × (n ≤ blocksIn (now s)) ⌝ }
-    ensures { λ r. ⌜ r ≡ recordsOf (now (s .entry)) n ⌝ }
-{
-    let mut guests = [plan::blank_guest(); 8];
-    let mut k: usize = 0;
-    while k < n {
-        let g = guest_at(s, k);
-        guests[k] = g;
-        k += 1;
-    }
-    guests
-}
-
 // The first refusal of the first n blocks.
 fn first_refused(s: &[u8], n: usize) -> Refusal
     requires { ⌜ (n ≤ mostGuests) × (n ≤ blocksIn (now s)) ⌝ }
@@ -119,4 +97,27 @@ pub fn refusal_of(s: &[u8]) -> Refusal
             place: 0,
         }
     }
+}
+
+// The record of block k.
+fn guest_at(s: &[u8], k: usize) -> Guest
+    requires { ⌜ k < blocksIn (now s) ⌝ }
+    ensures { λ r. ⌜ r ≡ guestOf (blockAt (now (s .entry)) k) ⌝ }
+{
+    block::decode(block_at(s, k))
+}
+
+// The records of the first n blocks, and records of zeros.
+pub fn records_of(s: &[u8], n: usize) -> [Guest; 8]
+    requires { ⌜ (n ≤ mostGuests) × (n ≤ blocksIn (now s)) ⌝ }
+    ensures { λ r. ⌜ r ≡ recordsOf (now (s .entry)) n ⌝ }
+{
+    let mut guests = [plan::blank_guest(); 8];
+    let mut k: usize = 0;
+    while k < n {
+        let g = guest_at(s, k);
+        guests[k] = g;
+        k += 1;
+    }
+    guests
 }

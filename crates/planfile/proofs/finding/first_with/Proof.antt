@@ -1,4 +1,4 @@
--- `planfile::search::place_of` meets its contract: no block passed has the id. Assumes nothing.
+-- `planfile::finding::first_with` meets its contract: no block passed has the id. Assumes nothing.
 use mathlib.Core.Path.{sym, _∙_}
 use Prim.Native.Nat.{_-_, _≤_}
 use native.Mathlib.Omega.{arith}
@@ -8,8 +8,8 @@ use borrow.Author.Tests.{eq-eqb, ne-eqb}
 use borrow.Author.Count.{below-more}
 use Rattle.planfile.specs.File.{idAt}
 use Rattle.lists.proofs.Search.{Passed, count-at, count-none}
-use Rattle.planfile.proofs.search.place_of.Statement.{statement}
-use Rattle.planfile.proofs.search.place_of.Tie as tie
+use Rattle.planfile.proofs.finding.first_with.Statement.{statement}
+use Rattle.planfile.proofs.finding.first_with.Tie as tie
 
 abbrev Inv-loop : tie.InvT-loop
 Inv-loop s id n k₀ k = (k ≤ n) × Passed (λ i. eqb (idAt s i) id) k
@@ -30,7 +30,8 @@ returns : tie.Need-returns Inv-loop μ-loop
 returns c =
     let l = c .before .before .before in
     let a = l .before .before .args in
-    count-at (λ i. eqb (idAt (a .s .now) i) (a .id)) (a .n) (l .loop .k) (c .before .before .loop-test .taken) (l .loop .inv .1)
+    count-at (λ i. eqb (idAt (a .s .now) i) (a .id)) (a .n) (l .loop .k) (c .before .before .loop-test .taken)
+    (l .loop .inv .1)
     (eq-eqb _ _ (sym (c .before .id-at .ensures) ∙ c .if1 .taken))
 
 add-k : tie.Need-add-k Inv-loop μ-loop
@@ -48,10 +49,11 @@ loop-again c =
 returns-2 : tie.Need-returns-2 Inv-loop μ-loop
 returns-2 c =
     let a = c .before .before .before .args in
-    count-none (λ i. eqb (idAt (a .s .now) i) (a .id)) (a .n) (c .before .loop .k) (c .loop-test .left) (c .before .loop .inv .1)
+    count-none (λ i. eqb (idAt (a .s .now) i) (a .id)) (a .n) (c .before .loop .k) (c .loop-test .left)
+    (c .before .loop .inv .1)
 
-pub place-of-spec : {M : Type 1} → statement M
-place-of-spec =
+pub first-with-spec : {M : Type 1} → statement M
+first-with-spec =
     tie.close
     (tie.spec
     Inv-loop

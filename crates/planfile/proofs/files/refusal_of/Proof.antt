@@ -1,17 +1,21 @@
--- `planfile::blocks::refusal_of` meets its contract, by whether the length is right. Assumes nothing.
+-- `planfile::files::refusal_of` meets its contract, by whether the length is right. Assumes nothing.
 use mathlib.Core.Path.{sym, _∙_}
 use native.Mathlib.Omega.{arith}
 use lib.ListN.{length}
 use borrow.Author.Needs.{needs}
 use Rattle.planfile.proofs.File.{size-says, sized, unsized}
-use Rattle.planfile.proofs.blocks.refusal_of.Statement.{statement}
-use Rattle.planfile.proofs.blocks.refusal_of.Tie as tie
+use Rattle.planfile.proofs.files.refusal_of.Statement.{statement}
+use Rattle.planfile.proofs.files.refusal_of.Tie as tie
 
 size-ok-requires : tie.Need-size-ok-requires
 size-ok-requires c κs = search needs
 
 first-refused-requires : tie.Need-first-refused-requires
-first-refused-requires c κs = let z = size-says (length (c .before .before .before .args .s .now)) (sym (c .before .size-ok .ensures) ∙ c .if1 .taken) in omega arith
+first-refused-requires c κs =
+    let z =
+    size-says (length (c .before .before .before .args .s .now))
+    (sym (c .before .size-ok .ensures) ∙ c .if1 .taken) in
+    omega arith
 
 returns : tie.Need-returns
 returns c = c .first-refused .ensures ∙ sized _ (sym (c .before .before .size-ok .ensures) ∙ c .before .if1 .taken)

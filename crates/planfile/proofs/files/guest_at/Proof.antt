@@ -1,12 +1,12 @@
--- `planfile::blocks::guest_at` meets its contract: the part is block k. Assumes nothing.
+-- `planfile::files::guest_at` meets its contract: the part is block k. Assumes nothing.
 use mathlib.Core.Path.{ap, _∙_}
 use mathlib.Core.List.{List}
 use Prim.Native.Nat.{ℕ}
 use borrow.Author.Needs.{needs}
 use Rattle.block.specs.Reading.{guestOf}
 use Rattle.planfile.proofs.File.{part-long}
-use Rattle.planfile.proofs.blocks.guest_at.Statement.{statement}
-use Rattle.planfile.proofs.blocks.guest_at.Tie as tie
+use Rattle.planfile.proofs.files.guest_at.Statement.{statement}
+use Rattle.planfile.proofs.files.guest_at.Tie as tie
 
 block-at-requires : tie.Need-block-at-requires
 block-at-requires c κs = search needs

@@ -1,0 +1,149 @@
+-- Laws of an order of refusals: a number is given exactly when its cause holds and none of those before it does.
+-- Assumes nothing.
+use mathlib.Core.Path.{_≡_, refl, sym, ap, _∙_}
+use mathlib.Core.Logic.{⊎-elim}
+use mathlib.Core.Bool.{Bool, true, false, false≢true}
+use mathlib.Core.List.{List, [], _∷_}
+use Prim.Native.Nat.{ℕ, zero, suc, _<_, _≤_}
+use native.Mathlib.Nat.{eq-or-lt-of-le}
+use native.Mathlib.Omega.{arith}
+use lib.Dec.{eqb}
+use borrow.Author.Tests.{eq-eqb}
+use Rattle.lists.specs.Choice.{pick}
+use Rattle.lists.specs.Refusals.{Test, refusal, unless, _orRefuse_}
+use Rattle.plan.specs.declared.Refusal.{Refusal}
+use Rattle.plan.specs.First.{refused, orElse, firstRefused}
+use Rattle.block.specs.Exactly.{_exactlyWhen_}
+use Rattle.planfile_laws.specs.Exact.{_notBut_, FirstAt}
+
+-- Whether a test of the list has the number.
+unfoldable pub among : List Test → ℕ → Bool
+among [] n = false
+among (t ∷ ts) n = pick (eqb (t .number) n) true (among ts n)
+
+pick-false : (c x : Bool) → pick c true x ≡ false → (c ≡ false) × (x ≡ false)
+pick-false true x e = absurd (false≢true (sym e))
+pick-false false x e = (refl, e)
+
+not-by : (b : Bool) (m n r : ℕ) → (m ≡ n → ⊥) → (r ≡ n → ⊥) → unless b m r ≡ n → ⊥
+unfolding unless
+not-by true m n r d f e = f e
+not-by false m n r d f e = d e
+
+-- A number that no test has is not given.
+pub not-given : (ts : List Test) (n : ℕ) → 0 < n → among ts n ≡ false → refusal ts ≡ n → ⊥
+unfolding refusal among
+not-given [] n h a e = omega arith
+not-given (t ∷ ts) n h a e =
+    let p = pick-false (eqb (t .number) n) (among ts n) a in
+    not-by (t .passes) (t .number) n (refusal ts) (λ q. false≢true (sym (p .0) ∙ eq-eqb (t .number) n q))
+    (not-given ts n h (p .1)) e
+
+-- The first test's number is given exactly when its cause holds.
+pub given-first : (b : Bool) (n : ℕ) (ts : List Test) {A : Type 0} → 0 < n → among ts n ≡ false
+    → (b ≡ false) exactlyWhen A
+    → (refusal (b orRefuse n ∷ ts) ≡ n) exactlyWhen A
+unfolding refusal unless
+given-first true n ts h a p = (λ e. absurd (not-given ts n h a e), λ x. absurd (false≢true (sym (p .1 x))))
+given-first false n ts h a p = (λ e. p .0 refl, λ x. refl)
+
+-- A later test's number is given exactly when the first one's cause does not hold and its own, in the order of the
+-- rest, does.
+pub given-later : (b : Bool) (n m : ℕ) (ts : List Test) {A B : Type 0} → (n ≡ m → ⊥) → (b ≡ false) exactlyWhen A
+    → (refusal ts ≡ m) exactlyWhen B
+    → (refusal (b orRefuse n ∷ ts) ≡ m) exactlyWhen (A notBut B)
+unfolding refusal unless
+given-later true n m ts d p q = (
+  λ e. (λ x. false≢true (sym (p .1 x)), q .0 e),
+  λ h. q .1 (h .1),
+)
+given-later false n m ts d p q = (λ e. absurd (d e), λ h. absurd (h .0 (p .0 refl)))
+
+-- The first refusal, by what stands at place k.
+first-by : (f : ℕ → ℕ) (m k n z x : ℕ) → f k ≡ x → orElse x k (firstRefused f m (suc k)) ≡ refused (suc n) z
+    → (firstRefused f m (suc k) ≡ refused (suc n) z → FirstAt f m (suc k) (suc n) z)
+    → FirstAt f (suc m) k (suc n) z
+unfolding orElse
+first-by f m k n z zero q h ih =
+    let o = ih h in
+    record {
+      low = omega (arith, o .low);
+      high = omega (arith, o .high);
+      number = o .number;
+      before = λ j l b. ⊎-elim (λ e. rw (← e) q) (λ e. o .before j e b) (eq-or-lt-of-le {n = k} {m = j} l);
+    }
+first-by f m k n z (suc x) q h ih =
+    let a : suc x ≡ suc n = ap (λ (r : Refusal). r .number) h in
+    let b : k ≡ z = ap (λ (r : Refusal). r .place) h in
+    record { low = omega arith; high = omega arith; number = ap f (sym b) ∙ q ∙ a; before = λ j l c. absurd (omega arith) }
+
+-- A refusal that is given is the first.
+pub first-is : (f : ℕ → ℕ) (m k n z : ℕ) → firstRefused f m k ≡ refused (suc n) z → FirstAt f m k (suc n) z
+unfolding firstRefused
+first-is f zero k n z e = absurd (let q : _≡_ {A = ℕ} 0 (suc n) = ap (λ (r : Refusal). r .number) e in omega arith)
+first-is f (suc m) k n z e = first-by f m k n z (f k) refl e (first-is f m (suc k) n z)
+
+-- The first is the refusal that is given.
+pub is-first : (f : ℕ → ℕ) (m k n z : ℕ) → FirstAt f m k (suc n) z → firstRefused f m k ≡ refused (suc n) z
+unfolding firstRefused orElse
+is-first f zero k n z o = absurd (omega (arith, o .low, o .high))
+is-first f (suc m) k n z o =
+    ⊎-elim
+    (λ (e : k ≡ z). let q : f k ≡ suc n = ap f e ∙ o .number in rw (q, e) refl)
+    (λ (e : k < z).
+    rw (o .before k (omega arith) e)
+    (is-first f m (suc k) n z record {
+      low = e;
+      high = omega (arith, o .high);
+      number = o .number;
+      before = λ j l b. o .before j (omega arith) b;
+    }))
+    (eq-or-lt-of-le {n = k} {m = z} (o .low))
+
+or-most : (x k : ℕ) (r : Refusal) (bound : ℕ) → x ≤ bound → r .number ≤ bound → orElse x k r .number ≤ bound
+unfolding orElse
+or-most zero k r bound a b = b
+or-most (suc x) k r bound a b = a
+
+-- No place's number is above a bound, so the refusal's is not.
+pub first-most : (f : ℕ → ℕ) (bound : ℕ) → ((k : ℕ) → f k ≤ bound) → (m k : ℕ) → firstRefused f m k .number ≤ bound
+unfolding firstRefused
+first-most f bound h zero k = omega arith
+first-most f bound h (suc m) k = or-most (f k) k (firstRefused f m (suc k)) bound (h k) (first-most f bound h m (suc k))
+
+-- An order that starts with 1, the rest of it place by place: r is 1 where the first test fails, else the first of
+-- the places' numbers.
+module _ (f : ℕ → ℕ) (m : ℕ) (r : Refusal) (never : (k : ℕ) → f k ≡ 1 → ⊥) where
+  one-by : (b : Bool) → (b ≡ true → r ≡ firstRefused f m 0) → r .number ≡ 1 → b ≡ false
+  one-by false g e = refl
+  one-by true g e =
+      let z : ℕ = firstRefused f m 0 .place in
+      let q : firstRefused f m 0 .number ≡ 1 = ap (λ (x : Refusal). x .number) (sym (g refl)) ∙ e in
+      let w : firstRefused f m 0 ≡ refused 1 z = λ i. record { number = q i; place = z } in
+      absurd (never z (first-is f m 0 0 z w .number))
+
+  -- Number 1 is given exactly when the first test's cause holds.
+  pub one-first : {A : Type 0} (b : Bool) → (b ≡ false → r ≡ refused 1 0) → (b ≡ true → r ≡ firstRefused f m 0)
+      → (b ≡ false) exactlyWhen A
+      → (r .number ≡ 1) exactlyWhen A
+  one-first b n g p = (λ e. p .0 (one-by b g e), λ x. ap (λ (x : Refusal). x .number) (n (p .1 x)))
+
+  place-by : (b : Bool) (n z : ℕ) → (b ≡ false → r ≡ refused 1 0) → (b ≡ true → r ≡ firstRefused f m 0)
+      → r ≡ refused (suc (suc n)) z
+      → (b ≡ true) × FirstAt f m 0 (suc (suc n)) z
+  place-by false n z l g e =
+      absurd (let q : _≡_ {A = ℕ} 1 (suc (suc n)) = ap (λ (x : Refusal). x .number) (sym (l refl) ∙ e) in omega arith)
+  place-by true n z l g e = (refl, first-is f m 0 (suc n) z (sym (g refl) ∙ e))
+
+  is-true : (b : Bool) → ((b ≡ false) → ⊥) → b ≡ true
+  is-true true h = refl
+  is-true false h = absurd (h refl)
+
+  -- Any other number is given exactly when that cause does not hold and the number is the first of the places'.
+  pub place-first : {A : Type 0} (b : Bool) (n z : ℕ) → (b ≡ false → r ≡ refused 1 0)
+      → (b ≡ true → r ≡ firstRefused f m 0) → (b ≡ false) exactlyWhen A
+      → (r ≡ refused (suc (suc n)) z) exactlyWhen (A notBut FirstAt f m 0 (suc (suc n)) z)
+  place-first b n z l g p = (
+    λ e. let o = place-by b n z l g e in (λ x. false≢true (sym (p .1 x) ∙ o .0), o .1),
+    λ h. g (is-true b (λ e. h .0 (p .0 e))) ∙ is-first f m 0 (suc n) z (h .1),
+  )
