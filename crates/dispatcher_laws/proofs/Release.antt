@@ -113,7 +113,7 @@ pub left-number :
     → waitAt d k t ≡ 0
     → 0 < restAt d k t
     → releaseNumber d id (suc t) ≡ 10
-unfolding releaseNumber
+unfolding releaseNumber hasGuest hasTask
 left-number d id k t ok g h l w r =
     let q : suc t - 1 ≡ t = omega arith in
     rw (g, q)
