@@ -8,11 +8,11 @@ use Rattle.lists.specs.Places.{nth}
 use Rattle.plan.specs.Ranges.{longest}
 use Rattle.arrays.specs.Place.{placeAt}
 
--- the capacity left of guest k once those at position 0 are full
-abbrev pub full : (position capacities : List ℕ) → ℕ → ℕ → ℕ
-full position capacities k left = pick (eqb (nth position k) 0) (nth capacities k) left
+-- the capacity left of guest k once those at position 0 are filled
+abbrev pub filled : (position capacities : List ℕ) → ℕ → ℕ → ℕ
+filled position capacities k left = pick (eqb (nth position k) 0) (nth capacities k) left
 
--- its position after the tick
+-- the position of guest k after the tick
 abbrev pub onward : (periods : List ℕ) → ℕ → ℕ → ℕ
 onward periods k position = pick (ltb (position + 1) (nth periods k)) (position + 1) 0
 

@@ -12,23 +12,23 @@ use Rattle.plan.specs.Charge.{chargedRun}
 use Rattle.arrays.specs.Place.{placeAt}
 use Rattle.arrays.specs.Ranges.{serverOk, noServer, jobOk, noJob}
 
--- the three numbers of place t of guest k, of which `many` are tasks
+-- whether the three numbers of place t of guest k, of which `many` are tasks, are in their ranges
 abbrev pub jobIn : (rest wait age run every : List ℕ) (charge k many t : ℕ) → Bool
 jobIn rest wait age run every charge k many t =
     pick (ltb t many)
     (jobOk (chargedRun (nth run t) charge) (nth every t) (nth rest (placeAt k t)) (nth wait (placeAt k t)) (nth age (placeAt k t)))
     (noJob (nth rest (placeAt k t)) (nth wait (placeAt k t)) (nth age (placeAt k t)))
 
--- the three numbers of place t of row k, past the guests
+-- whether the three numbers of place t of row k, past the guests, are 0
 abbrev pub blankAt : (rest wait age : List ℕ) (k t : ℕ) → Bool
 blankAt rest wait age k t = noJob (nth rest (placeAt k t)) (nth wait (placeAt k t)) (nth age (placeAt k t))
 
--- guest g at place k: its record, its two numbers and those of its 16 places
+-- whether guest g at place k is in its ranges: its record, its two numbers and those of its 16 places
 unfoldable pub guestIsOk : Guest → (k left position : ℕ) (rest wait age : List ℕ) → Bool
 guestIsOk g k left position rest wait age =
     (guestOk g && tasksOk g)
     && (serverOk (g .capacity) (g .period) left position && allTo (jobIn rest wait age (g .run) (g .every) (g .charge) k (g .tasks)) mostTasks)
 
--- row k, past the guests
+-- whether row k, past the guests, is blank
 unfoldable pub rowIsBlank : (k left position : ℕ) (rest wait age : List ℕ) → Bool
 rowIsBlank k left position rest wait age = noServer left position && allTo (blankAt rest wait age k) mostTasks

@@ -1,4 +1,5 @@
--- Where the ticks went, in an array of 17: places 0 to 7 count each guest's ticks, 8 to 15 those of them that it idled away, 16 those that no guest had.
+-- Where the ticks went, in an array of 17: places 0 to 7 count each guest's ticks, 8 to 15 those of them that it idled away,
+-- 16 those that no guest had.
 use mathlib.Core.Bool.{Bool, true, false}
 use mathlib.Core.List.{List}
 use Prim.Native.Nat.{ℕ, _+_, _%_}
@@ -13,7 +14,7 @@ wrap = 18446744073709551616
 abbrev pub idledAt : ℕ → ℕ
 idledAt k = 8 + k
 
--- where those stand that no guest had
+-- where the ticks stand that no guest had
 abbrev pub nobodys : ℕ
 nobodys = 16
 

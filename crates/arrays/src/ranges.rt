@@ -1,4 +1,4 @@
-// Refusal 14's ranges, over lent arrays: of one guest with its tasks, and of a place past the guests.
+// Refusal 14's ranges, over lent arrays: those of one guest with its tasks, and of a place past the guests.
 ghost use mathlib.Core.Path.{_≡_};
 ghost use mathlib.Core.Bool.{true};
 ghost use Prim.Native.Nat.{ℕ, _≤_, _<_};
@@ -11,19 +11,19 @@ ghost use Rattle.arrays.specs.Ranges.{jobOk, noJob};
 ghost use Rattle.arrays.specs.Rows.{jobIn, guestIsOk, rowIsBlank};
 use plan::Guest;
 
-// A task's limit, or 0 at a place past the tasks: a select and no branch, so that the loop below takes several places at a time.
-fn limit(used: bool, x: u32) -> u32
+// A task's bound, or 0 at a place past the tasks: a select and no branch, so that the loop below takes several places at a time.
+fn bound(used: bool, x: u32) -> u32
     ensures { λ r. ⌜ r ≡ pick used x 0 ⌝ }
 {
     if used { x } else { 0 }
 }
 
 // The charged run of a task in its ranges, or 0.
-fn full(used: bool, run: u32, charge: u16) -> u32
+fn run_bound(used: bool, run: u32, charge: u16) -> u32
     requires { ⌜ (used ≡ true → run ≤ longest) ⌝ }
     ensures { λ r. ⌜ r ≡ pick used (chargedRun run charge) 0 ⌝ }
 {
-    limit(used, plan::charged_run(limit(used, run), charge) as u32)
+    bound(used, plan::charged_run(bound(used, run), charge) as u32)
 }
 
 // The three numbers of a task, or of a place past the tasks.
@@ -31,7 +31,9 @@ fn job_ok(used: bool, run: u32, charge: u16, every: u32, rest: u32, wait: u32, a
     requires { ⌜ (used ≡ true → run ≤ longest) ⌝ }
     ensures { λ r. ⌜ r ≡ pick used (jobOk (chargedRun run charge) every rest wait age) (noJob rest wait age) ⌝ }
 {
-    (rest <= full(used, run, charge)) & (wait <= limit(used, every)) & (age <= limit(used, 1000000))
+    (rest <= run_bound(used, run, charge))
+        & (wait <= bound(used, every))
+        & (age <= bound(used, 1000000))
 }
 
 // The 16 places of guest k, which has `many` tasks. No early way out: a state in its ranges is tested whole anyway.

@@ -5,9 +5,9 @@ ghost use lib.Dec.{ltb, eqb};
 ghost use Rattle.lists.specs.Choice.{pick};
 ghost use Rattle.lists.specs.Places.{upTo};
 ghost use Rattle.lists.specs.Search.{firstFrom};
-ghost use Rattle.arrays.specs.Parts.{full, onward, hasLeft};
+ghost use Rattle.arrays.specs.Parts.{filled, onward, hasLeft};
 
-// One capacity left: full at position 0.
+// One capacity left: the whole capacity at position 0.
 fn filled(position: u32, capacity: u32, left: u32) -> u32
     ensures { λ r. ⌜ r ≡ pick (eqb position 0) capacity left ⌝ }
 {
@@ -17,7 +17,7 @@ fn filled(position: u32, capacity: u32, left: u32) -> u32
 // Each guest at position 0 gets its full capacity, what was left being dropped.
 pub fn refill(left: &mut [u32; 8], position: &[u32; 8], capacities: &[u32; 16], n: usize)
     requires { ⌜ n ≤ 8 ⌝ }
-    ensures { λ r. ⌜ now (left .exit) ≡ upTo (full (now (position .entry)) (now (capacities .entry))) n (now (left .entry)) ⌝ }
+    ensures { λ r. ⌜ now (left .exit) ≡ upTo (filled (now (position .entry)) (now (capacities .entry))) n (now (left .entry)) ⌝ }
 {
     let mut k: usize = 0;
     while k < n {

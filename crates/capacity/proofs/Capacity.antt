@@ -7,9 +7,10 @@ use native.Mathlib.Omega.{arith}
 use lib.ListN.{length, List·getD-eq-default}
 use lib.Seq.{getD-set-same, getD-set-other}
 use Rattle.lists.specs.All.{allTo}
-use Rattle.lists.specs.Search.{least, isAt}
+use Rattle.lists.specs.Search.{least}
 use Rattle.lists.specs.Table.{table}
 use Rattle.lists.specs.declared.Found.the-variants.{At}
+use Rattle.equation.specs.System.{taskUnder}
 use Rattle.plan.specs.Charge.{charged}
 use Rattle.plan.specs.Filled.{Filled, ColumnsOf}
 use Rattle.plan.specs.Order.{planRefusal}
@@ -18,20 +19,20 @@ use Rattle.plan.specs.Records.{absent, guestAt, runOf}
 use Rattle.plan.specs.declared.Columns.{Columns}
 use Rattle.plan.specs.declared.Guest.{Guest}
 use Rattle.plan.specs.declared.Plan.{Plan}
-use Rattle.response.specs.Interference.{interference}
+use Rattle.response.specs.Interference.{jitter, interference}
 use Rattle.response.specs.Guest.{guestResponse, fitted, fittedTo}
-use Rattle.response.specs.Task.{responseTo}
+use Rattle.response.specs.Task.{systemOf, responseTo}
 use Rattle.response.specs.Met.{allMet}
-use Rattle.response.specs.Columns.{guestsTake, guestUnder, fittedAt, taskUnder, taskOf, acceptedUnder}
+use Rattle.response.specs.Columns.{guestsTake, fittedAt, columnSystem, acceptedUnder}
 use Rattle.capacity.specs.Capacity.{atCapacity, withCapacity, works, smallest}
-use Rattle.capacity.specs.Trial.{fitsAt}
+use Rattle.capacity.specs.Search.{fitsAt}
 use Rattle.lists.proofs.All.{and-assoc, all-ext}
-use Rattle.lists.proofs.Sum.{sum-same}
+use Rattle.rounding.proofs.Asked.{asked-same}
 use Rattle.lists.proofs.Table.{table-length, table-at}
 use Rattle.plan.proofs.Charge.{charged-least}
 use Rattle.plan.proofs.Order.{PlanIn, plan-in}
-use Rattle.response.proofs.Columns.{interference-grows, guest-response-is, task-response-is, task-is, accepted-is, columns-take, columns-fit}
-use Rattle.capacity.proofs.Trial.{fits-down, met-up}
+use Rattle.response.proofs.ColumnsLaws.{interference-grows, task-is, accepted-is, columns-take, columns-fit}
+use Rattle.capacity.proofs.SearchLaws.{fits-down, met-up}
 
 -- a place that holds a guest in its ranges is a place of the list: no other has an id
 pub in-list : (p : Plan) → PlanIn p → (k : ℕ) → k < p .count → k < length (p .guests)
@@ -57,27 +58,24 @@ module _ (p : Plan) (k : ℕ) (here : k < length (p .guests)) (c : ℕ) where
   -- they take what they took
   pub same-above : (j : ℕ) → j ≤ k → interference (withCapacity p k c) j ≡ interference p j
   unfolding interference
-  same-above j l = fun-ext (λ v. sum-same _ _ j (λ i m. rw (guest-above i (omega arith)) refl))
+  same-above j l =
+      fun-ext (λ v. asked-same _ _ _ _ _ _ j v (λ i m. ap (λ (g : Guest). g .capacity) (guest-above i (omega arith)))
+      (λ i m. ap (λ (g : Guest). g .period) (guest-above i (omega arith))) (λ i m. ap jitter (guest-above i (omega arith))))
 
   -- and are fitted where they were
   fitted-above : (j : ℕ) → j < k → fitted (withCapacity p k c) j ≡ fitted p j
-  unfolding fitted
-  fitted-above j l =
-      let e : guestResponse (withCapacity p k c) j ≡ guestResponse p j =
-      sym (guest-response-is (withCapacity p k c) j) ∙ rw (same-above j (omega arith), guest-above j l) (guest-response-is p j) in
-      ap isAt e
+  unfolding fitted guestResponse
+  fitted-above j l = rw (same-above j (omega arith), guest-above j l) refl
 
   -- the guest is fitted by its equation at the capacity
   pub fitted-there : fitted (withCapacity p k c) k ≡ fitsAt (interference p k) (guestAt (p .guests) k .period) c
-  unfolding fitted fitsAt
-  fitted-there =
-      let e : guestResponse (withCapacity p k c) k ≡ guestUnder (interference p k) c (guestAt (p .guests) k .period) =
-      sym (guest-response-is (withCapacity p k c) k) ∙ rw (same-above k (omega arith), guest-there) refl in
-      ap isAt e
+  unfolding fitted guestResponse fitsAt
+  fitted-there = rw (same-above k (omega arith), guest-there) refl
 
   -- its tasks respond by theirs
-  pub task-there : (i most : ℕ) → responseTo (withCapacity p k c) k i most ≡ taskOf (interference p k) (atCapacity (guestAt (p .guests) k) c) i most
-  task-there i most = sym (task-response-is (withCapacity p k c) k i most) ∙ rw (same-above k (omega arith), guest-there) refl
+  pub task-there : (i most : ℕ) → responseTo (withCapacity p k c) k i most ≡ taskUnder (systemOf (interference p k) (atCapacity (guestAt (p .guests) k) c)) i most
+  unfolding responseTo
+  task-there i most = rw (same-above k (omega arith), guest-there) refl
 
   -- it works where those above are fitted and the guest with it is accepted
   pub works-split : works p k c ≡ (allTo (fitted p) k && acceptedUnder (interference p k) (atCapacity (guestAt (p .guests) k) c))
@@ -118,7 +116,7 @@ module _ (p : Plan) (ok : planRefusal p .number ≡ 0) (k : ℕ) (h : k < p .cou
       let o = plan-in p ok .guests k h in
       let filled : Filled run (charged g) 16 = record { long = table-length (charged g) 16; holds = λ j m. table-at (charged g) 0 16 j m } in
       let few : i < 16 = omega (arith, o .head .few) in
-      let column : (x : ℕ) → taskUnder above x (g .period) run (g .every) i most ≡ responseTo (withCapacity p k x) k i most =
+      let column : (x : ℕ) → taskUnder (columnSystem above x (g .period) run (g .every)) i most ≡ responseTo (withCapacity p k x) k i most =
       λ x. task-is above (atCapacity g x) run 16 i most few record { long = filled .long; holds = filled .holds } ∙ sym (task-there p k here x i most) in
       let m = met-up above (interference-grows p k) (g .period) run (g .every) i (omega (arith, filled .holds i few, o .tasks i l .runs, charged-least (runOf g i) (g .charge))) c c′ most r pos le
       (sym (fitted-there p k here c′) ∙ fit) (column c ∙ e) in

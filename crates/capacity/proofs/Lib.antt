@@ -1,5 +1,5 @@
 -- Laws, each file named after the definition that it is about.
-pub mod Trial
+pub mod SearchLaws
 pub mod Capacity
 pub mod Answer
 pub mod Promises

@@ -1,4 +1,4 @@
 pub mod Capacity
 pub mod Answer
 pub mod Promises
-pub mod Trial
+pub mod Search

@@ -4,26 +4,19 @@ ghost use mathlib.Core.Bool.{_&&_};
 ghost use Prim.Native.Nat.{_+_, _-_, _≤_, _<_};
 ghost use Rattle.lists.specs.All.{allTo};
 ghost use Rattle.lists.specs.Search.{least};
+ghost use Rattle.rounding.specs.Cut.{bound};
 ghost use Rattle.response.specs.Columns.{guestsTake, fittedAt, acceptedUnder};
-ghost use Rattle.response.specs.Ready.{Placed};
+ghost use Rattle.response.specs.Ready.{RunsTo, Stands};
 ghost use Rattle.capacity.specs.Capacity.{atCapacity};
 ghost use Rattle.capacity.specs.Answer.{capacitySays};
-ghost use Rattle.capacity.specs.Trial.{Run, worksAt, trialOf, orAt};
+ghost use Rattle.capacity.specs.Search.{worksAt, orAt};
 use crate::CapacityAnswer;
 use lists::Found;
-use lists::is_at;
 use plan::Guest;
+use response::Trial;
 use response::all_fitted;
-use response::all_met;
 use response::charged_of;
-use response::guest_response;
-
-// What a capacity comes to.
-pub enum Trial {
-    Unfit,
-    Unmet,
-    Works,
-}
+use response::try_capacity;
 
 // The answer of a search.
 pub fn capacity_says(f: Found) -> CapacityAnswer
@@ -35,7 +28,7 @@ pub fn capacity_says(f: Found) -> CapacityAnswer
     }
 }
 
-// What was found, or else m.
+// What was found, or else the capacity m.
 fn or_at(f: Found, m: u32) -> Found
     ensures { λ r. ⌜ r ≡ orAt f m ⌝ }
 {
@@ -45,34 +38,8 @@ fn or_at(f: Found, m: u32) -> Found
     }
 }
 
-// What capacity c comes to.
-fn try_at(
-    caps: &[u32; 16],
-    periods: &[u32; 16],
-    k: usize,
-    c: u32,
-    period: u32,
-    run: &[u32; 16],
-    every: &[u32; 16],
-    deadline: &[u32; 16],
-    n: usize,
-) -> Trial
-    requires { ⌜ ((k ≤ 16) × (n ≤ 16)) × ((1 ≤ c) × (c ≤ period)) ⌝ }
-    requires { ⌜ Run (now run) n ⌝ }
-    ensures { λ r. ⌜
-        r ≡ trialOf (guestsTake (now (caps .entry)) (now (periods .entry)) k) period (now (run .entry)) (now (every .entry)) (now (deadline .entry)) n c
-        ⌝ }
-{
-    if !is_at(guest_response(caps, periods, k, c, period)) {
-        return Trial::Unfit;
-    }
-    if all_met(caps, periods, k, c, period, run, every, deadline, n) {
-        return Trial::Works;
-    }
-    Trial::Unmet
-}
-
-// The smallest capacity that works, of those from lo on and below hi: nothing works from an unfit middle on, nor up to a fitted one that does not work.
+// The smallest capacity that works, of those from lo on and below hi: nothing works from an unfit middle on, nor up to
+// a fitted one that does not work.
 fn smallest_in(
     caps: &[u32; 16],
     periods: &[u32; 16],
@@ -86,11 +53,12 @@ fn smallest_in(
     hi: u32,
 ) -> Found
     requires { ⌜ ((k ≤ 16) × (n ≤ 16)) × ((1 ≤ lo) × (hi ≤ period + 1)) ⌝ }
-    requires { ⌜ Run (now run) n ⌝ }
+    requires { ⌜ RunsTo (now run) n ⌝ }
     ensures { λ r. ⌜
         r
         ≡ least
-        (worksAt (guestsTake (now (caps .entry)) (now (periods .entry)) k) period (now (run .entry)) (now (every .entry)) (now (deadline .entry)) n)
+        (worksAt (guestsTake (now (caps .entry)) (now (periods .entry)) k) period (now (run .entry)) (now (every .entry))
+        (now (deadline .entry)) n)
         (hi - lo) lo
         ⌝ }
 {
@@ -99,7 +67,7 @@ fn smallest_in(
     }
     let mid = lo + (hi - lo) / 2;
     let next = mid + 1;
-    let t = try_at(caps, periods, k, mid, period, run, every, deadline, n);
+    let t = try_capacity(caps, periods, k, mid, period, run, every, deadline, n);
     match t {
         Trial::Unfit => smallest_in(caps, periods, k, period, run, every, deadline, n, lo, mid),
         Trial::Unmet => smallest_in(caps, periods, k, period, run, every, deadline, n, next, hi),
@@ -112,7 +80,7 @@ fn smallest_in(
 
 // The smallest capacity of the guest g at place k; none works under an unfit guest.
 pub fn smallest_at(g: Guest, capacities: &[u32; 16], periods: &[u32; 16], k: usize) -> Found
-    requires { ⌜ Placed g (now capacities) (now periods) k × (g .period < 4294967295) ⌝ }
+    requires { ⌜ Stands g (now capacities) (now periods) k × (g .period + 1 < bound) ⌝ }
     ensures { λ r. ⌜
         r
         ≡ least

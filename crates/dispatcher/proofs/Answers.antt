@@ -27,30 +27,30 @@ use Rattle.lists.proofs.Places.{upTo-at, upTo-length}
 use Rattle.lists.proofs.Search.{first-found}
 use Rattle.plan.proofs.Order.{plan-in}
 
--- the guest's place is noted in any case
+-- The guest's place is noted in any case.
 turn-guest : (b : Bool) (d : Dispatcher) → turnBy b d .guest ≡ holder d
 unfolding turnBy
 turn-guest true d = refl
 turn-guest false d = refl
 
--- whether a guest has the tick
+-- A guest has the tick where the holder is one of the plan's.
 held-is : (d : Dispatcher) {b : Bool} → ltb (holder d) (d .plan .count) ≡ b → isHeld d ≡ b
 unfolding isHeld
 held-is d e = e
 
--- the task that works is one of its guest's
+-- The task that works is one of its guest's.
 worker-in : (d : Dispatcher) → isWorked d ≡ true → worker d < guestIn d (holder d) .tasks
 unfolding isWorked
 worker-in d e = ltb-true (worker d) (guestIn d (holder d) .tasks) (and-right (isHeld d) _ e)
 
--- and has run left
+-- The task that works has run left.
 pub worker-runs : (d : Dispatcher) → isWorked d ≡ true → 1 ≤ restAt d (holder d) (worker d)
 unfolding worker
 worker-runs d e =
     let h : worker d < guestIn d (holder d) .tasks = worker-in d e in
     omega (arith, ltb-true 0 (restAt d (holder d) (worker d)) (first-found (hasRun (d .rest) (holder d)) (guestIn d (holder d) .tasks) 0 (omega arith)))
 
--- the age of a job with run left, after the tick
+-- The age of a job with run left is at most 1,000,000 after the tick.
 age-small : (rest age : List ℕ) (k : ℕ) → k < 128 → 1 ≤ nth rest k → nth (upTo (grown rest) 128 age) k ≤ 1000000
 age-small rest age k h r =
     elim (decLt k (length age)) [
@@ -60,12 +60,12 @@ age-small rest age k h r =
     ]
 
 module _ (d : Dispatcher) {t : Turn} (e : t ≡ turn d) where
-  -- the guest noted is the rule's
+  -- The guest noted is the rule's.
   guest-is : t .guest ≡ holder d
   unfolding turn
   guest-is = ap (λ (x : Turn). x .guest) e ∙ turn-guest (isHeld d) d
 
-  -- nobody has the tick
+  -- Where no guest was noted, the answer is that nobody has the tick.
   tell-nobody : d .plan .count ≤ t .guest → Nobody ≡ answer d
   unfolding answer answerBy
   tell-nobody h = rw not-held refl
@@ -74,19 +74,21 @@ module _ (d : Dispatcher) {t : Turn} (e : t ≡ turn d) where
       not-held = held-is d (rw (← guest-is) (le-ltb (t .guest) (d .plan .count) h))
 
   module _ (h : t .guest < d .plan .count) where
+    -- Where a guest was noted, a guest has the tick.
     held : isHeld d ≡ true
     held = held-is d (rw (← guest-is) (lt-ltb (t .guest) (d .plan .count) h))
 
-    -- so is the task
+    -- The task noted is the rule's.
     task-is : t .task ≡ worker d
     unfolding turn turnBy
     task-is = ap (λ (x : Turn). x .task) e ∙ rw held refl
 
+    -- The run left noted is the task's, or 0 where none works.
     had-is : t .had ≡ pick (isWorked d) (restAt d (holder d) (worker d)) 0
     unfolding turn turnBy
     had-is = ap (λ (x : Turn). x .had) e ∙ rw held refl
 
-    -- a guest idles it away
+    -- Where no run left was noted, the answer is that the guest idles the tick away.
     tell-idle : {id : ℕ} → id ≡ guestIn d (t .guest) .id → t .had < 1 → Idled id ≡ answer d
     unfolding answer answerBy
     tell-idle q l = rw (q, held, idle (isWorked d) refl, guest-is) refl
@@ -98,6 +100,7 @@ module _ (d : Dispatcher) {t : Turn} (e : t ≡ turn d) where
         idle false w = w
 
     module _ (l : 1 ≤ t .had) where
+      -- Where run left was noted, a task works.
       busy : isWorked d ≡ true
       busy = go (isWorked d) refl
         where
@@ -105,24 +108,25 @@ module _ (d : Dispatcher) {t : Turn} (e : t ≡ turn d) where
           go true w = w
           go false w = let r : t .had ≡ 0 = had-is ∙ rw w refl in absurd (omega arith)
 
+      -- The run left noted is that of the task that works.
       run-is : t .had ≡ restAt d (holder d) (worker d)
       run-is = had-is ∙ rw busy refl
 
-      -- it is one of its guest's
+      -- The task noted is one of its guest's.
       task-in : t .task < guestIn d (t .guest) .tasks
       task-in = rw (guest-is, task-is) (worker-in d busy)
 
-      -- its age is at most 1,000,000
+      -- The age of the job noted is at most 1,000,000 after the tick.
       age-in : {age : List ℕ} → age ≡ ageAfter d → placeAt (t .guest) (t .task) < 128 → nth age (placeAt (t .guest) (t .task)) ≤ 1000000
       unfolding ageAfter
       age-in q b = rw q (age-small (d .rest) (d .age) _ b (rw (guest-is, task-is) (worker-runs d busy)))
 
-      -- a task has it, with more run left
+      -- Where more than this tick was left, the answer names guest and task.
       tell-works : {id : ℕ} → id ≡ guestIn d (t .guest) .id → 1 < t .had → Worked id (t .task + 1) ≡ answer d
       unfolding answer answerBy
       tell-works q m = rw (q, held, busy, ← run-is, lt-ltb 1 (t .had) m, guest-is, task-is) refl
 
-      -- a task has it, and finishes
+      -- Where this tick was the last of the run, the answer is that the job is finished.
       tell-done :
           {age : List ℕ}
           → age ≡ ageAfter d
@@ -133,7 +137,7 @@ module _ (d : Dispatcher) {t : Turn} (e : t ≡ turn d) where
       unfolding answer answerBy
       tell-done q m z f = rw (f, held, busy, ← run-is, le-ltb 1 (t .had) m, q, guest-is, task-is) refl
 
-  -- where a task had run left, a guest had the tick
+  -- Where a task had run left, a guest had the tick.
   worked-held : 1 ≤ t .had → t .guest < d .plan .count
   unfolding turn turnBy isHeld
   worked-held l = go (isHeld d) refl
@@ -149,6 +153,7 @@ pub record Fits (p : Plan) (t : Turn) (age : List ℕ) : Type 0 where
   pub deadline : deadlineOf (guestAt (p .guests) (t .guest)) (t .task) ≤ 1000000
   pub ages : nth age (placeAt (t .guest) (t .task)) ≤ 1000000
 
+-- The places and numbers of a finished job are small.
 pub fits : {d : Dispatcher} {p : Plan} {t : Turn} {age : List ℕ} → Ending d p t age → Fits p t age
 fits {d} {p} {t} {age} s =
     let l : 1 ≤ t .had = omega (arith, s .last) in
@@ -160,17 +165,17 @@ fits {d} {p} {t} {age} s =
     let b : t .task < 16 = omega (arith, v .head .few, task-in d (s .had) h l) in
     record { guest = a; task = b; deadline = rw (← s .plan) (omega (arith, i .short, i .in-time)); ages = age-in d (s .had) h l (s .ages) (omega arith) }
 
--- the task that works is one of 16
+-- The task that works is one of 16.
 pub task-small : {d : Dispatcher} {ids : List ℕ} {n : ℕ} {t : Turn} → Telling d ids n t → 1 ≤ t .had → t .task < 16
 task-small {d} {ids} {n} {t} s l =
     let h = worked-held d (s .had) l in
     omega (arith, plan-in (d .plan) (s .sound) .guests (t .guest) h .head .few, task-in d (s .had) h l)
 
--- and its guest one of 8
+-- The guest that has the tick is one of 8.
 pub guest-small : {d : Dispatcher} {ids : List ℕ} {n : ℕ} {t : Turn} → Telling d ids n t → t .guest < n → t .guest < 8
 guest-small {d} s h = omega (arith, plan-in (d .plan) (s .sound) .few, s .count)
 
--- the answer of a tick that finishes a job
+-- The answer of a tick that finishes a job is made from what was noted.
 pub tell-finished : {d : Dispatcher} {p : Plan} {t : Turn} {age : List ℕ} → Ending d p t age → (z : ℤ)
     → z ≡ marginOf (deadlineOf (guestAt (p .guests) (t .guest)) (t .task)) (nth age (placeAt (t .guest) (t .task)))
     → Finished (guestAt (p .guests) (t .guest) .id) (t .task + 1) (nth age (placeAt (t .guest) (t .task))) z ≡ answer d
@@ -178,28 +183,33 @@ tell-finished {d} {p} {t} {age} s z e =
     let l : 1 ≤ t .had = omega (arith, s .last) in
     rw (← s .plan) (tell-done d (s .had) (worked-held d (s .had) l) l (s .ages) (omega (arith, s .last)) z (rw (s .plan) e))
 
--- the answers of a tick that finishes none
+-- The answers of a tick that finishes no job.
 module _ {d : Dispatcher} {ids : List ℕ} {n : ℕ} {t : Turn} (s : Telling d ids n t) where
-  pub told-nobody : n ≤ t .guest → Nobody ≡ answer d
-  told-nobody h = tell-nobody d (s .had) (omega (arith, s .count))
+  -- Nobody had it.
+  pub says-nobody : n ≤ t .guest → Nobody ≡ answer d
+  says-nobody h = tell-nobody d (s .had) (omega (arith, s .count))
 
-  pub told-idle : t .guest < n → t .had < 1 → Idled (nth ids (t .guest)) ≡ answer d
-  told-idle h l = tell-idle d (s .had) (omega (arith, s .count)) (s .id (t .guest) h) l
+  -- A guest idled it away.
+  pub says-idle : t .guest < n → t .had < 1 → Idled (nth ids (t .guest)) ≡ answer d
+  says-idle h l = tell-idle d (s .had) (omega (arith, s .count)) (s .id (t .guest) h) l
 
-  pub told-works : t .guest < n → 1 ≤ t .had → Worked (nth ids (t .guest)) (t .task + 1) ≡ answer d
-  told-works h l = tell-works d (s .had) (omega (arith, s .count)) l (s .id (t .guest) h) more
+  -- A task had it.
+  pub says-works : t .guest < n → 1 ≤ t .had → Worked (nth ids (t .guest)) (t .task + 1) ≡ answer d
+  says-works h l = tell-works d (s .had) (omega (arith, s .count)) l (s .id (t .guest) h) more
     where
       more : 1 < t .had
       more = elim (decLt 1 (t .had)) [ yes m ↦ m | no m ↦ absurd (s .more (omega arith)) ]
 
--- whether a tick finishes a job, by what was noted
+-- Whether a tick finishes a job, by what was noted.
 module _ (d : Dispatcher) {t : Turn} (e : t ≡ turn d) where
+  -- A tick that took the last of a run finishes a job.
   pub finishes-done : t .had ≡ 1 → finishes (answer d) ≡ true
   unfolding finishes
   finishes-done m =
       let l : 1 ≤ t .had = omega arith in
       rw (← tell-done d e (worked-held d e l) l refl (omega arith) _ refl) refl
 
+  -- Any other tick finishes none.
   pub finishes-more : (t .had ≡ 1 → ⊥) → finishes (answer d) ≡ false
   unfolding finishes
   finishes-more m =

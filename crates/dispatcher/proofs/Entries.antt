@@ -21,34 +21,34 @@ use Rattle.dispatcher.specs.Lent.{lastBy, Gone}
 use Rattle.dispatcher.specs.Entries.{tickedBy, tick, longestRun, ranBy, run}
 use Rattle.lists.proofs.Refusals.{none-left, go-on, stop}
 
--- a run of a state outside its ranges
+-- A run of a state outside its ranges is refused as 14.
 pub run-refused : (d : Dispatcher) (n : ℕ) → stateOk d ≡ false → _≡_ {A = Ran} (record { refusal = refused 14 0; done = 0; answer = Silent; state = d }) (run d n)
 unfolding run ranBy
 run-refused d n e = rw (stop 14 _ e) refl
 
--- a run of too many ticks
+-- A run of too many ticks is refused as 13.
 pub run-long : (d : Dispatcher) (n : ℕ) → stateOk d ≡ true → 1000000 < n → _≡_ {A = Ran} (record { refusal = refused 13 0; done = 0; answer = Silent; state = d }) (run d n)
 unfolding run ranBy
 run-long d n e h = rw (go-on 14 _ e ∙ stop 13 [] (lt-leb n longestRun h)) refl
 
--- a run that is not refused
+-- A run that is not refused is the rule's run.
 run-is : (d : Dispatcher) (n : ℕ) → stateOk d ≡ true → n ≤ 1000000 → runFor n d ≡ run d n
 unfolding run ranBy
 run-is d n e h = rw (go-on 14 _ e ∙ go-on 13 [] (le-leb n longestRun h) ∙ none-left) refl
 
--- the last answer, where some tick was done
+-- The last answer, where some tick was done, is that of the last state before the end.
 last-some : (done : ℕ) (d : Dispatcher) → 0 < done → lastBy done d ≡ answer d
 unfolding lastBy
 last-some zero d h = absurd (omega arith)
 last-some (suc n) d h = refl
 
 module _ {d after : Dispatcher} {n done : ℕ} {t : Turn} (e : stateOk d ≡ true) (h : n ≤ 1000000) (g : Gone d n done t after) where
-  -- it did no tick
+  -- Where no tick was done, the run reports none.
   pub run-idle : done < 1 → _≡_ {A = Ran} (record { refusal = fine; done = 0; answer = Silent; state = after }) (run d n)
   unfolding lastBy
   run-idle l = let z : done ≡ 0 = omega arith in sym (rw z at (g .ran)) ∙ run-is d n e h
 
-  -- it did some
+  -- Where some tick was done, the run reports them and the last answer.
   pub run-done : {a : Answer} → 1 ≤ done → a ≡ answer (g .before) → _≡_ {A = Ran} (record { refusal = fine; done = done; answer = a; state = after }) (run d n)
   run-done l q = rw (q, ← last-some done (g .before) l) (sym (g .ran) ∙ run-is d n e h)
 
@@ -56,7 +56,7 @@ module _ {d after : Dispatcher} {n done : ℕ} {t : Turn} (e : stateOk d ≡ tru
 abbrev tickOf : Ran → Ticked
 tickOf r = record { refusal = r .refusal; answer = r .answer; state = r .state }
 
--- a run of one tick ends after it, whether it finishes a job or not
+-- A run of one tick ends after it, whether it finishes a job or not.
 run-one : (d : Dispatcher) → tickOf (runFor 1 d) ≡ record { refusal = fine; answer = answer d; state = next d }
 unfolding runFor runFrom
 run-one d = go (finishes (answer d))
@@ -65,7 +65,7 @@ run-one d = go (finishes (answer d))
     go true = refl
     go false = refl
 
--- and is refused where a tick is
+-- A run of one tick says what a tick says, and is refused where a tick is.
 pub tick-of-run : (d : Dispatcher) {r : Ran} → r ≡ run d 1 → tickOf r ≡ tick d
 unfolding tick tickedBy
 tick-of-run d e = rw e (go (stateOk d) refl)

@@ -10,24 +10,25 @@ use Rattle.dispatcher.specs.declared.Dispatcher.{Dispatcher}
 use Rattle.dispatcher.specs.declared.Started.{Started}
 use Rattle.dispatcher.specs.Fresh.{idle, startedBy, fresh}
 
--- by the records' number
+-- A start that has a number is zero throughout.
 blank-by : (x : ℕ) (p : Plan) → 0 < x → idle blankPlan ≡ startedBy x p
 unfolding startedBy
 blank-by zero p h = absurd (omega arith)
 blank-by (suc n) p h = refl
 
+-- A start without a number is the fresh state.
 idle-by : (x : ℕ) (p : Plan) → x ≤ 0 → idle p ≡ startedBy x p
 unfolding startedBy
 idle-by zero p h = refl
 idle-by (suc n) p h = absurd (omega arith)
 
--- a refused start
+-- A refused start has its whole outcome.
 pub start-refused : (p : Plan) {r : Refusal} {b : Plan} {d : Dispatcher} → r ≡ planRefusal p → 0 < r .number → b ≡ blankPlan → d ≡ idle b
     → _≡_ {A = Started} (record { refusal = r; state = d }) (fresh p)
 unfolding fresh
 start-refused p e h f g = rw (g, f, ← e, ← blank-by _ p h) refl
 
--- a start
+-- A start that is not refused has its whole outcome.
 pub start-fresh : (p : Plan) {r : Refusal} {d : Dispatcher} → r ≡ planRefusal p → r .number ≤ 0 → d ≡ idle p
     → _≡_ {A = Started} (record { refusal = r; state = d }) (fresh p)
 unfolding fresh

@@ -15,52 +15,54 @@ use Rattle.plan.specs.declared.Plan.{Plan}
 use Rattle.plan.specs.Records.{guestAt}
 use Rattle.plan.specs.Order.{planRefusal}
 use Rattle.dispatcher.specs.declared.Dispatcher.{Dispatcher}
-use Rattle.dispatcher.specs.declared.Checked.{Checked}
 use Rattle.dispatcher.specs.declared.Turn.{Turn}
 use Rattle.arrays.specs.Place.{placeAt}
 use Rattle.dispatcher.specs.Tick.{lessAt, refilled, holder, isHeld, leftAfter, worker, isWorked, restAfter, ageAfter, waitAfter, positionAfter, next}
 use Rattle.arrays.specs.Ranges.{noJob}
 use Rattle.dispatcher.specs.Valid.{guestInRange, taskInRange, rowOk, stateOk}
 use Rattle.arrays.specs.Rows.{blankAt}
-use Rattle.dispatcher.specs.Lent.{stateOf, Small, Columned, Quiet, Telling, Ending, Refilled, Served, Stepped, turnBy, turn}
-use Rattle.dispatcher.specs.LentCheck.{ColumnsIn}
+use Rattle.dispatcher.specs.Lent.{stateOf, Small, Quiet, Telling, Ending, Refilled, Served, Stepped, turnBy, turn}
+use Rattle.plan.specs.declared.Columns.{Columns}
+use Rattle.plan.specs.Filled.{ColumnsOf}
 use Rattle.arrays.specs.Usage.{tallied}
-use Rattle.arrays.specs.Parts.{full, onward, grown, fallen, hasLeft, hasRun}
+use Rattle.arrays.specs.Parts.{filled, onward, grown, fallen, hasLeft, hasRun}
 use Rattle.lists.proofs.All.{and-left, and-right, and-true, and-false-right, all-at}
 use Rattle.lists.proofs.Places.{upTo-get, upTo-ext, upTo-short}
 use Rattle.lists.proofs.Search.{first-found}
 use Rattle.plan.proofs.Order.{plan-in}
-use Rattle.dispatcher.proofs.Pass.{past-task-is}
-use Rattle.dispatcher.proofs.Counted.{tick-counted}
+use Rattle.dispatcher.proofs.LentCheck.{past-task-is}
+use Rattle.dispatcher.proofs.Tick.{tick-counted}
 
--- the guest that was found has capacity left
+-- The guest that was found has capacity left.
 pub has-left : (left : List ℕ) (n k : ℕ) → k ≡ firstFrom (hasLeft left) n 0 → k < n → 1 ≤ nth left k
 has-left left n k e h =
     let p : hasLeft left k ≡ true = rw e (first-found (hasLeft left) n 0 (omega arith)) in
     omega (arith, ltb-true 0 (nth left k) p)
 
--- the task that was found has run left
+-- The task that was found has run left.
 pub has-run : (rest : List ℕ) (k n t : ℕ) → t ≡ firstFrom (hasRun rest k) n 0 → t < n → 1 ≤ nth rest (placeAt k t)
 has-run rest k n t e h =
     let p : hasRun rest k t ≡ true = rw e (first-found (hasRun rest k) n 0 (omega arith)) in
     omega (arith, ltb-true 0 (nth rest (placeAt k t)) p)
 
 module _ {d : Dispatcher} {n : ℕ} {tasks left rest : List ℕ} (l : Refilled d n tasks left rest) {k : ℕ} (e : k ≡ firstFrom (hasLeft left) n 0) where
-  -- the code's guest is the rule's
+  -- The code's guest is the rule's.
   holder-is : k ≡ holder d
   unfolding holder
   holder-is = rw (e, l .filled, l .count) refl
 
   module _ (h : n ≤ k) where
-    -- nobody has the tick
+    -- Where no guest was found, nobody has the tick.
     not-held : isHeld d ≡ false
     unfolding isHeld
     not-held = rw (← holder-is) (le-ltb k (d .plan .count) (omega (arith, l .count)))
 
+    -- Where no guest was found, no task works.
     not-worked : isWorked d ≡ false
     unfolding isWorked
     not-worked = rw not-held refl
 
+    -- Where no guest was found, nothing is served.
     pub nobody : Served d left rest (record { guest = k; task = 0; had = 0 })
     unfolding leftAfter restAfter lessAt turn turnBy
     nobody = record {
@@ -70,25 +72,28 @@ module _ {d : Dispatcher} {n : ℕ} {tasks left rest : List ℕ} (l : Refilled d
     }
 
   module _ (h : k < n) {t : ℕ} (f : t ≡ firstFrom (hasRun rest k) (nth tasks k) 0) where
+    -- The guest that was found has the tick.
     held : isHeld d ≡ true
     unfolding isHeld
     held = rw (← holder-is) (lt-ltb k (d .plan .count) (omega (arith, l .count)))
 
+    -- The guest that was found loses one.
     lefts-is : set left k (nth left k - 1) ≡ leftAfter d
     unfolding leftAfter lessAt
     lefts-is = rw (held, ← l .filled, ← holder-is) refl
 
-    -- the code's task is the rule's
+    -- The code's task is the rule's.
     worker-is : t ≡ worker d
     unfolding worker
     worker-is = rw (f, l .runs, l .many k h, ← holder-is) refl
 
     module _ (g : nth tasks k ≤ t) where
+      -- Where no task was found, none works.
       idle : isWorked d ≡ false
       unfolding isWorked
       idle = and-false-right (isHeld d) (rw (← worker-is, ← holder-is) (le-ltb t _ (rw (← l .many k h) g)))
 
-      -- the guest idles the tick away
+      -- Where no task was found, the guest idles the tick away.
       pub idles : Served d (set left k (nth left k - 1)) rest (record { guest = k; task = t; had = 0 })
       unfolding restAfter lessAt turn turnBy
       idles = record {
@@ -98,11 +103,12 @@ module _ {d : Dispatcher} {n : ℕ} {tasks left rest : List ℕ} (l : Refilled d
       }
 
     module _ (g : t < nth tasks k) where
+      -- The task that was found works.
       busy : isWorked d ≡ true
       unfolding isWorked
       busy = and-true held (rw (← worker-is, ← holder-is) (lt-ltb t _ (rw (← l .many k h) g)))
 
-      -- the task has it
+      -- The task that was found has the tick.
       pub works :
           Served d (set left k (nth left k - 1)) (set rest (placeAt k t) (nth rest (placeAt k t) - 1))
           (record { guest = k; task = t; had = nth rest (placeAt k t) })
@@ -114,41 +120,41 @@ module _ {d : Dispatcher} {n : ℕ} {tasks left rest : List ℕ} (l : Refilled d
       }
 
 module _ {n : ℕ} {rest wait : List ℕ} (few : n ≤ 8) (z : Quiet n rest wait) where
-  -- no wait falls past the guests
+  -- No wait falls past the guests.
   fallen-short : upTo fallen (n * 16) wait ≡ upTo fallen 128 wait
   fallen-short = sym (upTo-short fallen (n * 16) 128 wait (omega arith) (λ k a b. omega (arith, z .waits k a b)))
 
-  -- and no age rises
+  -- No age rises past the guests.
   grown-short : (age : List ℕ) → upTo (grown rest) (n * 16) age ≡ upTo (grown rest) 128 age
   grown-short age = sym (upTo-short (grown rest) (n * 16) 128 age (omega arith) (λ k a b. rw (z .runs k a b) refl))
 
-module _ {p : Plan} {n : ℕ} {capacities periods tasks : List ℕ} (u : Columned p n capacities periods tasks) (left position rest wait age usage : List ℕ) where
-  -- the code's capacities are the rule's
-  refilled-is : upTo (full position capacities) n left ≡ refilled (stateOf p left position rest wait age usage)
+module _ {p : Plan} {n : ℕ} {c : Columns} (counts : p .count ≡ n) (u : ColumnsOf (p .guests) n c) (left position rest wait age usage : List ℕ) where
+  -- The code's capacities are the rule's.
+  refilled-is : upTo (filled position (c .capacities)) n left ≡ refilled (stateOf p left position rest wait age usage)
   unfolding refilled
-  refilled-is = rw (u .count) (upTo-ext _ _ n left (λ k x b. rw (u .capacity k b) refl))
+  refilled-is = rw counts (upTo-ext _ _ n left (λ k x b. rw (u .capacities .holds k b) refl))
 
-  -- and so are its positions
-  onward-is : upTo (onward periods) n position ≡ positionAfter (stateOf p left position rest wait age usage)
+  -- The code's positions are the rule's.
+  onward-is : upTo (onward (c .periods)) n position ≡ positionAfter (stateOf p left position rest wait age usage)
   unfolding positionAfter
-  onward-is = rw (u .count) (upTo-ext _ _ n position (λ k x b. rw (u .period k b) refl))
+  onward-is = rw counts (upTo-ext _ _ n position (λ k x b. rw (u .periods .holds k b) refl))
 
-  -- the parts of a tick make the tick
-  pub stepped : {l l' q r' w a c : List ℕ} {t : Turn} → l ≡ upTo (full position capacities) n left → q ≡ upTo (onward periods) n position
+  -- The parts of a tick make the tick.
+  pub stepped : {l l' q r' w a v : List ℕ} {t : Turn} → l ≡ upTo (filled position (c .capacities)) n left → q ≡ upTo (onward (c .periods)) n position
       → w ≡ upTo fallen (n * 16) wait → a ≡ upTo (grown rest) (n * 16) age → n ≤ 8 → Quiet n rest wait
-      → ((d : Dispatcher) → Refilled d n tasks l rest → Served d l' r' t)
-      → c ≡ tallied (ltb (t .guest) n) (ltb 0 (t .had)) (t .guest) usage
-      → Stepped (stateOf p left position rest wait age usage) (stateOf p l' q r' w a c) t
+      → ((d : Dispatcher) → Refilled d n (c .tasks) l rest → Served d l' r' t)
+      → v ≡ tallied (ltb (t .guest) n) (ltb 0 (t .had)) (t .guest) usage
+      → Stepped (stateOf p left position rest wait age usage) (stateOf p l' q r' w a v) t
   unfolding next waitAfter ageAfter
   stepped e f g h few z serves i =
-      let s = serves (stateOf p left position rest wait age usage) record { count = u .count; many = u .many; filled = e ∙ refilled-is; runs = refl } in
+      let s = serves (stateOf p left position rest wait age usage) record { count = counts; many = u .tasks .holds; filled = e ∙ refilled-is; runs = refl } in
       record {
-        state = rw (s .lefts, f, onward-is, s .runs, g, h, fallen-short few z, grown-short few z age, i, tick-counted _ (s .had) (u .count)) refl;
+        state = rw (s .lefts, f, onward-is, s .runs, g, h, fallen-short few z, grown-short few z age, i, tick-counted _ (s .had) counts) refl;
         had = s .had;
       }
 
-  module _ (m : Small n tasks) (z : Quiet n rest wait) where
-    -- a place from n guests on is not the one that loses a run
+  module _ (m : Small n (c .tasks)) (z : Quiet n rest wait) where
+    -- A place past the n guests is not the one that loses a run.
     far : (b : Bool) → isWorked (stateOf p left position rest wait age usage) ≡ b → (k : ℕ) → n * 16 ≤ k → k < 128
         → nth (lessAt b rest (placeAt (holder (stateOf p left position rest wait age usage)) (worker (stateOf p left position rest wait age usage)))) k ≡ 0
     unfolding lessAt isWorked isHeld
@@ -157,23 +163,23 @@ module _ {p : Plan} {n : ℕ} {capacities periods tasks : List ℕ} (u : Columne
         let d = stateOf p left position rest wait age usage in
         let h = ltb-true (holder d) (p .count) (and-left (ltb (holder d) (p .count)) _ e) in
         let t = ltb-true (worker d) _ (and-right (ltb (holder d) (p .count)) _ e) in
-        let c = u .count in
+        let o = counts in
         let l : holder d < n = omega arith in
         let s = m .each (holder d) l in
-        let y = u .many (holder d) l in
+        let y = u .tasks .holds (holder d) l in
         getD-set-other rest (placeAt (holder d) (worker d)) k _ 0 (λ q. omega arith) ∙ z .runs k a b
 
-    -- no run is left there after the tick
+    -- No run is left past the guests after the tick.
     rests-kept : (k : ℕ) → n * 16 ≤ k → k < 128 → nth (restAfter (stateOf p left position rest wait age usage)) k ≡ 0
     unfolding restAfter
     rests-kept k a b = far _ refl k a b
 
-    -- and no wait
+    -- No wait is left past the guests after the tick.
     waits-kept : (k : ℕ) → n * 16 ≤ k → k < 128 → nth (waitAfter (stateOf p left position rest wait age usage)) k ≡ 0
     unfolding waitAfter
     waits-kept k a b = ⊎-elim (λ e. omega (arith, e, z .waits k a b)) (λ e. e ∙ z .waits k a b) (upTo-get fallen 128 wait k)
 
-    -- a tick leaves the places past the guests quiet
+    -- A tick leaves the places past the guests quiet.
     pub quiet-kept : {l q r w a v : List ℕ} {t : Turn} → Stepped (stateOf p left position rest wait age usage) (stateOf p l q r w a v) t → Quiet n r w
     unfolding next
     quiet-kept s = record {
@@ -181,53 +187,49 @@ module _ {p : Plan} {n : ℕ} {capacities periods tasks : List ℕ} (u : Columne
       waits = λ k a b. ap (λ (x : Dispatcher). nth (x .wait) k) (s .state) ∙ waits-kept k a b;
     }
 
--- columns of a state that is not refused are columns of its plan
-pub columned : {p : Plan} {r : Checked} → ColumnsIn p r → Columned p (p .count) (r .capacities) (r .periods) (r .tasks)
-columned c = record { count = refl; capacity = c .capacity .holds; period = c .period .holds; many = c .many .holds }
-
--- and those of a plan in order are small
-pub small-tasks : {p : Plan} {r : Checked} → planRefusal p .number ≡ 0 → ColumnsIn p r → Small (p .count) (r .tasks)
-small-tasks {p} e c =
+-- The columns of a plan in order are small.
+pub small-tasks : {p : Plan} {c : Columns} → planRefusal p .number ≡ 0 → ColumnsOf (p .guests) (p .count) c → Small (p .count) (c .tasks)
+small-tasks {p} e u =
     let i = plan-in p e in
-    record { guests = i .few; each = λ k h. omega (arith, c .many .holds k h, i .guests k h .head .few) }
+    record { guests = i .few; each = λ k h. omega (arith, u .tasks .holds k h, i .guests k h .head .few) }
 
 module _ {d after : Dispatcher} {t : Turn} (p : planRefusal (after .plan) .number ≡ 0) (s : Stepped d after t) where
-  -- a tick keeps the plan
+  -- A tick keeps the plan.
   plan-kept : d .plan ≡ after .plan
   unfolding next
   plan-kept = sym (ap (λ (x : Dispatcher). x .plan) (s .state))
 
-  -- what a tick leaves to tell it by, where it finished no job
-  pub telling : {r : Checked} → ColumnsIn (after .plan) r → (t .had ≡ 1 → ⊥) → Telling d (r .ids) (after .plan .count) t
-  telling c m = record {
+  -- What a tick that finished no job leaves is enough to tell its answer.
+  pub telling : {c : Columns} → ColumnsOf (after .plan .guests) (after .plan .count) c → (t .had ≡ 1 → ⊥) → Telling d (c .ids) (after .plan .count) t
+  telling u m = record {
     sound = rw plan-kept p;
     count = ap (λ (x : Plan). x .count) plan-kept;
-    id = λ k h. c .id .holds k h ∙ ap (λ (x : Plan). guestAt (x .guests) k .id) (sym plan-kept);
+    id = λ k h. u .ids .holds k h ∙ ap (λ (x : Plan). guestAt (x .guests) k .id) (sym plan-kept);
     had = s .had;
     more = m;
   }
 
-  -- and where it did
+  -- What a tick that finished a job leaves is enough to tell its answer.
   pub ending : t .had ≡ 1 → Ending d (after .plan) t (after .age)
   unfolding next
   ending m = record { sound = rw plan-kept p; plan = plan-kept; had = s .had; ages = ap (λ (x : Dispatcher). x .age) (s .state); last = m }
 
 module _ (d : Dispatcher) (e : stateOk d ≡ true) where
-  -- a row past the guests of a state that is not refused is blank
+  -- A row past the guests of a state in its ranges is blank.
   blank-at : (j t : ℕ) → d .plan .count ≤ j → j < 8 → t < 16 → blankAt (d .rest) (d .wait) (d .age) j t ≡ true
   unfolding stateOk rowOk
   blank-at j t a b c =
       past-task-is d j a t
       ∙ all-at (taskInRange d j) 16 t c (and-right (guestInRange d j) _ (all-at (rowOk d) 8 j b (and-right (eqb (planRefusal (d .plan) .number) 0) _ e)))
 
-  -- seen place by place
+  -- Every place past the guests of a state in its ranges is blank.
   blank-place : (k : ℕ) → d .plan .count * 16 ≤ k → k < 128 → noJob (nth (d .rest) k) (nth (d .wait) k) (nth (d .age) k) ≡ true
   blank-place k a b =
       let q : placeAt (k / 16) (k % 16) ≡ k = omega arith in
       let h = blank-at (k / 16) (k % 16) (omega arith) (omega arith) (omega arith) in
       subst (λ (x : ℕ). noJob (nth (d .rest) x) (nth (d .wait) x) (nth (d .age) x) ≡ true) q h
 
-  -- so no job runs or waits there
+  -- No job runs or waits past the guests of a state in its ranges.
   pub quiet : Quiet (d .plan .count) (d .rest) (d .wait)
   quiet = record {
     runs =

@@ -1,8 +1,8 @@
 -- Laws, each file named after the definition that it is about.
 pub mod Valid
-pub mod Pass
+pub mod LentCheck
 pub mod Answers
-pub mod Counted
+pub mod Tick
 pub mod Lent
 pub mod Fresh
 pub mod Release

@@ -10,18 +10,18 @@ use Rattle.dispatcher.specs.declared.Ran.{Ran}
 use Rattle.dispatcher.specs.Promises.{Starts, Releases, Ticks, Runs}
 use Rattle.plan.proofs.Promises.{one-outcome}
 
--- fresh start
+-- Two outcomes that a start's promise permits are one.
 pub starts-once : (p : Plan) (r s : Started) → Starts p r → Starts p s → r ≡ s
 starts-once p r s = one-outcome
 
--- release
+-- Two outcomes that a release's promise permits are one.
 pub releases-once : (d : Dispatcher) (id task : ℕ) (r s : Released) → Releases d id task r → Releases d id task s → r ≡ s
 releases-once d id task r s = one-outcome
 
--- tick
+-- Two outcomes that a tick's promise permits are one.
 pub ticks-once : (d : Dispatcher) (r s : Ticked) → Ticks d r → Ticks d s → r ≡ s
 ticks-once d r s = one-outcome
 
--- run
+-- Two outcomes that a run's promise permits are one.
 pub runs-once : (d : Dispatcher) (n : ℕ) (r s : Ran) → Runs d n r → Runs d n s → r ≡ s
 runs-once d n r s = one-outcome

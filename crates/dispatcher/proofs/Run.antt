@@ -13,13 +13,13 @@ use Rattle.dispatcher.specs.Run.{ranTo, runFrom, runFor}
 use Rattle.dispatcher.specs.Lent.{Stepped, lastBy, Gone}
 use Rattle.dispatcher.proofs.Answers.{finishes-done, finishes-more}
 
--- one tick more, by whether it finishes a job
+-- One tick more, by whether it finishes a job.
 run-more : (n done : ℕ) (last : Answer) (d : Dispatcher) → done < n
     → runFrom (n - done) done last d ≡ pick (finishes (answer d)) (ranTo (done + 1) (answer d) (next d)) (runFrom (n - (done + 1)) (done + 1) (answer d) (next d))
 unfolding runFrom
 run-more n done last d h = let q : n - done ≡ suc (n - (done + 1)) = omega arith in rw q refl
 
--- no tick more
+-- No tick more ends the run.
 run-none : (n done : ℕ) (last : Answer) (d : Dispatcher) → n ≤ done → runFrom (n - done) done last d ≡ ranTo done last d
 unfolding runFrom
 run-none n done last d h = let q : n - done ≡ 0 = omega arith in rw q refl
@@ -30,18 +30,18 @@ pub record Going (d : Dispatcher) (n done : ℕ) (t : Turn) (now : Dispatcher) :
   pub last : 0 < done → Stepped before now t
   pub left : runFor n d ≡ runFrom (n - done) done (lastBy done before) now
 
--- it starts
+-- A run starts with no tick done.
 pub starts : (d : Dispatcher) (n : ℕ) (t : Turn) → Going d n 0 t d
 unfolding runFor lastBy
 starts d n t = record { before = d; last = λ h. absurd (omega arith); left = let q : n - 0 ≡ n = omega arith in rw q refl }
 
--- the answer of the last of some ticks
+-- The answer of the last of some ticks is that of the state before it.
 last-is : (done : ℕ) (d : Dispatcher) → lastBy (done + 1) d ≡ answer d
 unfolding lastBy
 last-is done d = rw add-one refl
 
 module _ {d : Dispatcher} {n done : ℕ} {t u : Turn} {now after : Dispatcher} (g : Going d n done t now) (h : done < n) (s : Stepped now after u) where
-  -- a step that finishes no job
+  -- A step that finishes no job goes on.
   pub goes-on : (u .had ≡ 1 → ⊥) → Going d n (done + 1) u after
   goes-on m = record {
     before = now;
@@ -52,7 +52,7 @@ module _ {d : Dispatcher} {n done : ℕ} {t u : Turn} {now after : Dispatcher} (
         ∙ rw (finishes-more now (s .had) m, s .state, last-is done now) refl;
   }
 
-  -- one that does
+  -- A step that finishes a job stops the run.
   pub stops : u .had ≡ 1 → Gone d n (done + 1) u after
   stops m = record {
     before = now;
@@ -63,7 +63,7 @@ module _ {d : Dispatcher} {n done : ℕ} {t u : Turn} {now after : Dispatcher} (
         ∙ rw (finishes-done now (s .had) m, s .state, last-is done now) refl;
   }
 
--- the number is used up
+-- A run whose number is used up is over.
 pub used-up : {d : Dispatcher} {n done : ℕ} {t : Turn} {now : Dispatcher} → Going d n done t now → n ≤ done → Gone d n done t now
 used-up {d} {n} {done} {t} {now} g h =
     record { before = g .before; last = g .last; ran = g .left ∙ run-none n done (lastBy done (g .before)) now h }

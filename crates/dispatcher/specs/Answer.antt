@@ -20,15 +20,15 @@ marginOf deadline age = pos deadline -ℤ pos age
 abbrev pub holderId : Dispatcher → ℕ
 holderId d = guestIn d (holder d) .id
 
--- the number, from 1, of the task that has it
+-- the number, from 1, of the task that has the tick
 abbrev pub workerNumber : Dispatcher → ℕ
 workerNumber d = worker d + 1
 
--- the age of that task's job, this tick included
+-- the age of the job of the task that has the tick, this tick included
 abbrev pub workerAge : Dispatcher → ℕ
 workerAge d = nth (ageAfter d) (placeAt (holder d) (worker d))
 
--- by whether a guest has the tick, a task has it, and the task has more run left than this tick
+-- the answer by whether a guest has the tick, a task has it, and the task has more run left than this tick
 unfoldable pub answerBy : (held worked more : Bool) → Dispatcher → Answer
 answerBy false worked more d = Nobody
 answerBy true false more d = Idled (holderId d)
@@ -36,11 +36,11 @@ answerBy true true true d = Worked (holderId d) (workerNumber d)
 answerBy true true false d =
     Finished (holderId d) (workerNumber d) (workerAge d) (marginOf (deadlineOf (guestIn d (holder d)) (worker d)) (workerAge d))
 
--- of one tick
+-- the answer of one tick
 unfoldable pub answer : Dispatcher → Answer
 answer d = answerBy (isHeld d) (isWorked d) (ltb 1 (restAt d (holder d) (worker d))) d
 
--- whether it finished a job
+-- whether the tick finished a job
 unfoldable pub finishes : Answer → Bool
 finishes (Finished guest task age margin) = true
 finishes (Worked guest task) = false

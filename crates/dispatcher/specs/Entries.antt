@@ -1,4 +1,4 @@
--- The calls, with their refusals. Tick: 14. Run: 14, 13.
+-- The calls of a tick and of a run, with their refusals. Tick: 14. Run: 14, 13.
 use mathlib.Core.List.{[], _∷_}
 use Prim.Native.Nat.{ℕ, zero, suc}
 use lib.Dec.{leb}
@@ -17,7 +17,7 @@ use Rattle.dispatcher.specs.Run.{runFor}
 abbrev pub longestRun : ℕ
 longestRun = 1000000
 
--- by the number that a tick is refused by
+-- the outcome of a tick by the number that it is refused by
 unfoldable pub tickedBy : ℕ → Dispatcher → Ticked
 tickedBy zero d = record { refusal = fine; answer = answer d; state = next d }
 tickedBy (suc n) d = record { refusal = refused (suc n) 0; answer = Silent; state = d }
@@ -26,7 +26,7 @@ tickedBy (suc n) d = record { refusal = refused (suc n) 0; answer = Silent; stat
 unfoldable pub tick : Dispatcher → Ticked
 tick d = tickedBy (refusal (stateOk d orRefuse 14 ∷ [])) d
 
--- by the number that a run is refused by
+-- the outcome of a run of n ticks by the number that it is refused by
 unfoldable pub ranBy : ℕ → Dispatcher → ℕ → Ran
 ranBy zero d n = runFor n d
 ranBy (suc x) d n = record { refusal = refused (suc x) 0; done = 0; answer = Silent; state = d }

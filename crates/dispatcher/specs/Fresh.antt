@@ -1,4 +1,5 @@
--- Fresh start: no job, no wait and no age in any of the 128 places, all positions 0, no capacity left, no tick counted, and the records as handed over.
+-- Fresh start: no job, no wait and no age in any of the 128 places, all positions 0, no capacity left, no tick counted,
+-- and the records as handed over.
 use Prim.Native.Nat.{ℕ, zero, suc}
 use lib.ListN.{replicate}
 use Rattle.plan.specs.declared.Plan.{Plan}
@@ -20,11 +21,11 @@ idle p =
       usage = replicate 17 0;
     }
 
--- by the records' number: a refused start is zero throughout, guest count included
+-- the start by the records' number: a refused one is zero throughout, guest count included
 unfoldable pub startedBy : ℕ → Plan → Dispatcher
 startedBy zero p = idle p
 startedBy (suc n) p = idle blankPlan
 
--- the records' order, then the fresh state
+-- a fresh start: the records' order, then the fresh state
 unfoldable pub fresh : Plan → Started
 fresh p = record { refusal = planRefusal p; state = startedBy (planRefusal p .number) p }

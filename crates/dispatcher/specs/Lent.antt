@@ -1,4 +1,5 @@
--- Ticks over lent arrays, apart from the plan: what the arrays stand for, and who had a tick as the code notes it. Inner: no promise of an entry names this.
+-- Ticks over lent arrays, apart from the plan: what the arrays stand for, and who had a tick as the code notes it.
+-- Inner: no promise of an entry names this.
 use mathlib.Core.Path.{_≡_}
 use mathlib.Core.Bool.{Bool, true, false}
 use mathlib.Core.List.{List}
@@ -6,7 +7,6 @@ use Prim.Native.Nat.{ℕ, zero, suc, _*_, _≤_, _<_}
 use Rattle.lists.specs.Choice.{pick}
 use Rattle.lists.specs.Places.{nth}
 use Rattle.plan.specs.declared.Plan.{Plan}
-use Rattle.plan.specs.Records.{guestAt}
 use Rattle.plan.specs.Order.{planRefusal}
 use Rattle.dispatcher.specs.declared.Dispatcher.{Dispatcher}
 use Rattle.dispatcher.specs.declared.Answer.{Answer}
@@ -27,19 +27,12 @@ pub record Small (n : ℕ) (tasks : List ℕ) : Type 0 where
   pub guests : n ≤ 8
   pub each : (k : ℕ) → k < n → nth tasks k ≤ 16
 
--- columns of a plan's n guests: capacity, period and number of tasks
-pub record Columned (p : Plan) (n : ℕ) (capacities periods tasks : List ℕ) : Type 0 where
-  pub count : p .count ≡ n
-  pub capacity : (k : ℕ) → k < n → nth capacities k ≡ guestAt (p .guests) k .capacity
-  pub period : (k : ℕ) → k < n → nth periods k ≡ guestAt (p .guests) k .period
-  pub many : (k : ℕ) → k < n → nth tasks k ≡ guestAt (p .guests) k .tasks
-
 -- arrays where no job runs or waits past the first n guests
 pub record Quiet (n : ℕ) (rest wait : List ℕ) : Type 0 where
   pub runs : (k : ℕ) → n * 16 ≤ k → k < 128 → nth rest k ≡ 0
   pub waits : (k : ℕ) → n * 16 ≤ k → k < 128 → nth wait k ≡ 0
 
--- by whether a guest has the tick: its place, its task's place, and the run left that the task had; 0 where no task works
+-- who has a tick, by whether a guest has it: its place, its task's place, and the run left that the task had; 0 where no task works
 unfoldable pub turnBy : Bool → Dispatcher → Turn
 turnBy true d = record { guest = holder d; task = worker d; had = pick (isWorked d) (restAt d (holder d) (worker d)) 0 }
 turnBy false d = record { guest = holder d; task = 0; had = 0 }
@@ -55,7 +48,7 @@ pub record Refilled (d : Dispatcher) (n : ℕ) (tasks left rest : List ℕ) : Ty
   pub filled : left ≡ refilled d
   pub runs : rest ≡ d .rest
 
--- what serving it gives
+-- what serving a state gives
 pub record Served (d : Dispatcher) (left rest : List ℕ) (r : Turn) : Type 0 where
   pub lefts : left ≡ leftAfter d
   pub runs : rest ≡ restAfter d

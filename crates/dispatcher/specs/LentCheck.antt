@@ -1,12 +1,11 @@
--- The check of a state over lent arrays, guest by guest, and the columns that it reads on its way. Inner: no promise of an entry names this.
+-- The check of a state over lent arrays, guest by guest, and the columns that it reads on its way.
+-- Inner: no promise of an entry names this.
 use mathlib.Core.Path.{_≡_}
 use mathlib.Core.Bool.{Bool, true, _&&_}
 use Prim.Native.Nat.{ℕ}
 use Rattle.lists.specs.Places.{nth}
-use Rattle.plan.specs.declared.Plan.{Plan}
-use Rattle.plan.specs.Records.{guestAt}
 use Rattle.plan.specs.Order.{newId}
-use Rattle.plan.specs.Filled.{Filled}
+use Rattle.plan.specs.Filled.{ColumnsOf}
 use Rattle.dispatcher.specs.declared.Dispatcher.{Dispatcher}
 use Rattle.dispatcher.specs.declared.Checked.{Checked}
 use Rattle.arrays.specs.Rows.{guestIsOk}
@@ -17,14 +16,7 @@ use Rattle.dispatcher.specs.Valid.{stateOk}
 abbrev pub guestGoes : Dispatcher → ℕ → Bool
 guestGoes d k = newId (λ j. guestIn d j .id) k && guestIsOk (guestIn d k) k (nth (d .left) k) (nth (d .position) k) (d .rest) (d .wait) (d .age)
 
--- columns that hold the numbers of the plan's guests
-pub record ColumnsIn (p : Plan) (r : Checked) : Type 0 where
-  pub id : Filled (r .ids) (λ k. guestAt (p .guests) k .id) (p .count)
-  pub capacity : Filled (r .capacities) (λ k. guestAt (p .guests) k .capacity) (p .count)
-  pub period : Filled (r .periods) (λ k. guestAt (p .guests) k .period) (p .count)
-  pub many : Filled (r .tasks) (λ k. guestAt (p .guests) k .tasks) (p .count)
-
 -- the outcome of the check of a state
 pub record Examines (d : Dispatcher) (r : Checked) : Type 0 where
   pub okay : r .ok ≡ stateOk d
-  pub columns : stateOk d ≡ true → ColumnsIn (d .plan) r
+  pub columns : stateOk d ≡ true → ColumnsOf (d .plan .guests) (d .plan .count) (r .columns)

@@ -1,4 +1,5 @@
--- A release over lent arrays: its refusals, and the place that it is for. Inner: no promise of an entry names this.
+-- A release over lent arrays: its refusals, and the place that it is for.
+-- Inner: no promise of an entry names this.
 use mathlib.Core.Path.{_≡_}
 use mathlib.Core.List.{List, [], _∷_}
 use Prim.Native.Nat.{ℕ, _-_, _<_}
@@ -7,9 +8,8 @@ use Rattle.lists.specs.Places.{nth}
 use Rattle.lists.specs.Refusals.{refusal, _orRefuse_}
 use Rattle.plan.specs.declared.Guest.{Guest}
 use Rattle.plan.specs.Records.{everyOf}
-use Rattle.plan.specs.Ranges.{within}
 use Rattle.plan.specs.Charge.{charged}
-use Rattle.plan.specs.Place.{placeOf}
+use Rattle.plan.specs.Place.{placeOf, hasNumber}
 use Rattle.dispatcher.specs.declared.Dispatcher.{Dispatcher}
 use Rattle.dispatcher.specs.declared.Aim.{Aim}
 use Rattle.arrays.specs.Place.{placeAt}
@@ -20,24 +20,24 @@ use Rattle.dispatcher.specs.Release.{releaseNumber}
 pub record Taking (g : Guest) (k i : ℕ) (r : Aim) : Type 0 where
   pub place : r .at ≡ placeAt k i
   pub inside : r .at < 128
-  pub run : r .full ≡ charged g i
+  pub run : r .run ≡ charged g i
   pub period : r .every ≡ everyOf g i
 
 -- the refusals of a release that is for guest g, at place k: 8, 9, 10
 abbrev pub takeNumber : Guest → (k task : ℕ) (rest wait : List ℕ) → ℕ
 takeNumber g k task rest wait =
     refusal (
-    within 1 (g .tasks) task orRefuse 8
+    hasNumber (g .tasks) task orRefuse 8
     ∷ eqb (nth wait (placeAt k (task - 1))) 0 orRefuse 9
     ∷ eqb (nth rest (placeAt k (task - 1))) 0 orRefuse 10
     ∷ [])
 
--- its outcome
+-- the outcome of the refusals of a release that is for guest g, at place k
 pub record AimsAt (g : Guest) (k task : ℕ) (rest wait : List ℕ) (r : Aim) : Type 0 where
   pub refuses : r .number ≡ takeNumber g k task rest wait
   pub takes : r .number ≡ 0 → Taking g k (task - 1) r
 
--- the outcome of a release's refusals
+-- the outcome of all refusals of a release
 pub record Aims (d : Dispatcher) (id task : ℕ) (r : Aim) : Type 0 where
   pub refuses : r .number ≡ releaseNumber d id task
   pub takes : r .number ≡ 0 → Taking (guestIn d (placeOf (d .plan) id)) (placeOf (d .plan) id) (task - 1) r

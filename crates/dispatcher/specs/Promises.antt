@@ -11,18 +11,18 @@ use Rattle.dispatcher.specs.Fresh.{fresh}
 use Rattle.dispatcher.specs.Release.{release}
 use Rattle.dispatcher.specs.Entries.{tick, run}
 
--- fresh start
+-- a fresh start has the one outcome that its definition gives
 abbrev pub Starts : Plan → Started → Type 0
 Starts p r = r ≡ fresh p
 
--- release of a task, by guest id and task number
+-- a release of a task, by guest id and task number, has the one outcome that its definition gives
 abbrev pub Releases : Dispatcher → ℕ → ℕ → Released → Type 0
 Releases d id task r = r ≡ release d id task
 
--- one tick
+-- a tick has the one outcome that its definition gives
 abbrev pub Ticks : Dispatcher → Ticked → Type 0
 Ticks d r = r ≡ tick d
 
--- a run of n ticks
+-- a run of n ticks has the one outcome that its definition gives
 abbrev pub Runs : Dispatcher → ℕ → Ran → Type 0
 Runs d n r = r ≡ run d n

@@ -2,13 +2,12 @@
 use mathlib.Core.List.{[], _∷_}
 use Prim.Native.Nat.{ℕ, zero, suc, _-_}
 use lib.ListN.{set}
-use lib.Dec.{ltb, eqb}
+use lib.Dec.{eqb}
 use Rattle.lists.specs.Refusals.{refusal, _orRefuse_}
 use Rattle.plan.specs.Records.{everyOf}
-use Rattle.plan.specs.Ranges.{within}
 use Rattle.plan.specs.Charge.{charged}
 use Rattle.plan.specs.First.{refused, fine}
-use Rattle.plan.specs.Place.{placeOf}
+use Rattle.plan.specs.Place.{placeOf, hasGuest, hasTask}
 use Rattle.dispatcher.specs.declared.Dispatcher.{Dispatcher}
 use Rattle.dispatcher.specs.declared.Released.{Released}
 use Rattle.arrays.specs.Place.{placeAt}
@@ -34,13 +33,13 @@ releaseNumber d id task =
     let k = placeOf (d .plan) id in
     refusal (
     stateOk d orRefuse 14
-    ∷ ltb k (d .plan .count) orRefuse 7
-    ∷ within 1 (guestIn d k .tasks) task orRefuse 8
+    ∷ hasGuest (d .plan) id orRefuse 7
+    ∷ hasTask (d .plan) id task orRefuse 8
     ∷ eqb (waitAt d k (task - 1)) 0 orRefuse 9
     ∷ eqb (restAt d k (task - 1)) 0 orRefuse 10
     ∷ [])
 
--- by that number: taken, or the state as it was
+-- the outcome by that number: taken, or the state as it was
 unfoldable pub releasedBy : ℕ → Dispatcher → ℕ → ℕ → Released
 releasedBy zero d k t = record { refusal = fine; state = taken d k t }
 releasedBy (suc n) d k t = record { refusal = refused (suc n) 0; state = d }

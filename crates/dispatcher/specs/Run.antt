@@ -18,7 +18,7 @@ ticks (suc n) d = ticks n (next d)
 abbrev pub ranTo : ℕ → Answer → Dispatcher → Ran
 ranTo done last d = record { refusal = fine; done = done; answer = last; state = d }
 
--- n more ticks, after some were done and the last of them answered
+-- a run's last n ticks, after some were done and the last of them answered
 unfoldable pub runFrom : ℕ → ℕ → Answer → Dispatcher → Ran
 runFrom zero done last d = ranTo done last d
 runFrom (suc n) done last d =

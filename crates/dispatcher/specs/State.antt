@@ -6,18 +6,18 @@ use Rattle.plan.specs.Records.{guestAt}
 use Rattle.arrays.specs.Place.{placeAt}
 use Rattle.dispatcher.specs.declared.Dispatcher.{Dispatcher}
 
--- guest k
+-- guest k of the state's plan
 abbrev pub guestIn : Dispatcher → ℕ → Guest
 guestIn d k = guestAt (d .plan .guests) k
 
--- run left of task t of guest k
+-- the run left of task t of guest k
 abbrev pub restAt : Dispatcher → ℕ → ℕ → ℕ
 restAt d k t = nth (d .rest) (placeAt k t)
 
--- its wait
+-- the wait of task t of guest k
 abbrev pub waitAt : Dispatcher → ℕ → ℕ → ℕ
 waitAt d k t = nth (d .wait) (placeAt k t)
 
--- its age
+-- the age of task t of guest k
 abbrev pub ageAt : Dispatcher → ℕ → ℕ → ℕ
 ageAt d k t = nth (d .age) (placeAt k t)

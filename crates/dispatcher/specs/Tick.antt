@@ -30,11 +30,11 @@ holder d = firstFrom (λ k. ltb 0 (nth (refilled d) k)) (d .plan .count) 0
 unfoldable pub isHeld : Dispatcher → Bool
 isHeld d = ltb (holder d) (d .plan .count)
 
--- and it loses one
+-- the guest that has the tick loses one
 unfoldable pub leftAfter : Dispatcher → List ℕ
 leftAfter d = lessAt (isHeld d) (refilled d) (holder d)
 
--- inside it the first task with run left; its number of tasks where none has any
+-- inside that guest the first task with run left has the tick; the guest's number of tasks where none has any
 unfoldable pub worker : Dispatcher → ℕ
 worker d = firstFrom (λ t. ltb 0 (restAt d (holder d) t)) (guestIn d (holder d) .tasks) 0
 
@@ -42,7 +42,7 @@ worker d = firstFrom (λ t. ltb 0 (restAt d (holder d) t)) (guestIn d (holder d)
 unfoldable pub isWorked : Dispatcher → Bool
 isWorked d = isHeld d && ltb (worker d) (guestIn d (holder d) .tasks)
 
--- and it loses one
+-- the task that has the tick loses one
 unfoldable pub restAfter : Dispatcher → List ℕ
 restAfter d = lessAt (isWorked d) (d .rest) (placeAt (holder d) (worker d))
 
@@ -58,7 +58,7 @@ waitAfter d = upTo (λ k wait. wait - 1) 128 (d .wait)
 unfoldable pub positionAfter : Dispatcher → List ℕ
 positionAfter d = upTo (λ k position. pick (ltb (position + 1) (guestIn d k .period)) (position + 1) 0) (d .plan .count) (d .position)
 
--- and the tick is counted: for that guest, among those that it idled away if no task works, or for nobody
+-- the tick is counted: for that guest, among those that it idled away if no task works, or for nobody
 unfoldable pub usageAfter : Dispatcher → List ℕ
 usageAfter d = tallied (isHeld d) (isWorked d) (holder d) (d .usage)
 

@@ -1,4 +1,5 @@
--- Refusal 14: a state whose plan fails the records' order, or with a number outside its range, or with anything but 0 past its guests and tasks. Where the ticks went is not looked at.
+-- Refusal 14: a state whose plan fails the records' order, or with a number outside its range, or with anything but 0 past
+-- its guests and tasks. Where the ticks went is not looked at.
 use mathlib.Core.Bool.{Bool, _&&_}
 use Prim.Native.Nat.{ℕ}
 use lib.Dec.{ltb, eqb}
@@ -17,24 +18,24 @@ use Rattle.dispatcher.specs.State.{guestIn, restAt, waitAt, ageAt}
 unfoldable pub tasksIn : Dispatcher → ℕ → ℕ
 tasksIn d k = pick (ltb k (d .plan .count)) (guestIn d k .tasks) 0
 
--- the two numbers of guest k
+-- whether the two numbers of guest k are in their ranges
 unfoldable pub guestInRange : Dispatcher → ℕ → Bool
 guestInRange d k =
     pick (ltb k (d .plan .count))
     (serverOk (guestIn d k .capacity) (guestIn d k .period) (nth (d .left) k) (nth (d .position) k))
     (noServer (nth (d .left) k) (nth (d .position) k))
 
--- the three numbers of task t of guest k
+-- whether the three numbers of task t of guest k are in their ranges
 unfoldable pub taskInRange : Dispatcher → ℕ → ℕ → Bool
 taskInRange d k t =
     pick (ltb t (tasksIn d k))
     (jobOk (charged (guestIn d k) t) (everyOf (guestIn d k) t) (restAt d k t) (waitAt d k t) (ageAt d k t))
     (noJob (restAt d k t) (waitAt d k t) (ageAt d k t))
 
--- all numbers of guest k
+-- whether all numbers of guest k are in their ranges
 unfoldable pub rowOk : Dispatcher → ℕ → Bool
 rowOk d k = guestInRange d k && allTo (taskInRange d k) mostTasks
 
--- the state is not refused
+-- whether the state is in its ranges, so that 14 is not given
 unfoldable pub stateOk : Dispatcher → Bool
 stateOk d = eqb (planRefusal (d .plan) .number) 0 && allTo (rowOk d) mostGuests

@@ -1,13 +1,16 @@
 // The dispatcher: its state by value, and the calls that take it and give it back.
-mod checking;
+mod answering;
+mod releasing;
 mod running;
-mod start;
-mod step;
-mod taking;
+mod starting;
+mod stepping;
 mod ticking;
-mod told;
+mod validating;
 
-pub use checking::examine;
+// Inner: calls that are built above this crate check a state by it.
+pub use validating::examine;
+
+use plan::Columns;
 use plan::Plan;
 use plan::Refusal;
 
@@ -50,10 +53,7 @@ pub struct Turn {
 // Whether a state is in its ranges, and the columns that the check read on its way.
 pub struct Checked {
     pub ok: bool,
-    pub ids: [u32; 16],
-    pub capacities: [u32; 16],
-    pub periods: [u32; 16],
-    pub tasks: [u32; 16],
+    pub columns: Columns,
 }
 
 // What a run over lent arrays gives beside them.
@@ -73,7 +73,7 @@ pub struct Went {
 pub struct Aim {
     pub number: u32,
     pub at: usize,
-    pub full: u32,
+    pub run: u32,
     pub every: u32,
 }
 

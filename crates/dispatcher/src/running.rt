@@ -1,22 +1,23 @@
 // A run of ticks: its checks once, then steps over the state's arrays.
 ghost use mathlib.Core.Path.{_≡_};
+ghost use mathlib.Core.List.{List};
+ghost use Prim.Native.Nat.{ℕ};
 ghost use Rattle.plan.specs.declared.Plan as declared;
 ghost use Rattle.plan.specs.First.{refused};
+ghost use Rattle.plan.specs.Filled.{ColumnsOf};
 ghost use Rattle.dispatcher.specs.declared.Answer.the-variants.{Silent};
-ghost use Rattle.dispatcher.specs.Lent.{stateOf, Small, Columned, Quiet, Gone};
-ghost use Rattle.dispatcher.specs.LentCheck.{Examines};
+ghost use Rattle.dispatcher.specs.Lent.{stateOf, Small, Quiet, Gone};
 ghost use Rattle.dispatcher.specs.Promises.{Runs};
 use crate::Answer;
-use crate::Checked;
 use crate::Dispatcher;
 use crate::Ran;
 use crate::RunOutcome;
 use crate::Turn;
 use crate::Went;
-use crate::checking::examine;
-use crate::step::step;
-use crate::told::finished;
-use crate::told::told;
+use crate::answering::finished;
+use crate::answering::unfinished;
+use crate::stepping::step;
+use crate::validating::examine;
 use plan::Plan;
 use plan::Refusal;
 
@@ -36,8 +37,10 @@ fn steps(
 ) -> Went
     requires { ⌜ Small n (now tasks) ⌝ }
     ensures { λ r. ⌜
-        ((p : declared.Plan)
-        → Columned p n (now (capacities .entry)) (now (periods .entry)) (now (tasks .entry))
+        ((p : declared.Plan) (ids : List ℕ)
+        → p .count ≡ n
+        → ColumnsOf (p .guests) n
+        (record { ids = ids; capacities = now (capacities .entry); periods = now (periods .entry); tasks = now (tasks .entry) })
         → Quiet n (now (rest .entry)) (now (wait .entry))
         → Gone (stateOf p (now (left .entry)) (now (position .entry)) (now (rest .entry)) (now (wait .entry)) (now (age .entry)) (now (usage .entry)))
         ticks (r .done) (r .turn)
@@ -71,7 +74,7 @@ fn steps(
     Went { done, turn }
 }
 
-// No tick was done.
+// A run that did no tick, refused by a number or not.
 fn unmoved(number: u32) -> RunOutcome
     ensures { λ r. ⌜ r ≡ record { number = number; done = 0; answer = Silent } ⌝ }
 {
@@ -82,9 +85,8 @@ fn unmoved(number: u32) -> RunOutcome
     }
 }
 
-// A run over lent arrays that were examined: they come back as they were where it is refused.
+// A run over lent arrays, with its refusals: the arrays come back as they were where it is refused.
 pub fn ran(
-    found: Checked,
     plan: Plan,
     left: &mut [u32; 8],
     position: &mut [u32; 8],
@@ -94,7 +96,6 @@ pub fn ran(
     usage: &mut [u64; 17],
     ticks: u32,
 ) -> RunOutcome
-    requires { ⌜ Examines (stateOf plan (now left) (now position) (now rest) (now wait) (now age) (now usage)) found ⌝ }
     ensures { λ r. ⌜
         Runs (stateOf plan (now (left .entry)) (now (position .entry)) (now (rest .entry)) (now (wait .entry)) (now (age .entry)) (now (usage .entry)))
         ticks
@@ -106,16 +107,18 @@ pub fn ran(
         })
         ⌝ }
 {
+    let found = examine(plan, left, position, rest, wait, age);
     if !found.ok {
         return unmoved(14);
     }
     if 1000000 < ticks {
         return unmoved(13);
     }
-    let ids = found.ids;
-    let capacities = found.capacities;
-    let periods = found.periods;
-    let tasks = found.tasks;
+    let columns = found.columns;
+    let ids = columns.ids;
+    let capacities = columns.capacities;
+    let periods = columns.periods;
+    let tasks = columns.tasks;
     let n = plan.count as usize;
     let went = steps(
         left,
@@ -145,7 +148,7 @@ pub fn ran(
     RunOutcome {
         number: 0,
         done,
-        answer: told(&ids, n, turn),
+        answer: unfinished(&ids, n, turn),
     }
 }
 
@@ -159,9 +162,7 @@ impl Dispatcher {
         let mut wait = self.wait;
         let mut age = self.age;
         let mut usage = self.usage;
-        let found = examine(self.plan, &left, &position, &rest, &wait, &age);
         let r = ran(
-            found,
             self.plan,
             &mut left,
             &mut position,

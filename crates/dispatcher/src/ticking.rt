@@ -2,7 +2,6 @@
 ghost use Rattle.dispatcher.specs.Promises.{Ticks};
 use crate::Dispatcher;
 use crate::Ticked;
-use crate::checking::examine;
 use crate::running::ran;
 use plan::Refusal;
 
@@ -16,9 +15,7 @@ impl Dispatcher {
         let mut wait = self.wait;
         let mut age = self.age;
         let mut usage = self.usage;
-        let found = examine(self.plan, &left, &position, &rest, &wait, &age);
         let r = ran(
-            found,
             self.plan,
             &mut left,
             &mut position,

@@ -34,10 +34,10 @@ server-idle true c t l p h a b = and-true (le-leb l c (omega arith)) (lt-ltb p t
 server-idle false c t l p h a b = and-true (eq-eqb l 0 a) (eq-eqb p 0 b)
 
 -- A task without a job is in its ranges; past the tasks these numbers are those asked for.
-job-idle : (b : Bool) (full every r w a : ℕ) → r ≡ 0 → w ≡ 0 → a ≡ 0 → pick b (jobOk full every r w a) (noJob r w a) ≡ true
-job-idle true full every r w a x y z =
-    and-true (and-true (le-leb r full (omega arith)) (le-leb w every (omega arith))) (le-leb a longest (omega arith))
-job-idle false full every r w a x y z = and-true (and-true (eq-eqb r 0 x) (eq-eqb w 0 y)) (eq-eqb a 0 z)
+job-idle : (b : Bool) (run every r w a : ℕ) → r ≡ 0 → w ≡ 0 → a ≡ 0 → pick b (jobOk run every r w a) (noJob r w a) ≡ true
+job-idle true run every r w a x y z =
+    and-true (and-true (le-leb r run (omega arith)) (le-leb w every (omega arith))) (le-leb a longest (omega arith))
+job-idle false run every r w a x y z = and-true (and-true (eq-eqb r 0 x) (eq-eqb w 0 y)) (eq-eqb a 0 z)
 
 module _ (p : Plan) where
   -- No capacity is left at the fresh start.

@@ -25,27 +25,27 @@ server-by false c t l p l' p' in-it past e =
     and-true (eq-eqb l' 0 (r .0)) (eq-eqb p' 0 (r .1))
 
 -- what a task's three numbers are within
-pub record JobWithin (full every rest wait age : ℕ) : Type 0 where
-  pub work : rest ≤ full
+pub record JobWithin (charged every rest wait age : ℕ) : Type 0 where
+  pub work : rest ≤ charged
   pub due : wait ≤ every
   pub old : age ≤ 1000000
 
 -- A task's three numbers stay in their ranges if they do for a task, and stay 0 past the tasks.
 pub job-by :
-    (b : Bool) (full every r w a r' w' a' : ℕ)
-    → (b ≡ true → JobWithin full every r w a → JobWithin full every r' w' a')
+    (b : Bool) (charged every r w a r' w' a' : ℕ)
+    → (b ≡ true → JobWithin charged every r w a → JobWithin charged every r' w' a')
     → (b ≡ false → JobWithin 0 0 r w a → a ≡ 0 → JobWithin 0 0 r' w' 0 × (a' ≡ 0))
-    → pick b (jobOk full every r w a) (noJob r w a) ≡ true
-    → pick b (jobOk full every r' w' a') (noJob r' w' a') ≡ true
-job-by true full every r w a r' w' a' in-it past e =
-    let p = and-left (leb r full && leb w every) _ e in
+    → pick b (jobOk charged every r w a) (noJob r w a) ≡ true
+    → pick b (jobOk charged every r' w' a') (noJob r' w' a') ≡ true
+job-by true charged every r w a r' w' a' in-it past e =
+    let p = and-left (leb r charged && leb w every) _ e in
     let s = in-it refl record {
-      work = leb-true r full (and-left (leb r full) _ p);
-      due = leb-true w every (and-right (leb r full) _ p);
-      old = leb-true a longest (and-right (leb r full && leb w every) _ e);
+      work = leb-true r charged (and-left (leb r charged) _ p);
+      due = leb-true w every (and-right (leb r charged) _ p);
+      old = leb-true a longest (and-right (leb r charged && leb w every) _ e);
     } in
-    and-true (and-true (le-leb r' full (s .work)) (le-leb w' every (s .due))) (le-leb a' longest (s .old))
-job-by false full every r w a r' w' a' in-it past e =
+    and-true (and-true (le-leb r' charged (s .work)) (le-leb w' every (s .due))) (le-leb a' longest (s .old))
+job-by false charged every r w a r' w' a' in-it past e =
     let p = and-left (eqb r 0 && eqb w 0) _ e in
     let r0 : r ≡ 0 = eqb-true r 0 (and-left (eqb r 0) _ p) in
     let w0 : w ≡ 0 = eqb-true w 0 (and-right (eqb r 0) _ p) in

@@ -9,7 +9,7 @@ use lib.Seq.{getD-set-same, getD-set-other}
 use borrow.Author.Tests.{ltb-true, eqb-true, lt-ltb, le-leb, eq-eqb, ne-eqb}
 use Rattle.lists.specs.Refusals.{refusal, Test, unless, _orRefuse_}
 use Rattle.plan.specs.Ranges.{within}
-use Rattle.plan.specs.Place.{placeOf}
+use Rattle.plan.specs.Place.{placeOf, hasGuest, hasTask}
 use Rattle.dispatcher.specs.declared.Dispatcher.{Dispatcher}
 use Rattle.dispatcher.specs.declared.Released.{Released}
 use Rattle.arrays.specs.Place.{placeAt}
@@ -48,7 +48,7 @@ release-number d id task = number-by (releaseNumber d id task) d (placeOf (d .pl
 
 -- A release without a number is of a task that is free.
 pub release-none : (d : Dispatcher) (id task : ℕ) → releaseNumber d id task ≡ 0 → Free d id task (placeOf (d .plan) id) (task - 1)
-unfolding releaseNumber
+unfolding releaseNumber hasGuest hasTask
 release-none d id task e =
     let k = placeOf (d .plan) id in
     let p14 = passed (stateOk d) 14 _ (omega arith) e in
@@ -69,7 +69,7 @@ release-none d id task e =
 
 -- A release of a free task has no number.
 pub free-number : (d : Dispatcher) (id k t : ℕ) → Free d id (suc t) k t → releaseNumber d id (suc t) ≡ 0
-unfolding releaseNumber
+unfolding releaseNumber hasGuest hasTask
 free-number d id k t F =
     let q : suc t - 1 ≡ t = omega arith in
     rw (F .guest, q)
@@ -94,7 +94,7 @@ pub waits-number :
     → t < guestIn d k .tasks
     → 0 < waitAt d k t
     → releaseNumber d id (suc t) ≡ 9
-unfolding releaseNumber
+unfolding releaseNumber hasGuest hasTask
 waits-number d id k t ok g h l w =
     let q : suc t - 1 ≡ t = omega arith in
     rw (g, q)
@@ -113,7 +113,7 @@ pub left-number :
     → waitAt d k t ≡ 0
     → 0 < restAt d k t
     → releaseNumber d id (suc t) ≡ 10
-unfolding releaseNumber
+unfolding releaseNumber hasGuest hasTask
 left-number d id k t ok g h l w r =
     let q : suc t - 1 ≡ t = omega arith in
     rw (g, q)

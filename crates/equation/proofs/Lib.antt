@@ -1,7 +1,9 @@
--- Laws: of a solution, of a task's equation, of the recurrences that climb to a solution, of two systems compared, of an interval halved.
+-- Laws: of a solution, of a task's equation, of the recurrences that climb to a solution, of two systems compared, of
+-- an interval halved; one instance.
 pub mod Solve
 pub mod System
 pub mod Rise
 pub mod Turn
 pub mod Compare
 pub mod Halve
+pub mod Instance

@@ -30,7 +30,7 @@ solve-none f t w past u = least-is (λ x. eqb x (f x)) t 1 Nothing record {
   never = λ z h k. ne-eqb z (f z) (λ q. (let b : w ≤ z = u z h q in omega arith));
 }
 
--- w is the least solution, and at most t
+-- The number w is the least solution, and at most t.
 pub record Solved (f : ℕ → ℕ) (t w : ℕ) : Type 0 where
   pub low : 1 ≤ w
   pub high : w ≤ t

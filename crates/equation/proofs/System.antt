@@ -3,37 +3,48 @@ use mathlib.Core.Path.{_≡_, sym, _∙_, ap}
 use Prim.Native.Nat.{ℕ, suc, _+_, _-_, _*_, _≤_, _<_}
 use native.Mathlib.Nat.{mul-add}
 use native.Mathlib.Omega.{arith}
-use Rattle.rounding.specs.Up.{up}
-use Rattle.equation.specs.System.{System, rightAt, right}
+use Rattle.equation.specs.Guest.{guestSide}
+use Rattle.equation.specs.System.{System, load, serverPeriods, rightAt, right}
+use Rattle.rounding.proofs.Asked.{asked-mono}
 use Rattle.rounding.proofs.Up.{Blocks, blocks}
 
--- what the laws ask of a system: x is the guest's own response
-pub record Regular (S : System) (x : ℕ) : Type 0 where
+-- What the laws ask of task i of a system: x is the guest's own response.
+pub record Regular (S : System) (i x : ℕ) : Type 0 where
   pub some : 0 < S .capacity
   pub within : S .capacity ≤ S .period
-  pub grows : (a b : ℕ) → a ≤ b → S .interference a ≤ S .interference b
-  pub loads : (a b : ℕ) → a ≤ b → S .load a ≤ S .load b
-  pub loaded : (w : ℕ) → 0 < S .load w
-  pub fits : S .capacity + S .interference x ≤ x
+  pub grows : (a b : ℕ) → a ≤ b → S .above a ≤ S .above b
+  pub runs : 0 < S .run i
+  pub fits : guestSide (S .above) (S .capacity) x ≤ x
   pub ends : x ≤ S .period
 
--- the right side taken apart: m whole server periods, and 1 to C ticks in the last
-pub record Parts (S : System) (w m : ℕ) : Type 0 where
-  pub count : up (S .load w) (S .capacity) ≡ suc m
-  pub more : m * S .capacity < S .load w
-  pub most : S .load w ≤ m * S .capacity + S .capacity
-  pub is : right S w ≡ m * S .period + (S .load w - m * S .capacity) + S .interference (w - m * S .period)
+-- a longer window loads no less
+pub load-grows : (S : System) (i : ℕ) {a b : ℕ} → a ≤ b → load S i a ≤ load S i b
+unfolding load
+load-grows S i h = omega (arith, asked-mono (S .run) (S .every) (S .gap) i h)
+
+-- a task with a run loads every window
+pub load-some : (S : System) (i w : ℕ) → 0 < S .run i → 0 < load S i w
+unfolding load
+load-some S i w h = omega arith
+
+-- The right side taken apart: m whole server periods, and 1 to C ticks in the last.
+pub record Parts (S : System) (i w m : ℕ) : Type 0 where
+  pub count : serverPeriods (load S i w) (S .capacity) ≡ suc m
+  pub more : m * S .capacity < load S i w
+  pub most : load S i w ≤ m * S .capacity + S .capacity
+  pub is : right S i w ≡ m * S .period + (load S i w - m * S .capacity) + S .above (w - m * S .period)
 
 -- the number of whole server periods before the last
-abbrev pub whole : System → ℕ → ℕ
-whole S w = up (S .load w) (S .capacity) - 1
+abbrev pub whole : System → (i w : ℕ) → ℕ
+whole S i w = serverPeriods (load S i w) (S .capacity) - 1
 
--- each right side is so
-pub parts : (S : System) (w : ℕ) → 0 < S .capacity → S .capacity ≤ S .period → 0 < S .load w → Parts S w (whole S w)
+-- every right side can be taken apart so
+pub parts : (S : System) (i w : ℕ) → 0 < S .capacity → S .capacity ≤ S .period → 0 < load S i w
+    → Parts S i w (whole S i w)
 unfolding right rightAt
-parts S w pos within loaded =
-    let m = whole S w in
-    let b : Blocks (S .load w) (S .capacity) m = blocks (S .load w) (S .capacity) pos loaded in
+parts S i w pos within loaded =
+    let m = whole S i w in
+    let b : Blocks (load S i w) (S .capacity) m = blocks (load S i w) (S .capacity) pos loaded in
     let e : S .capacity + (S .period - S .capacity) ≡ S .period = omega arith in
     let q : m * S .period ≡ m * S .capacity + m * (S .period - S .capacity) =
     ap (λ (t : ℕ). m * t) (sym e) ∙ mul-add m (S .capacity) (S .period - S .capacity) in

@@ -1,2 +1,3 @@
 pub mod Solve
+pub mod Guest
 pub mod System

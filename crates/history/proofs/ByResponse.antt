@@ -17,7 +17,7 @@ use Rattle.dispatcher.specs.Answer.{answer}
 use Rattle.dispatcher.specs.Release.{taken}
 use Rattle.verdict.specs.Verdict.{guestVerdict}
 use Rattle.verdict_laws.specs.Guests.{GuestSolves}
-use Rattle.windows.specs.GuestTick.{Fitted}
+use Rattle.windows.specs.GuestTick.{GuestFits}
 use Rattle.history.specs.Calls.{Call, start, ticksIn, answers}
 use Rattle.history.specs.Named.{guestBy}
 use Rattle.history.specs.Share.{names, share}
@@ -35,7 +35,7 @@ use Rattle.history.proofs.Clocks.{sound-start}
 use Rattle.history.proofs.Sure.{parts-one}
 use Rattle.verdict.specs.declared.GuestVerdict.the-variants as guest
 
-module _ (p : Plan) (P : PlanIn p) (g x : ℕ) (in-plan : g < p .count) (F : Fitted (capOf p) (perOf p) g x) where
+module _ (p : Plan) (P : PlanIn p) (g x : ℕ) (in-plan : g < p .count) (F : GuestFits (capOf p) (perOf p) g x) where
   -- At the end of the x-th tick of its k-th period, from 0, the guest has had its capacity.
   at-x :
       (L : List Answer) (d : Dispatcher)

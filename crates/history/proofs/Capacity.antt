@@ -16,7 +16,7 @@ use Rattle.dispatcher.specs.Tick.{holder, next}
 use Rattle.dispatcher.specs.Answer.{answer}
 use Rattle.dispatcher.specs.Release.{taken}
 use Rattle.dispatcher.specs.Fresh.{idle}
-use Rattle.windows.specs.GuestTick.{Moved, GuestTick, Fitted}
+use Rattle.windows.specs.GuestTick.{Moved, GuestTick, GuestFits}
 use Rattle.windows.specs.GuestTick.Moved.{on, over}
 use Rattle.windows.specs.Supply.{Supply}
 use Rattle.history.specs.Share.{names, share}
@@ -89,7 +89,7 @@ module _ (p : Plan) (g x : ℕ) (L : List Answer) (a : Answer) (d : Dispatcher) 
         past = λ k h. ⊎-elim (λ (j : k ≡ S .q). rw j whole) (λ (j : k < S .q). stood k j) (eq-or-lt-of-le {n = k} {m = S .q} (omega arith));
       }
 
-module _ (p : Plan) (P : PlanIn p) (g x : ℕ) (in-plan : g < p .count) (F : Fitted (capOf p) (perOf p) g x) where
+module _ (p : Plan) (P : PlanIn p) (g x : ℕ) (in-plan : g < p .count) (F : GuestFits (capOf p) (perOf p) g x) where
   -- The shares stand over a tick.
   pub shares-next : (L : List Answer) (d : Dispatcher) → Sound p d → Shares p g x L d → Shares p g x (L ++ (answer d ∷ [])) (next d)
   shares-next L d D S =

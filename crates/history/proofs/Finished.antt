@@ -17,13 +17,12 @@ use Rattle.dispatcher.specs.Tick.{holder, worker, next}
 use Rattle.dispatcher.specs.Answer.{marginOf, answer}
 use Rattle.dispatcher.specs.Release.{taken}
 use Rattle.windows.specs.TaskTick.{TaskTick}
-use Rattle.windows.specs.Equation.{response}
+use Rattle.equation.specs.System.{responseOf}
 use Rattle.history.specs.Share.{answerAt}
 use Rattle.plan.proofs.Order.{PlanIn}
-use Rattle.windows.proofs.Kept.{age-below}
 use Rattle.verdict_laws.proofs.Ids.{idOf}
 use Rattle.history.proofs.Share.{answer-old, answer-new}
-use Rattle.history.proofs.Quote.{TaskFits, KeptIn, bounded-of, kept-next, kept-release, in-plan, in-guest}
+use Rattle.history.proofs.Quote.{gapIn, TaskFits, KeptIn, bounded-of, young-kept, kept-next, kept-release, in-plan, in-guest}
 use Rattle.dispatcher_laws.proofs.Answer.{finishedBy, answer-finished}
 use Rattle.dispatcher_laws.proofs.Release.{Free, taken-else}
 use Rattle.dispatcher_laws.proofs.Seen.{capOf, perOf, tasksAt, Shaped}
@@ -75,7 +74,7 @@ module _ (p : Plan) (P : PlanIn p) {g x i w : ℕ} (T : TaskFits p g x i w) wher
   -- What stands in a state: the invariant, and the job.
   pub record JobIn (L : List Answer) (d : Dispatcher) : Type 0 where
     pub kept : KeptIn p g x i w d
-    pub job : Job p g i (response (capOf p) (perOf p) g w) L d
+    pub job : Job p g i (responseOf (gapIn p g i) w) L d
 
   -- Over a tick the job stays unfinished, or the answer says that it is finished.
   pending-next :
@@ -84,16 +83,16 @@ module _ (p : Plan) (P : PlanIn p) {g x i w : ℕ} (T : TaskFits p g x i w) wher
       → KeptIn p g x i w d
       → 0 < restAt d g i
       → ageAt d g i ≡ length L
-      → Job p g i (response (capOf p) (perOf p) g w) (L ++ (answer d ∷ [])) (next d)
+      → Job p g i (responseOf (gapIn p g i) w) (L ++ (answer d ∷ [])) (next d)
   pending-next L d D K some old =
       by (task-tick d (D .shaped) g i (in-plan p P T d D) (in-guest p P T d D))
     where
-      young : ageAt d g i < response (capOf p) (perOf p) g w
-      young = age-below (bounded-of p P T) K some
+      young : ageAt d g i < responseOf (gapIn p g i) w
+      young = young-kept p P T d K some
 
-      by : (a : ℕ) × TaskTick i a (tasksAt d g) (tasksAt (next d) g) → Job p g i (response (capOf p) (perOf p) g w) (L ++ (answer d ∷ [])) (next d)
+      by : (a : ℕ) × TaskTick i a (tasksAt d g) (tasksAt (next d) g) → Job p g i (responseOf (gapIn p g i) w) (L ++ (answer d ∷ [])) (next d)
       by (a, t) =
-          let one : ageAt (next d) g i ≡ suc (length L) = omega (arith, young, t .older some, T .in-period, bounded-of p P T .short) in
+          let one : ageAt (next d) g i ≡ suc (length L) = omega (arith, young, t .older some, T .in-period, bounded-of p P T .solves .short) in
           let long : length (L ++ (answer d ∷ [])) ≡ suc (length L) = simp length-append (omega arith) in
           elim (decLt 0 (restAt (next d) g i)) [
             | yes h ↦ pending h (omega arith)
@@ -109,7 +108,7 @@ module _ (p : Plan) (P : PlanIn p) {g x i w : ℕ} (T : TaskFits p g x i w) wher
   pub job-next : (L : List Answer) (d : Dispatcher) → Sound p d → JobIn L d → JobIn (L ++ (answer d ∷ [])) (next d)
   job-next L d D J = record { kept = kept-next p P T d D (J .kept); job = by (J .job) }
     where
-      by : Job p g i (response (capOf p) (perOf p) g w) L d → Job p g i (response (capOf p) (perOf p) g w) (L ++ (answer d ∷ [])) (next d)
+      by : Job p g i (responseOf (gapIn p g i) w) L d → Job p g i (responseOf (gapIn p g i) w) (L ++ (answer d ∷ [])) (next d)
       by (pending r a) = pending-next L d D (J .kept) r a
       by (ended m h l e) = ended m (simp length-append (omega arith)) l (answer-old L (answer d ∷ []) m h ∙ e)
 
@@ -117,7 +116,7 @@ module _ (p : Plan) (P : PlanIn p) {g x i w : ℕ} (T : TaskFits p g x i w) wher
   pub job-release : (L : List Answer) (d : Dispatcher) (id task k t : ℕ) → Sound p d → Free d id task k t → JobIn L d → JobIn L (taken d k t)
   job-release L d id task k t D F J = record { kept = kept-release p P T d D id task k t F (J .kept); job = by (J .job) }
     where
-      by : Job p g i (response (capOf p) (perOf p) g w) L d → Job p g i (response (capOf p) (perOf p) g w) L (taken d k t)
+      by : Job p g i (responseOf (gapIn p g i) w) L d → Job p g i (responseOf (gapIn p g i) w) L (taken d k t)
       by (pending r a) =
           let E = taken-else d (D .shaped) k t (F .in-plan) (F .in-guest) g i (λ q. (let z : restAt d g i ≡ 0 = rw q (F .free) in omega arith)) in
           pending (omega (arith, E .left)) (omega (arith, E .old))

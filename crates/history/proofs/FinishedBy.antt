@@ -11,15 +11,14 @@ use Rattle.dispatcher.specs.declared.Answer.the-variants.{Finished}
 use Rattle.dispatcher.specs.Answer.{marginOf, finishes}
 use Rattle.dispatcher.specs.Release.{release}
 use Rattle.verdict.specs.Quoted.{Quoted}
-use Rattle.windows.specs.Equation.{response}
+use Rattle.equation.specs.System.{responseOf}
 use Rattle.history.specs.Calls.{Call, releasing, start, released, play, ticksIn, answers}
 use Rattle.history.specs.Named.{deadlineBy, restBy, ageBy}
 use Rattle.history.specs.Share.{answerAt}
 use Rattle.history.specs.Finished.{Told, FinishedBy}
 use Rattle.plan.proofs.Order.{PlanIn}
-use Rattle.windows.proofs.Kept.{age-below}
 use Rattle.history.proofs.Play.{Any, any, play-keeps, sound-after, answers-length}
-use Rattle.history.proofs.Quote.{KeptIn, bounded-of, kept-idle, kept-next, kept-release, in-plan, in-guest}
+use Rattle.history.proofs.Quote.{gapIn, KeptIn, bounded-of, young-kept, kept-idle, kept-next, kept-release, in-plan, in-guest}
 use Rattle.history.proofs.Finished.{finishedAt, Job, JobIn, job-next, job-release}
 use Rattle.history.proofs.Finished.Job.{pending, ended}
 use Rattle.history.proofs.Told.{finish-told}
@@ -50,7 +49,7 @@ module _ (p : Plan) (id number R : ℕ) (quoted : Quoted p id number R) where
 
   -- In every state an unfinished job of the task is younger than R.
   pub younger : (cs : List Call) → 0 < restBy p id number (play cs (start p)) → ageBy p id number (play cs (start p)) < R
-  younger cs h = rw (J .quotes) (age-below (bounded-of p P (J .fits)) (kept-reached cs) h)
+  younger cs h = rw (J .quotes) (young-kept p P (J .fits) (play cs (start p)) (kept-reached cs) h)
 
   -- At a taken release the job is new.
   job-new :
@@ -96,7 +95,7 @@ module _ (p : Plan) (id number R : ℕ) (quoted : Quoted p id number R) where
       (ds : List Call) (d : Dispatcher) (m : ℕ)
       → Sound p d
       → m < length (answers ds d)
-      → m < response (capOf p) (perOf p) (placeOf p id) (J .w)
+      → m < responseOf (gapIn p (placeOf p id) (number - 1)) (J .w)
       → answerAt (answers ds d) m ≡ finishedAt p (placeOf p id) (number - 1) (suc m)
       → FinishedBy R (deadlineBy p id number) id number ds d
   unfolding finishes
@@ -130,13 +129,13 @@ module _ (p : Plan) (id number R : ℕ) (quoted : Quoted p id number R) where
       D = sound-after (releasing id number) (play cs (start p)) (sound-reached p (J .task .there .order) cs)
 
       by :
-          Job p (placeOf p id) (number - 1) (response (capOf p) (perOf p) (placeOf p id) (J .w)) (answers ds (released p id number cs))
+          Job p (placeOf p id) (number - 1) (responseOf (gapIn p (placeOf p id) (number - 1)) (J .w)) (answers ds (released p id number cs))
           (play ds (released p id number cs))
           → FinishedBy R (deadlineBy p id number) id number ds (released p id number cs)
       by (pending r a) =
           absurd (omega (
             arith,
-            age-below (bounded-of p P (J .fits)) (job-then cs t ds .kept) r,
+            young-kept p P (J .fits) (play ds (released p id number cs)) (job-then cs t ds .kept) r,
             answers-length ds (released p id number cs) D,
             J .quotes,
           ))

@@ -15,13 +15,12 @@ use Rattle.dispatcher.specs.State.{guestIn, restAt, ageAt}
 use Rattle.dispatcher.specs.Tick.{holder, worker, next}
 use Rattle.dispatcher.specs.Answer.{marginOf, holderId, answer}
 use Rattle.dispatcher.specs.Release.{taken}
-use Rattle.windows.specs.Equation.{response}
+use Rattle.equation.specs.System.{responseOf}
 use Rattle.history.specs.Share.{answerAt}
 use Rattle.plan.proofs.Order.{PlanIn}
-use Rattle.windows.proofs.Kept.{age-below}
 use Rattle.verdict_laws.proofs.Ids.{idOf, id-one}
 use Rattle.history.proofs.Share.{answer-old, answer-new}
-use Rattle.history.proofs.Quote.{TaskFits, KeptIn, bounded-of, kept-next, kept-release, in-plan, in-guest}
+use Rattle.history.proofs.Quote.{gapIn, TaskFits, KeptIn, bounded-of, young-kept, kept-next, kept-release, in-plan, in-guest}
 use Rattle.dispatcher_laws.proofs.Answer.{finishedBy, answer-nobody, answer-idled, answer-worked, answer-finished}
 use Rattle.dispatcher_laws.proofs.Release.{Free}
 use Rattle.dispatcher_laws.proofs.Seen.{capOf, perOf}
@@ -78,13 +77,13 @@ module _ (p : Plan) (P : PlanIn p) {g x i w : ℕ} (T : TaskFits p g x i w) wher
   -- What stands in a state: the invariant, and every answer so far is timely.
   pub record TimelyIn (L : List Answer) (d : Dispatcher) : Type 0 where
     pub kept : KeptIn p g x i w d
-    pub timely : (m : ℕ) → Timely p g i (response (capOf p) (perOf p) g w) (answerAt L m)
+    pub timely : (m : ℕ) → Timely p g i (responseOf (gapIn p g i) w) (answerAt L m)
 
   -- The answer of a tick is timely.
-  tick-timely : (d : Dispatcher) → Sound p d → KeptIn p g x i w d → Timely p g i (response (capOf p) (perOf p) g w) (answer d)
+  tick-timely : (d : Dispatcher) → Sound p d → KeptIn p g x i w d → Timely p g i (responseOf (gapIn p g i) w) (answer d)
   tick-timely d D K age margin e = by (ends d (idOf p g) (suc i) age margin e)
     where
-      by : Ends d (idOf p g) (suc i) age margin → (age ≤ response (capOf p) (perOf p) g w) × (margin ≡ marginOf (deadlineOf (guestAt (p .guests) g) i) age)
+      by : Ends d (idOf p g) (suc i) age margin → (age ≤ responseOf (gapIn p g i) w) × (margin ≡ marginOf (deadlineOf (guestAt (p .guests) g) i) age)
       by E = (omega (arith, old, E .old, aged), sym (E .spare) ∙ said (holder d) (worker d) (ageAt (next d) (holder d) (worker d)) mine its (E .old))
         where
           mine : holder d ≡ g
@@ -102,10 +101,10 @@ module _ (p : Plan) (P : PlanIn p) {g x i w : ℕ} (T : TaskFits p g x i w) wher
                 rw its at (task-served d (D .shaped) g i (in-plan p P T d D) (in-guest p P T d D) mine .took (rw its (omega arith))),
               )
 
-          aged : ageAt (next d) g i ≤ response (capOf p) (perOf p) g w
+          aged : ageAt (next d) g i ≤ responseOf (gapIn p g i) w
           aged =
               let (a, t) = task-tick d (D .shaped) g i (in-plan p P T d D) (in-guest p P T d D) in
-              omega (arith, t .older some, age-below (bounded-of p P T) K some)
+              omega (arith, t .older some, young-kept p P T d K some)
 
           old : ageAt (next d) (holder d) (worker d) ≡ ageAt (next d) g i
           old = rw (mine, its) refl
@@ -122,7 +121,7 @@ module _ (p : Plan) (P : PlanIn p) {g x i w : ℕ} (T : TaskFits p g x i w) wher
   pub timely-next : (L : List Answer) (d : Dispatcher) → Sound p d → TimelyIn L d → TimelyIn (L ++ (answer d ∷ [])) (next d)
   timely-next L d D I = record { kept = kept-next p P T d D (I .kept); timely = each }
     where
-      each : (m : ℕ) → Timely p g i (response (capOf p) (perOf p) g w) (answerAt (L ++ (answer d ∷ [])) m)
+      each : (m : ℕ) → Timely p g i (responseOf (gapIn p g i) w) (answerAt (L ++ (answer d ∷ [])) m)
       each m age margin e =
           elim (decLt m (length L)) [
             | yes h ↦ I .timely m age margin (sym (answer-old L (answer d ∷ []) m h) ∙ e)
@@ -136,7 +135,7 @@ module _ (p : Plan) (P : PlanIn p) {g x i w : ℕ} (T : TaskFits p g x i w) wher
           ]
         where
           never : (age : ℕ) (margin : ℤ) → Silent ≡ Finished (idOf p g) (suc i) age margin
-              → (age ≤ response (capOf p) (perOf p) g w) × (margin ≡ marginOf (deadlineOf (guestAt (p .guests) g) i) age)
+              → (age ≤ responseOf (gapIn p g i) w) × (margin ≡ marginOf (deadlineOf (guestAt (p .guests) g) i) age)
           never age margin q = (let z : _≡_ {A = ℕ} 0 1 = cc in absurd (omega arith))
 
   -- What stands, stands over a taken release.

@@ -8,13 +8,14 @@ use Rattle.plan.specs.declared.Plan.{Plan}
 use Rattle.plan.specs.Place.{placeOf}
 use Rattle.dispatcher.specs.declared.Answer.the-variants.{Silent, Finished}
 use Rattle.dispatcher.specs.Answer.{marginOf, finishes}
-use Rattle.windows.specs.Equation.{response}
+use Rattle.equation.specs.System.{responseOf}
 use Rattle.verdict.specs.declared.TaskVerdict.the-variants.{Met}
 use Rattle.verdict.specs.Verdict.{taskVerdict}
 use Rattle.verdict.specs.Quoted.{Quoted}
 use Rattle.history.specs.Calls.{Call, start, after, play, singles, ticksOf, answerOf}
 use Rattle.history.specs.Named.{deadlineBy}
 use Rattle.plan.proofs.Order.{PlanIn}
+use Rattle.history.proofs.Quote.{gapIn}
 use Rattle.history.proofs.Play.{Any, any-call, after-keeps}
 use Rattle.verdict_laws.proofs.Ids.{idOf}
 use Rattle.history.proofs.InTime.{TimelyIn, timely-next, timely-release}
@@ -50,7 +51,7 @@ module _ (p : Plan) (id number R : ℕ) (quoted : Quoted p id number R) (cs : Li
       .holds
     where
       none : (age : ℕ) (margin : ℤ) → Silent ≡ Finished (idOf p (placeOf p id)) (suc (number - 1)) age margin
-          → (age ≤ response (capOf p) (perOf p) (placeOf p id) (J .w))
+          → (age ≤ responseOf (gapIn p (placeOf p id) (number - 1)) (J .w))
           × (margin ≡ marginOf (deadlineBy p id number) age)
       none age margin q = (let z : _≡_ {A = ℕ} 0 1 = cc in absurd (omega arith))
 

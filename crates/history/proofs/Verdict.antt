@@ -4,13 +4,12 @@ use Prim.Native.Nat.{ℕ, _-_}
 use native.Mathlib.Omega.{arith}
 use Rattle.plan.specs.declared.Plan.{Plan}
 use Rattle.plan.specs.Place.{placeOf}
-use Rattle.response.specs.Task.{gap}
 use Rattle.verdict.specs.Quoted.{Quoted}
-use Rattle.windows.specs.Equation.{response}
+use Rattle.equation.specs.System.{responseOf}
 use Rattle.verdict_laws.specs.Tasks.{TaskThere}
 use Rattle.plan.proofs.Order.{PlanIn, plan-in}
 use Rattle.verdict_laws.proofs.Tasks.{quoted-means}
-use Rattle.history.proofs.Quote.{TaskFits}
+use Rattle.history.proofs.Quote.{gapIn, TaskFits}
 use Rattle.dispatcher_laws.proofs.Seen.{capOf, perOf}
 
 -- What a quoted R says of the task with that number of the guest with that id.
@@ -20,11 +19,11 @@ pub record Judged (p : Plan) (id number R : ℕ) : Type 0 where
   pub x : ℕ
   pub w : ℕ
   pub fits : TaskFits p (placeOf p id) x (number - 1) w
-  pub quotes : R ≡ response (capOf p) (perOf p) (placeOf p id) w
+  pub quotes : R ≡ responseOf (gapIn p (placeOf p id) (number - 1)) w
 
 -- A quoted response has its meaning.
 pub quoted-judged : (p : Plan) (id number R : ℕ) → Quoted p id number R → Judged p id number R
-unfolding response gap
+unfolding responseOf
 quoted-judged p id number R q =
     let (T, Q) = quoted-means p id number R q in
     let (x, G) = Q .fitted (placeOf p id) (omega arith) in

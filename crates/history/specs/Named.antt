@@ -12,22 +12,22 @@ use Rattle.plan.specs.Records as records
 abbrev pub guestBy : Plan → (id : ℕ) → Guest
 guestBy p id = guestAt (p .guests) (placeOf p id)
 
--- period of its task
+-- the period of the task with that number of the guest with that id
 abbrev pub everyBy : Plan → (id number : ℕ) → ℕ
 everyBy p id number = records.everyOf (guestBy p id) (number - 1)
 
--- deadline of its task
+-- the deadline of the task with that number of the guest with that id
 abbrev pub deadlineBy : Plan → (id number : ℕ) → ℕ
 deadlineBy p id number = records.deadlineOf (guestBy p id) (number - 1)
 
--- run left of its task, in a state of the plan
+-- the run left of that task, in a state of the plan
 abbrev pub restBy : Plan → (id number : ℕ) → Dispatcher → ℕ
 restBy p id number d = restAt d (placeOf p id) (number - 1)
 
--- wait of its task
+-- the wait of that task, in a state of the plan
 abbrev pub waitBy : Plan → (id number : ℕ) → Dispatcher → ℕ
 waitBy p id number d = waitAt d (placeOf p id) (number - 1)
 
--- age of its task
+-- the age of that task, in a state of the plan
 abbrev pub ageBy : Plan → (id number : ℕ) → Dispatcher → ℕ
 ageBy p id number d = ageAt d (placeOf p id) (number - 1)

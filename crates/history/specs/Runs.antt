@@ -10,7 +10,7 @@ use Rattle.dispatcher.specs.Entries.{run}
 use Rattle.history.specs.Calls.{play, times, singles}
 use Rattle.history.specs.Share.{answerAt}
 
--- of the run of n ticks from the state d; `singles` are the answers of single ticks
+-- the run of n ticks from the state d, by the answers of single ticks
 pub record RunIs (n : ℕ) (d : Dispatcher) : Type 0 where
   pub fine : run d n .refusal .number ≡ 0
   pub most : run d n .done ≤ n

@@ -25,10 +25,10 @@ names id (Finished guest task age margin) = bit (eqb guest id)
 abbrev pub answerAt : List Answer → ℕ → Answer
 answerAt l m = getD l m Silent
 
--- of the n ticks from tick m on, how many a test counts
+-- how many of the n ticks from tick m on a test counts
 unfoldable pub countOf : (Answer → ℕ) → List Answer → ℕ → ℕ → ℕ
 countOf f l m n = sumTo (λ j. f (answerAt l (m + j))) n
 
--- how many of them the guest had
+-- how many of the n ticks from tick m on the guest had
 abbrev pub share : (id : ℕ) → List Answer → ℕ → ℕ → ℕ
 share id l m n = countOf (names id) l m n

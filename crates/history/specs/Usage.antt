@@ -21,7 +21,7 @@ idles id (Idled guest) = bit (eqb guest id)
 idles id (Worked guest task) = 0
 idles id (Finished guest task age margin) = 0
 
--- 1 where nobody had it
+-- 1 where nobody had the tick
 unfoldable pub unhad : Answer → ℕ
 unhad Silent = 0
 unhad Nobody = 1
@@ -29,7 +29,7 @@ unhad (Idled guest) = 0
 unhad (Worked guest task) = 0
 unhad (Finished guest task age margin) = 0
 
--- of all these ticks, how many a test counts
+-- how many of all these ticks a test counts
 abbrev pub inAll : (Answer → ℕ) → List Answer → ℕ
 inAll f l = countOf f l 0 (length l)
 

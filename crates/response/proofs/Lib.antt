@@ -1,5 +1,7 @@
--- Laws, each file named after the definition that it is about.
-pub mod Guest
-pub mod Task
-pub mod Columns
-pub mod Ready
+-- Laws, each file named after the definitions that it is about, with the ending Laws: a folder of proofs has the source
+-- file's name.
+pub mod GuestLaws
+pub mod TaskLaws
+pub mod ColumnsLaws
+pub mod ReadyLaws
+pub mod TrialLaws

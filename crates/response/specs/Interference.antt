@@ -1,7 +1,6 @@
 -- What the guests above take from a window.
-use Prim.Native.Nat.{ℕ, _+_, _*_}
-use Rattle.lists.specs.Sum.{sumTo}
-use Rattle.rounding.specs.Up.{up}
+use Prim.Native.Nat.{ℕ}
+use Rattle.rounding.specs.Asked.{asked}
 use Rattle.plan.specs.Records.{guestAt}
 use Rattle.plan.specs.declared.Guest.{Guest}
 use Rattle.plan.specs.declared.Plan.{Plan}
@@ -12,4 +11,6 @@ jitter g = 0
 
 -- the sum over the guests above place k of ((v + their jitter) / their period, rounded up) times their capacity
 unfoldable pub interference : Plan → ℕ → ℕ → ℕ
-interference p k v = sumTo (λ j. let g = guestAt (p .guests) j in up (v + jitter g) (g .period) * g .capacity) k
+interference p k =
+    asked (λ j. guestAt (p .guests) j .capacity) (λ j. guestAt (p .guests) j .period)
+    (λ j. jitter (guestAt (p .guests) j)) k

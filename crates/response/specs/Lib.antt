@@ -4,3 +4,4 @@ pub mod Task
 pub mod Met
 pub mod Columns
 pub mod Ready
+pub mod Trial

@@ -4,31 +4,35 @@ use mathlib.Core.Bool.{true}
 use mathlib.Core.List.{List}
 use Prim.Native.Nat.{ℕ, _+_, _≤_, _<_}
 use Rattle.lists.specs.Places.{nth}
-use Rattle.lists.specs.Search.{isAt}
 use Rattle.plan.specs.Records.{runOf}
 use Rattle.plan.specs.Ranges.{mostGuests, mostTasks, longest}
 use Rattle.plan.specs.declared.Guest.{Guest}
-use Rattle.response.specs.Columns.{guestUnder}
+use Rattle.equation.specs.System.{System}
+use Rattle.response.specs.Columns.{fittedIn}
 
--- the recurrence of a task: a capacity from 1 to the period that is fitted, and a task with a run
-pub record Ready (above : ℕ → ℕ) (capacity period : ℕ) (run : List ℕ) (i : ℕ) : Type 0 where
-  pub some : 1 ≤ capacity
-  pub within : capacity ≤ period
-  pub fits : isAt (guestUnder above capacity period) ≡ true
-  pub runs : 1 ≤ nth run i
+-- What the recurrence of task i asks: a capacity from 1 to the period that is fitted, and a run.
+pub record Ready (S : System) (i : ℕ) : Type 0 where
+  pub some : 1 ≤ S .capacity
+  pub within : S .capacity ≤ S .period
+  pub fits : fittedIn S ≡ true
+  pub runs : 1 ≤ S .run i
 
--- capacities from 1 to the periods
+-- each of the first n tasks has a run
+abbrev pub RunsTo : (run : List ℕ) → ℕ → Type 0
+RunsTo run n = (i : ℕ) → i < n → 1 ≤ nth run i
+
+-- the first n capacities are from 1 to the periods
 abbrev pub Ranged : (capacities periods : List ℕ) → ℕ → Type 0
 Ranged capacities periods n = (k : ℕ) → k < n → (1 ≤ nth capacities k) × (nth capacities k ≤ nth periods k)
 
--- at most 16 tasks, each with a run in its range
+-- At most 16 tasks, each with a run in its range.
 pub record RunsIn (g : Guest) : Type 0 where
   pub few : g .tasks ≤ mostTasks
   pub some : (i : ℕ) → i < g .tasks → 1 ≤ runOf g i
   pub short : (i : ℕ) → i < g .tasks → runOf g i ≤ longest
 
--- columns of capacities and periods in their ranges, whose guest at place k is g
-pub record Placed (g : Guest) (capacities periods : List ℕ) (k : ℕ) : Type 0 where
+-- Columns of capacities and periods in their ranges, whose guest at place k is g.
+pub record Stands (g : Guest) (capacities periods : List ℕ) (k : ℕ) : Type 0 where
   pub place : k < mostGuests
   pub ranged : Ranged capacities periods (k + 1)
   pub capacity : nth capacities k ≡ g .capacity

@@ -1,11 +1,13 @@
 // The responses of guests and tasks, off lent columns: what verdicts and capacities are made of. Inner.
-mod fit;
-mod several;
-mod window;
+mod charge;
+mod guest;
+mod met;
+mod task;
+mod trial;
 
-pub use fit::guest_response;
-pub use fit::response_at;
-pub use several::all_fitted;
-pub use several::all_met;
-pub use several::charged_of;
-pub use window::task_response;
+pub use charge::charged_of;
+pub use guest::all_fitted;
+pub use guest::response_at;
+pub use task::task_response;
+pub use trial::Trial;
+pub use trial::try_capacity;

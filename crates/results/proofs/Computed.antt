@@ -9,15 +9,18 @@ use Rattle.lists.specs.Refusals.{unless, refusal}
 use Rattle.lists.specs.Search.{least, firstFrom}
 use Rattle.lists.specs.Sum.{sumTo}
 use Rattle.rounding.specs.Up.{up}
+use Rattle.rounding.specs.Asked.{asked}
 use Rattle.equation.specs.Solve.{solve}
+use Rattle.equation.specs.Guest.{guestSide, guestUnder}
+use Rattle.equation.specs.System.{load, rightAt, right, responseOf, taskUnder}
 use Rattle.plan.specs.Charge.{chargedRun}
 use Rattle.plan.specs.First.{orElse, firstRefused, refusedBy}
 use Rattle.plan.specs.Order.{newId, numberOf, guestNumber, countedBy, planRefusal, recordsThen}
 use Rattle.plan.specs.Place.{placeOf, hasGuest, hasTask}
 use Rattle.plan.specs.Ranges.{headOk, taskOk, tasksOk}
 use Rattle.response.specs.Interference.{jitter, interference}
-use Rattle.response.specs.Guest.{guestRight, guestResponse, fitted, fittedTo}
-use Rattle.response.specs.Task.{gap, load, periods, taskRight, responseTo, limit, taskResponse}
+use Rattle.response.specs.Guest.{guestResponse, fitted, fittedTo}
+use Rattle.response.specs.Task.{gap, taskRight, responseTo, limit, taskResponse}
 use Rattle.response.specs.Met.{met, allMet, accepted}
 use Rattle.verdict.specs.Verdict.{guestVerdict, quotedBy, taskSays, taskVerdict, acceptSays, acceptance}
 use Rattle.capacity.specs.Capacity.{withCapacity, works, smallest}
@@ -64,9 +67,9 @@ pub record Computed : Type 0 where
 -- Each part is computed by the definitions; what case 8 has after 49 and 50 ticks follows from the promises, without
 -- 99 ticks computed.
 pub computed : Computed
-unfolding allTo unless refusal least firstFrom sumTo up solve chargedRun orElse firstRefused newId numberOf
-    guestNumber countedBy planRefusal placeOf headOk taskOk tasksOk jitter interference guestRight guestResponse
-    fitted fittedTo gap load periods taskRight responseTo limit taskResponse hasGuest hasTask recordsThen refusedBy
+unfolding allTo unless refusal least firstFrom sumTo up asked solve guestSide guestUnder load rightAt right responseOf taskUnder chargedRun orElse firstRefused newId numberOf
+    guestNumber countedBy planRefusal placeOf headOk taskOk tasksOk jitter interference guestResponse
+    fitted fittedTo gap taskRight responseTo limit taskResponse hasGuest hasTask recordsThen refusedBy
     guestVerdict quotedBy taskSays taskVerdict met allMet accepted acceptSays acceptance withCapacity works smallest
     smallestCapacity upTo tasksIn guestInRange taskInRange rowOk stateOk idle startedBy fresh taken releaseNumber
     releasedBy release lessAt refilled holder isHeld leftAfter worker isWorked restAfter ageAfter waitAfter

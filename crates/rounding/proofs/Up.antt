@@ -15,7 +15,7 @@ use Rattle.lists.proofs.Search.{first-found, first-le, first-before}
 abbrev Hold : ℕ → ℕ → ℕ → Bool
 Hold a b q = leb a (q * b)
 
--- it is the least: k blocks of b that hold a are no fewer
+-- the quotient rounded up is the least: k blocks of b that hold a are no fewer
 pub up-least : (a b k : ℕ) → 0 < b → a ≤ k * b → up a b ≤ k
 unfolding up
 up-least a zero k pos h = absurd (omega arith)
@@ -25,7 +25,7 @@ up-least a (suc b) k pos h =
       | no n ↦ omega arith
     ]
 
--- that many blocks hold a
+-- as many blocks as the quotient rounded up hold a
 pub up-holds : (a b : ℕ) → 0 < b → a ≤ up a b * b
 unfolding up
 up-holds a zero pos = absurd (omega arith)
@@ -37,47 +37,50 @@ up-holds a (suc b) pos =
           rw e (le-mul-of-pos-right a (omega arith))
     ]
 
--- a count whose last block begins before a's end
+-- a count of blocks whose last begins before a's end is no more than the quotient rounded up
 pub le-up : (m a b : ℕ) → 0 < b → m * b < a + b → m ≤ up a b
 le-up m a b pos h =
     let l : m < suc (up a b) = lt-of-mul-lt-mul-right b (omega (arith, up-holds a b pos)) in
     omega arith
 
--- by a divisor 0 it is 0
+-- the quotient by 0 is 0
 pub up-zero : (a : ℕ) → up a 0 ≡ 0
 unfolding up
 up-zero a = refl
 
--- q blocks that hold a, of which the last begins before a's end, are as many
+-- q blocks that hold a, of which the last begins before a's end, are the quotient rounded up
 up-is : (a b q : ℕ) → 0 < b → a ≤ q * b → q * b < a + b → up a b ≡ q
 up-is a b q pos h l = omega (arith, up-least a b q pos h, le-up q a b pos l)
 
--- it is what the sum with the divisor less one gives
+-- the quotient rounded up is what the sum with the divisor less one gives
 pub up-by-sum : (a b : ℕ) → up a b ≡ (a + (b - 1)) / b
 up-by-sum a zero = up-zero a ∙ sym (div-zero (a + (0 - 1)))
 up-by-sum a (suc b) =
     let s = a + (suc b - 1) in
-    up-is a (suc b) (s / suc b) (omega arith) (omega (arith, lt-div-mul-add {a = s} {b = suc b} (omega arith))) (omega (arith, div-mul-le-self s (suc b)))
+    up-is a (suc b) (s / suc b) (omega arith) (omega (arith, lt-div-mul-add {a = s} {b = suc b} (omega arith)))
+    (omega (arith, div-mul-le-self s (suc b)))
 
--- where nothing is left over it is the quotient,
+-- where nothing is left over the quotient stays as it is
 pub up-whole : (a b : ℕ) → 0 < b → a % b ≡ 0 → up a b ≡ a / b
 up-whole a b pos e = up-is a b (a / b) pos (omega (arith, div-add-mod' a b)) (omega (arith, div-add-mod' a b))
 
--- and otherwise one more
+-- where something is left over the quotient is rounded up by one
 pub up-more : (a b : ℕ) → 0 < b → 0 < a % b → up a b ≡ a / b + 1
-up-more a b pos r = up-is a b (a / b + 1) pos (omega (arith, div-add-mod' a b, mod-lt a pos)) (omega (arith, div-add-mod' a b))
+up-more a b pos r =
+    up-is a b (a / b + 1) pos (omega (arith, div-add-mod' a b, mod-lt a pos)) (omega (arith, div-add-mod' a b))
 
--- it grows with a, for every divisor
+-- the quotient rounded up grows with a, for every divisor
 pub up-mono : (b : ℕ) {a a′ : ℕ} → a ≤ a′ → up a b ≤ up a′ b
 up-mono zero {a} {a′} h = omega (arith, up-zero a, up-zero a′)
-up-mono (suc b) {a} {a′} h = up-least a (suc b) (up a′ (suc b)) (omega arith) (omega (arith, up-holds a′ (suc b) (omega arith)))
+up-mono (suc b) {a} {a′} h =
+    up-least a (suc b) (up a′ (suc b)) (omega arith) (omega (arith, up-holds a′ (suc b) (omega arith)))
 
--- it is no more than a
+-- the quotient rounded up is no more than a
 pub up-le : (a b : ℕ) → up a b ≤ a
 up-le a zero = omega (arith, up-zero a)
 up-le a (suc b) = up-least a (suc b) a (omega arith) (le-mul-of-pos-right a (omega arith))
 
--- how a number above 0 lies in blocks of size b: m whole ones, and then 1 to b
+-- How a number above 0 lies in blocks of size b: m whole ones, and then 1 to b.
 pub record Blocks (a b m : ℕ) : Type 0 where
   pub count : up a b ≡ suc m
   pub more : m * b < a

@@ -1,12 +1,10 @@
--- What several ask of a window, each for its cost once in every so many ticks. Inner: no promise of an entry names this.
-use Prim.Native.Nat.{ℕ, _*_, min}
+-- What several ask of a window: guests of the core, tasks of their guest, each for its cost once in every so many
+-- ticks.
+use Prim.Native.Nat.{ℕ, _+_, _*_}
 use Rattle.lists.specs.Sum.{sumTo}
 use Rattle.rounding.specs.Up.{up}
 
--- the sum over the first n of (v / every, rounded up) times the cost
-unfoldable pub asked : (cost every : ℕ → ℕ) → ℕ → ℕ → ℕ
-asked cost every n v = sumTo (λ k. up v (every k) * cost k) n
-
--- cut off at 2 to the 32, so that no later sum is too large
-abbrev pub cut : ℕ → ℕ
-cut x = min x 4294967296
+-- the sum over the first n of ((v + late) / every, rounded up) times cost: what each asks of v ticks can be put off by
+-- `late`
+unfoldable pub asked : (cost every late : ℕ → ℕ) → ℕ → ℕ → ℕ
+asked cost every late n v = sumTo (λ k. up (v + late k) (every k) * cost k) n

@@ -1,2 +1,3 @@
 pub mod Up
 pub mod Asked
+pub mod Cut

@@ -1,25 +1,31 @@
 // The quotient rounded up, and sums of it over lent columns, cut off at 2 to the 32.
 ghost use mathlib.Core.Path.{_≡_};
-ghost use Prim.Native.Nat.{_*_, _≤_, _<_};
+ghost use Prim.Native.Nat.{_+_, _-_, _*_, _≤_, _<_};
 ghost use Rattle.lists.specs.Places.{nth};
 ghost use Rattle.rounding.specs.Up.{up};
-ghost use Rattle.rounding.specs.Asked.{asked, cut};
+ghost use Rattle.rounding.specs.Asked.{asked};
+ghost use Rattle.rounding.specs.Cut.{bound, long, cut};
 
-// x in 64 bits.
+// The first number that 32 bits do not hold.
+pub const BOUND: u64 = 4294967296;
+// The first window that is not short.
+const LONG: u32 = 134217728;
+
+// The number x in 64 bits.
 pub fn wide(x: u32) -> u64
-    ensures { λ r. ⌜ (r ≡ x) × (r < 4294967296) ⌝ }
+    ensures { λ r. ⌜ (r ≡ x) × (r < bound) ⌝ }
 {
     x as u64
 }
 
-// x, cut off.
+// The number x, cut off.
 pub fn capped(x: u64) -> u64
     ensures { λ r. ⌜ r ≡ cut x ⌝ }
 {
-    if x < 4294967296 { x } else { 4294967296 }
+    if x < BOUND { x } else { BOUND }
 }
 
-// a / b rounded up: the quotient, and one more if a remainder is left.
+// The quotient a / b rounded up: one more where a remainder is left.
 pub fn quotient(a: u32, b: u32) -> u64
     ensures { λ r. ⌜ r ≡ up a b ⌝ }
 {
@@ -36,46 +42,46 @@ pub fn quotient(a: u32, b: u32) -> u64
 
 // What one asks of a window of v ticks.
 pub fn share(v: u32, every: u32, cost: u32) -> u64
-    ensures { λ r. ⌜ (r ≡ up v every * cost) × (r ≤ v * 4294967295) ⌝ }
+    ensures { λ r. ⌜ (r ≡ up v every * cost) × (r ≤ v * (bound - 1)) ⌝ }
 {
     quotient(v, every) * wide(cost)
 }
 
 // What the first n ask of a window that is so short that no sum of 16 leaves 64 bits.
-fn asked_of_short(cost: &[u32; 16], every: &[u32; 16], n: usize, v: u32) -> u64
-    requires { ⌜ (n ≤ 16) × (v < 134217728) ⌝ }
-    ensures { λ r. ⌜ r ≡ asked (nth (now (cost .entry))) (nth (now (every .entry))) n v ⌝ }
+fn asked_of_short(cost: &[u32; 16], every: &[u32; 16], late: u32, n: usize, v: u32) -> u64
+    requires { ⌜ (n ≤ 16) × (v + late < long) ⌝ }
+    ensures { λ r. ⌜ r ≡ asked (nth (now (cost .entry))) (nth (now (every .entry))) (λ k. late) n v ⌝ }
 {
     let mut sum: u64 = 0;
     let mut k: usize = 0;
     while k < n {
-        sum += share(v, every[k], cost[k]);
+        sum += share(v + late, every[k], cost[k]);
         k += 1;
     }
     sum
 }
 
 // What the first n ask of any window, cut off at each turn.
-fn asked_of_long(cost: &[u32; 16], every: &[u32; 16], n: usize, v: u32) -> u64
-    requires { ⌜ n ≤ 16 ⌝ }
-    ensures { λ r. ⌜ r ≡ cut (asked (nth (now (cost .entry))) (nth (now (every .entry))) n v) ⌝ }
+fn asked_of_long(cost: &[u32; 16], every: &[u32; 16], late: u32, n: usize, v: u32) -> u64
+    requires { ⌜ (n ≤ 16) × (v + late < bound) ⌝ }
+    ensures { λ r. ⌜ r ≡ cut (asked (nth (now (cost .entry))) (nth (now (every .entry))) (λ k. late) n v) ⌝ }
 {
     let mut sum: u64 = 0;
     let mut k: usize = 0;
     while k < n {
-        sum = capped(sum + share(v, every[k], cost[k]));
+        sum = capped(sum + share(v + late, every[k], cost[k]));
         k += 1;
     }
     sum
 }
 
-// What the first n ask of a window of v ticks, cut off: once, where the window allows it.
-pub fn asked_of(cost: &[u32; 16], every: &[u32; 16], n: usize, v: u32) -> u64
-    requires { ⌜ n ≤ 16 ⌝ }
-    ensures { λ r. ⌜ r ≡ cut (asked (nth (now (cost .entry))) (nth (now (every .entry))) n v) ⌝ }
+// What the first n, each put off by `late`, ask of a window of v ticks, cut off: once, where the window allows it.
+pub fn asked_of(cost: &[u32; 16], every: &[u32; 16], late: u32, n: usize, v: u32) -> u64
+    requires { ⌜ (n ≤ 16) × (v + late < bound) ⌝ }
+    ensures { λ r. ⌜ r ≡ cut (asked (nth (now (cost .entry))) (nth (now (every .entry))) (λ k. late) n v) ⌝ }
 {
-    if v < 134217728 {
-        return capped(asked_of_short(cost, every, n, v));
+    if v + late < LONG {
+        return capped(asked_of_short(cost, every, late, n, v));
     }
-    asked_of_long(cost, every, n, v)
+    asked_of_long(cost, every, late, n, v)
 }

@@ -26,7 +26,7 @@ use Rattle.dispatcher.proofs.Release.{release-refused, release-taken, no-task, 
 
 -- Where a release is refused by x.
 abbrev missed : ℕ → Aim
-missed x = record { number = x; at = 0; full = 0; every = 0 }
+missed x = record { number = x; at = 0; run = 0; every = 0 }
 
 -- A task's place is one of the 128.
 pub place-inside : {n k task : ℕ} {tasks : List ℕ} → Small n tasks → k < n → 1 ≤ task → task ≤ nth tasks k → placeAt k (task - 1) < 128
@@ -101,7 +101,7 @@ module _ (p : Plan) (left position rest wait age usage : List ℕ) {n : ℕ} {id
             id task 0
         told-0 l free =
             let at = placeAt k (task - 1) in
-            let r : Aim = record { number = 0; at = at; full = nth runs at; every = nth periods at } in
+            let r : Aim = record { number = 0; at = at; run = nth runs at; every = nth periods at } in
             let in-plan : k < p .count = omega (arith, S .count) in
             let t : task - 1 < guestAt (p .guests) k .tasks = omega (arith, inside) in
             let a = takes-it (guestAt (p .guests) k) k task rest wait r one inside due refl free

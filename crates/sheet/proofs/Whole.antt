@@ -9,6 +9,7 @@ use lib.ListN.{length}
 use borrow.Author.Tests.{leb-true}
 use Rattle.lists.specs.Refusals.{refusal, _orRefuse_}
 use Rattle.plan.specs.declared.Plan.{Plan}
+use Rattle.plan.specs.Filled.{ColumnsOf}
 use Rattle.plan.specs.First.{refused}
 use Rattle.plan.specs.Order.{planRefusal}
 use Rattle.dispatcher.specs.declared.Dispatcher.{Dispatcher}
@@ -16,7 +17,7 @@ use Rattle.dispatcher.specs.declared.Released.{Released}
 use Rattle.dispatcher.specs.declared.Checked.{Checked}
 use Rattle.dispatcher.specs.Valid.{stateOk}
 use Rattle.dispatcher.specs.Lent.{Small}
-use Rattle.dispatcher.specs.LentCheck.{ColumnsIn, Examines}
+use Rattle.dispatcher.specs.LentCheck.{Examines}
 use Rattle.sheet.specs.Sheet.{mostPairs, sheetNumber, sheetBy, sheet, answeredBy, answered}
 use Rattle.sheet.specs.Lent.{JobsOf, SheetColumns, AllTaken}
 use Rattle.sheet.specs.Promises.{Sheets}
@@ -78,15 +79,15 @@ module _ (d : Dispatcher) (pairs before : List ℕ) {x : ℕ} {found : Checked} 
     pub plan-fine : planRefusal (d .plan) .number ≡ 0
     plan-fine = ok-plan d state-in
 
-    columns : ColumnsIn (d .plan) found
+    columns : ColumnsOf (d .plan .guests) (d .plan .count) (found .columns)
     columns = E .columns state-in
 
     -- so its guests and their tasks are few,
-    pub small : Small (d .plan .count) (found .tasks)
+    pub small : Small (d .plan .count) (found .columns .tasks)
     small =
         let P = plan-in (d .plan) plan-fine in
-        record { guests = P .few; each = λ k l. omega (arith, columns .many .holds k l, P .guests k l .head .few) }
+        record { guests = P .few; each = λ k l. omega (arith, columns .tasks .holds k l, P .guests k l .head .few) }
 
     -- and the columns that were read are the plan's.
-    pub sheet-columns : {runs periods : List ℕ} → JobsOf (d .plan) runs periods → SheetColumns (d .plan) (d .plan .count) (found .ids) (found .tasks) runs periods
-    sheet-columns J = record { count = refl; id = columns .id .holds; many = columns .many .holds; jobs = J }
+    pub sheet-columns : {runs periods : List ℕ} → JobsOf (d .plan) runs periods → SheetColumns (d .plan) (d .plan .count) (found .columns .ids) (found .columns .tasks) runs periods
+    sheet-columns J = record { count = refl; id = columns .ids .holds; many = columns .tasks .holds; jobs = J }

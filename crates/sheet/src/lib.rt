@@ -52,8 +52,9 @@ pub fn release_all(state: Dispatcher, pairs: &[u64], answers: &mut [u32]) -> Rel
     if 0 < number {
         return Released { refusal, state };
     }
-    let ids = found.ids;
-    let tasks = found.tasks;
+    let columns = found.columns;
+    let ids = columns.ids;
+    let tasks = columns.tasks;
     let n = state.plan.count as usize;
     let set = columns::jobs_of(state.plan);
     let runs = set.runs;

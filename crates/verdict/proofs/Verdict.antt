@@ -13,6 +13,8 @@ use Rattle.lists.specs.Refusals.{Test, refusal, _orRefuse_}
 use Rattle.lists.specs.declared.Found.{Found}
 use Rattle.plan.specs.First.{refused, orElse, refusedBy, refuseOr}
 use Rattle.plan.specs.Order.{planRefusal, recordsThen}
+use Rattle.equation.specs.Guest.{guestUnder}
+use Rattle.equation.specs.System.{taskUnder}
 use Rattle.plan.specs.Records.{guestAt, deadlineOf}
 use Rattle.plan.specs.Place.{placeOf, hasGuest, hasTask}
 use Rattle.plan.specs.Filled.{ColumnsOf}
@@ -24,13 +26,13 @@ use Rattle.verdict.specs.declared.GuestVerdict.{GuestVerdict}
 use Rattle.verdict.specs.declared.TaskVerdict.{TaskVerdict}
 use Rattle.verdict.specs.declared.TaskVerdict.the-variants.{Unjudged}
 use Rattle.response.specs.Guest.{guestResponse, fittedTo}
-use Rattle.response.specs.Task.{limit, taskResponse}
+use Rattle.response.specs.Task.{systemOf, responseTo, limit, taskResponse}
 use Rattle.verdict.specs.Verdict.{guestSays, guestVerdict, taskSays, taskVerdict, acceptSays, acceptance}
-use Rattle.response.specs.Columns.{guestsTake, guestUnder, fittedAt, taskOf, acceptedUnder}
+use Rattle.response.specs.Columns.{guestsTake, fittedAt, acceptedUnder}
 use Rattle.lists.proofs.Refusals.{none-left, go-on, stop}
 use Rattle.plan.proofs.Order.{PlanIn, plan-in}
 use Rattle.plan.proofs.Place.{place-is}
-use Rattle.response.proofs.Columns.{columns-take, columns-respond, columns-fit-to, columns-accept, task-response-is}
+use Rattle.response.proofs.ColumnsLaws.{columns-take, columns-respond, columns-fit-to, columns-accept}
 use Rattle.verdict.specs.declared.GuestVerdict.the-variants as guest
 use Rattle.verdict.specs.declared.TaskVerdict.the-variants as task
 use Rattle.verdict.specs.declared.Acceptance.the-variants as plan
@@ -147,18 +149,17 @@ module _ (p : Plan) {r : Refusal} (e : r ≡ planRefusal p) (h : r .number ≤ 0
     -- the task's
     pub task-judged : {v : TaskVerdict} (number : ℕ) → k < p .count
         → v ≡ refusedBy task.Refused (refusal (within 1 (guestAt (p .guests) k .tasks) number orRefuse 8 ∷ [])) 0
-        (taskSays (allTo (fittedAt (c .capacities) (c .periods)) (k + 1)) (deadlineOf (guestAt (p .guests) k) (number - 1)) (taskOf (guestsTake (c .capacities) (c .periods) k) (guestAt (p .guests) k) (number - 1) (limit (guestAt (p .guests) k) (number - 1))))
+        (taskSays (allTo (fittedAt (c .capacities) (c .periods)) (k + 1)) (deadlineOf (guestAt (p .guests) k) (number - 1)) (taskUnder (systemOf (guestsTake (c .capacities) (c .periods) k) (guestAt (p .guests) k)) (number - 1) (limit (guestAt (p .guests) k) (number - 1))))
         → v ≡ taskVerdict p id number
-    unfolding taskVerdict hasTask taskResponse
+    unfolding taskVerdict hasTask taskResponse responseTo
     task-judged number l q =
         let few : k < 8 = omega (arith, in-order .few) in
         let i = number - 1 in
         let g = guestAt (p .guests) k in
         let tests = within 1 (g .tasks) number orRefuse 8 ∷ [] in
         q
-        ∙ ap (λ (b : Bool). refusedBy task.Refused (refusal tests) 0 (taskSays b (deadlineOf g i) (taskOf (guestsTake (c .capacities) (c .periods) k) g i (limit g i)))) (columns-fit-to p c f k few)
-        ∙ ap (λ (above : ℕ → ℕ). refusedBy task.Refused (refusal tests) 0 (taskSays (fittedTo p k) (deadlineOf g i) (taskOf above g i (limit g i)))) (columns-take p c f k (omega arith))
-        ∙ ap (λ (x : Found). refusedBy task.Refused (refusal tests) 0 (taskSays (fittedTo p k) (deadlineOf g i) x)) (task-response-is p k i (limit g i))
+        ∙ ap (λ (b : Bool). refusedBy task.Refused (refusal tests) 0 (taskSays b (deadlineOf g i) (taskUnder (systemOf (guestsTake (c .capacities) (c .periods) k) g) i (limit g i)))) (columns-fit-to p c f k few)
+        ∙ ap (λ (above : ℕ → ℕ). refusedBy task.Refused (refusal tests) 0 (taskSays (fittedTo p k) (deadlineOf g i) (taskUnder (systemOf above g) i (limit g i)))) (columns-take p c f k (omega arith))
         ∙ ap (λ (j : ℕ). refusedBy task.Refused (refusal (within 1 (guestAt (p .guests) j .tasks) number orRefuse 8 ∷ [])) 0 (taskSays (fittedTo p j) (deadlineOf (guestAt (p .guests) j) i) (taskResponse p j i))) place-found
         ∙ guest-there task.Refused (hasTask p id number orRefuse 8 ∷ []) _ l
 

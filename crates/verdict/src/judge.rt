@@ -10,20 +10,20 @@ ghost use Rattle.plan.specs.Records.{guestAt, deadlineOf};
 ghost use Rattle.plan.specs.Ranges.{within};
 ghost use Rattle.plan.specs.First.{refusedBy};
 ghost use Rattle.verdict.specs.Verdict.{guestSays, quotedBy, taskSays};
-ghost use Rattle.response.specs.Task.{limit};
-ghost use Rattle.response.specs.Columns.{guestsTake, fittedAt, taskOf, acceptedUnder};
-ghost use Rattle.response.specs.Ready.{Placed};
+ghost use Rattle.equation.specs.System.{taskUnder};
+ghost use Rattle.response.specs.Task.{systemOf, limit};
+ghost use Rattle.response.specs.Columns.{guestsTake, fittedAt, acceptedUnder};
+ghost use Rattle.response.specs.Ready.{Stands};
 use crate::GuestVerdict;
 use crate::TaskVerdict;
 use lists::Found;
-use lists::is_at;
 use plan::Guest;
 use plan::Plan;
+use response::Trial;
 use response::all_fitted;
-use response::all_met;
 use response::charged_of;
-use response::guest_response;
 use response::task_response;
+use response::try_capacity;
 
 // The verdict of a guest's response.
 pub fn guest_says(f: Found) -> GuestVerdict
@@ -64,11 +64,11 @@ fn judge_task(
     k: usize,
     i: usize,
 ) -> TaskVerdict
-    requires { ⌜ Placed g (now capacities) (now periods) k × (i < g .tasks) ⌝ }
+    requires { ⌜ Stands g (now capacities) (now periods) k × (i < g .tasks) ⌝ }
     ensures { λ r. ⌜
         r
         ≡ taskSays (allTo (fittedAt (now (capacities .entry)) (now (periods .entry))) (k + 1)) (deadlineOf g i)
-        (taskOf (guestsTake (now (capacities .entry)) (now (periods .entry)) k) g i (limit g i))
+        (taskUnder (systemOf (guestsTake (now (capacities .entry)) (now (periods .entry)) k) g) i (limit g i))
         ⌝ }
 {
     let every = g.every;
@@ -100,12 +100,12 @@ pub fn number_task(
     k: usize,
     task: u32,
 ) -> TaskVerdict
-    requires { ⌜ Placed g (now capacities) (now periods) k ⌝ }
+    requires { ⌜ Stands g (now capacities) (now periods) k ⌝ }
     ensures { λ r. ⌜
         r
         ≡ refusedBy TaskVerdict.Refused (refusal (within 1 (g .tasks) task orRefuse 8 ∷ [])) 0
         (taskSays (allTo (fittedAt (now (capacities .entry)) (now (periods .entry))) (k + 1)) (deadlineOf g (task - 1))
-        (taskOf (guestsTake (now (capacities .entry)) (now (periods .entry)) k) g (task - 1) (limit g (task - 1))))
+        (taskUnder (systemOf (guestsTake (now (capacities .entry)) (now (periods .entry)) k) g) (task - 1) (limit g (task - 1))))
         ⌝ }
 {
     if task < 1 {
@@ -120,18 +120,14 @@ pub fn number_task(
 
 // Whether the guest at place k is fitted and all its tasks are met.
 fn guest_accepted(g: Guest, capacities: &[u32; 16], periods: &[u32; 16], k: usize) -> bool
-    requires { ⌜ Placed g (now capacities) (now periods) k ⌝ }
+    requires { ⌜ Stands g (now capacities) (now periods) k ⌝ }
     ensures { λ r. ⌜ r ≡ acceptedUnder (guestsTake (now (capacities .entry)) (now (periods .entry)) k) g ⌝ }
 {
     let every = g.every;
     let deadline = g.deadline;
     let n = g.tasks as usize;
-    let f = guest_response(capacities, periods, k, g.capacity, g.period);
-    if !is_at(f) {
-        return false;
-    }
     let run = charged_of(g);
-    all_met(
+    match try_capacity(
         capacities,
         periods,
         k,
@@ -141,13 +137,23 @@ fn guest_accepted(g: Guest, capacities: &[u32; 16], periods: &[u32; 16], k: usiz
         &every,
         &deadline,
         n,
-    )
+    ) {
+        Trial::Works => true,
+        Trial::Unmet => false,
+        Trial::Unfit => false,
+    }
 }
 
 // Whether all guests are fitted and all tasks met, one guest after the other.
 pub fn all_accepted(plan: Plan, capacities: &[u32; 16], periods: &[u32; 16]) -> bool
-    requires { ⌜ ((k : ℕ) → k < plan .count → Placed (guestAt (plan .guests) k) (now capacities) (now periods) k) × (plan .count ≤ 8) ⌝ }
-    ensures { λ r. ⌜ r ≡ allTo (λ k. acceptedUnder (guestsTake (now (capacities .entry)) (now (periods .entry)) k) (guestAt (plan .guests) k)) (plan .count) ⌝ }
+    requires { ⌜
+        ((k : ℕ) → k < plan .count → Stands (guestAt (plan .guests) k) (now capacities) (now periods) k) × (plan .count ≤ 8)
+        ⌝ }
+    ensures { λ r. ⌜
+        r
+        ≡ allTo (λ k. acceptedUnder (guestsTake (now (capacities .entry)) (now (periods .entry)) k) (guestAt (plan .guests) k))
+        (plan .count)
+        ⌝ }
 {
     let guests = plan.guests;
     let n = plan.count as usize;

@@ -13,6 +13,7 @@ use Rattle.plan.specs.Order.{planRefusal}
 use Rattle.plan.specs.Place.{placeOf, hasGuest}
 use Rattle.plan.specs.Records.{guestAt}
 use Rattle.plan.specs.declared.Plan.{Plan}
+use Rattle.equation.specs.Guest.{guestUnder}
 use Rattle.response.specs.Guest.{guestRight, guestResponse, fitted, fittedTo}
 use Rattle.verdict.specs.Verdict.{guestSays, guestVerdict}
 use Rattle.verdict.specs.declared.GuestVerdict.{GuestVerdict}
@@ -64,7 +65,7 @@ response-means p k (At x) a = record {
 
 -- the verdict has its meaning
 pub guest-verdict-means : (p : Plan) (id k : ℕ) → There p id k → GuestMeans p k (guestVerdict p id)
-unfolding guestResponse
+unfolding guestResponse guestUnder guestRight
 guest-verdict-means p id k t =
     rw (guest-verdict-is p id k t) (response-means p k (guestResponse p k) (solve-answers (guestRight p k) (guestAt (p .guests) k .period)))
 
@@ -91,7 +92,7 @@ guest-verdict-only p id k t v a = guest-means-one p k v (guestVerdict p id) a (g
 
 -- the test of a guest, as a solution
 pub fitted-fits : (p : Plan) (j : ℕ) → fitted p j ≡ true → (x : ℕ) × GuestSolves p j x
-unfolding fitted guestResponse
+unfolding fitted guestResponse guestUnder guestRight
 fitted-fits p j e =
     let x = at-of (guestResponse p j) e in
     let s : Solved (guestRight p j) (guestAt (p .guests) j .period) (x .0) = rw (x .1) at (solve-answers (guestRight p j) (guestAt (p .guests) j .period)) in
@@ -99,7 +100,7 @@ fitted-fits p j e =
 
 -- a solution, as the test
 pub fits-fitted : (p : Plan) (j x : ℕ) → GuestSolves p j x → fitted p j ≡ true
-unfolding fitted guestResponse
+unfolding fitted guestResponse guestUnder guestRight
 fits-fitted p j x s = is-at (solve-by (guestRight p j) (guestAt (p .guests) j .period) x (s .low) (s .high) (s .solves) .1)
 
 -- so for all guests down to place k

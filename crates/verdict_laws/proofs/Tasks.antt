@@ -12,11 +12,12 @@ use Rattle.lists.specs.declared.Found.{Found}
 use Rattle.lists.specs.declared.Found.the-variants.{At, Nothing}
 use Rattle.equation.specs.Solve.{solve}
 use Rattle.plan.specs.Place.{placeOf, hasGuest, hasTask}
+use Rattle.equation.specs.System.{responseOf, later, taskUnder}
 use Rattle.plan.specs.Ranges.{within}
 use Rattle.plan.specs.Records.{guestAt, deadlineOf}
 use Rattle.plan.specs.declared.Plan.{Plan}
 use Rattle.response.specs.Guest.{fitted, fittedTo}
-use Rattle.response.specs.Task.{gap, taskRight, later, responseTo, limit, taskResponse}
+use Rattle.response.specs.Task.{gap, taskRight, responseTo, limit, taskResponse}
 use Rattle.response.specs.Met.{met, allMet}
 use Rattle.verdict.specs.Verdict.{quotedBy, taskSays, taskVerdict}
 use Rattle.verdict.specs.Quoted.{Quotes, Quoted}
@@ -53,7 +54,7 @@ task-verdict-is p id k i t h =
 response-means : (p : Plan) (k i : ℕ) → AllFit p k → (f : Found)
     → Answers (taskRight p k i) (limit (guestAt (p .guests) k) i - gap (guestAt (p .guests) k) i) f
     → TaskMeans p k i (taskSays true (deadlineOf (guestAt (p .guests) k) i) (later (gap (guestAt (p .guests) k) i) f))
-unfolding taskSays limit
+unfolding taskSays limit responseOf
 response-means p k i all Nothing a = record { fitted = all; none = λ w s h. a w (s .low) (omega arith) (s .solves) }
 response-means p k i all (At w) a = by (leb r deadline) refl
   where
@@ -86,7 +87,7 @@ unjudged-means p k i deadline f e =
 
 -- the verdict has its meaning
 pub task-verdict-means : (p : Plan) (id k i : ℕ) → There p id k → i < guestAt (p .guests) k .tasks → TaskMeans p k i (taskVerdict p id (suc i))
-unfolding taskResponse responseTo
+unfolding taskResponse responseTo taskUnder taskRight
 task-verdict-means p id k i t h = rw (task-verdict-is p id k i t h) (go (fittedTo p k) refl)
   where
     room : ℕ
@@ -193,12 +194,12 @@ met-in-time p k e i h = go (solve (taskRight p k i) room) refl (solve-answers (t
     room = deadlineOf (guestAt (p .guests) k) i - gap (guestAt (p .guests) k) i
 
     go : (f : Found) → solve (taskRight p k i) room ≡ f → Answers (taskRight p k i) room f → met p k i ≡ true → (w : ℕ) × TaskSolves p k i w × InTime p k i w
-    go Nothing q a m = unfold met responseTo in absurd (false≢true (sym (ap (λ (f : Found). isAt (later (gap (guestAt (p .guests) k) i) f)) q) ∙ m))
+    go Nothing q a m = unfold met responseTo taskUnder taskRight in absurd (false≢true (sym (ap (λ (f : Found). isAt (later (gap (guestAt (p .guests) k) i) f)) q) ∙ m))
     go (At w) q a m = (w, record { low = a .low; solves = a .sol }, omega (arith, a .low, a .high))
 
 -- solutions, as the test
 pub in-time-met : (p : Plan) (k : ℕ) → AllInTime p k → allMet p k ≡ true
-unfolding allMet met responseTo
+unfolding allMet met responseTo taskUnder taskRight
 in-time-met p k a = all-by (met p k) (guestAt (p .guests) k .tasks) (λ i h. (
     let s = a i h in
     let g = guestAt (p .guests) k in

@@ -3,13 +3,13 @@ use mathlib.Core.Path.{_≡_}
 use Prim.Native.Nat.{ℕ, _≤_}
 use native.Mathlib.Decide.{ℕ-discrete}
 use native.Mathlib.Omega.{arith}
-use Rattle.windows.specs.TaskTick.{Tasks, TaskTick, Taken, Same}
+use Rattle.windows.specs.TaskTick.{Tasks, oldest, TaskTick, Taken, Same}
 use Rattle.windows.specs.Clock.{Clock}
 
--- a tick keeps it; ages stop at 1,000,000, the longest period
+-- a tick keeps waits and ages in order; ages stop at the longest period
 pub clock-tick :
     {a i : ℕ} {every : ℕ → ℕ} {v v' : Tasks}
-    → every i ≤ 1000000
+    → every i ≤ oldest
     → TaskTick i a v v'
     → Clock i every v
     → Clock i every v'
@@ -20,7 +20,7 @@ clock-tick {i = i} short t K = record {
       omega (arith, t .waited i (omega arith), t .older (omega (arith, t .less i (omega arith))));
 }
 
--- a taken release of any task keeps it, where every other task is as it was
+-- a taken release of any task keeps them in order, where every other task is as it was
 pub clock-taken :
     {i j : ℕ} {run every : ℕ → ℕ} {v v' : Tasks}
     → Taken run every j v v'
@@ -42,7 +42,7 @@ clock-taken {i} {j} {every = every} {v' = v'} R S K = record {
       ];
 }
 
--- where no task up to i changed, it stands
+-- where no task up to i changed, waits and ages stay in order
 pub clock-same :
     {i : ℕ} {every : ℕ → ℕ} {v v' : Tasks}
     → ((m : ℕ) → m ≤ i → Same m v v')

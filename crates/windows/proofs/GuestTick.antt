@@ -10,7 +10,7 @@ pub moved-inside : {cap per p l q h : ℕ} → Moved cap per p l q h → q < per
 moved-inside (on a b e) = omega arith
 moved-inside (over a b e) = omega arith
 
--- 1 at a period's start, else 0
+-- how many periods begin at a position: 1 at a period's start, else 0
 unfoldable pub begun : ℕ → ℕ
 begun zero = 1
 begun (suc p) = 0
@@ -22,7 +22,8 @@ held-le (on a b e) = omega arith
 held-le {cap = c} (over a b e) = rw b (omega arith)
 
 -- a window of y ticks with its count goes on, and counts a period's start
-pub count-on : {cap per p l q h : ℕ} (m y : ℕ) → Moved cap per p l q h → m * per + p ≤ y + per → (m + begun q) * per + q ≤ suc y + per
+pub count-on : {cap per p l q h : ℕ} (m y : ℕ) → Moved cap per p l q h → m * per + p ≤ y + per
+    → (m + begun q) * per + q ≤ suc y + per
 unfolding begun
 count-on {q = zero} m y (on a b e) i = absurd (omega arith)
 count-on {q = suc q} m y (on a b e) i = omega arith
@@ -40,17 +41,17 @@ pub most-on : {cap per p l q h : ℕ} → Moved cap per p l q h → l ≤ cap �
 most-on (on a b e) i = omega arith
 most-on (over a b e) i = omega arith
 
--- what it used is at most its position
+-- what a guest used is at most its position
 pub pace-on : {cap per p l q h : ℕ} → Moved cap per p l q h → cap ≤ l + suc p → cap ≤ h + q
 pace-on (on a b e) i = omega arith
 pace-on (over a b e) i = omega arith
 
--- while it is owed, the window covers its position
+-- while a guest is owed, the window covers its position
 pub owed-on : {cap per p l q h : ℕ} (y : ℕ) → Moved cap per p l q h → (0 < l → p ≤ y) → 0 < h → q ≤ suc y
 owed-on y (on a b e) i s = omega (arith, i (omega arith))
 owed-on y (over a b e) i s = omega arith
 
--- a new window starts at its position, if it is owed
+-- a new window starts at a guest's position, if it is owed
 pub owed-new : {cap per p l q h : ℕ} → Moved cap per p l q h → l ≡ 0 → 0 < h → q ≤ 0
 owed-new (on a b e) i s = absurd (omega arith)
 owed-new (over a b e) i s = omega arith

@@ -3,35 +3,28 @@ use mathlib.Core.Path.{_≡_}
 use Prim.Native.Nat.{ℕ, suc, _+_, _-_, _≤_, _<_}
 use native.Mathlib.Decide.{ℕ-discrete}
 use native.Mathlib.Omega.{arith}
-use Rattle.rounding.specs.Asked.{asked}
+use Rattle.equation.specs.System.{responseOf}
 use Rattle.windows.specs.GuestTick.{Moved, GuestTick}
 use Rattle.windows.specs.Supply.{Supply}
-use Rattle.windows.specs.Equation.{loadAfter, systemAt, response}
+use Rattle.windows.specs.Equation.{systemAt}
 use Rattle.windows.specs.TaskTick.{Tasks, TaskTick, Taken, Same}
 use Rattle.windows.specs.Kept.{Bounded, Kept}
 use Rattle.lists.proofs.Sum.{sum-zero}
 use Rattle.windows.proofs.GuestTick.{moved-inside}
-use Rattle.windows.proofs.Supply.{supply-tick, used-up, supply-fresh, supplied}
+use Rattle.windows.proofs.Supply.{fits-sum, supply-tick, used-up, supply-fresh, supplied}
 use Rattle.windows.proofs.Equation.{Lies, lies}
 use Rattle.windows.proofs.Clock.{clock-tick, clock-taken, clock-same}
 use Rattle.windows.proofs.Window.{Given, restart, window-tick}
 use Rattle.windows.proofs.Release.{window-same, window-taken}
 
--- a load is never nothing
-load-some : (run every : ℕ → ℕ) (i j w : ℕ) → 0 < run i → 0 < loadAfter run every i j w
-unfolding loadAfter
-load-some run every i j w h = omega arith
-
 module _ {cap per : ℕ → ℕ} {g x : ℕ} {run every : ℕ → ℕ} {i w : ℕ} (Q : Bounded cap per g x run every i w) where
   -- how the solution lies in periods of the guest
-  lies-of : Lies (asked cap per g) (cap g) (per g) (loadAfter run every i (per g - cap g) w) w
-  lies-of =
-      lies (systemAt cap per g run every i) w (Q .fitted .some) (Q .cap-per) (load-some run every i (per g - cap g) w (Q .solves .works))
-      (Q .solves .equal)
+  lies-of : Lies (systemAt cap per g run every) i w
+  lies-of = lies (systemAt cap per g run every) i w (Q .fitted .some) (Q .cap-per) (Q .solves .works) (Q .solves .equal)
 
   -- what the guest part gives the task part
   given : (held pos : ℕ → ℕ) → Supply cap per g x held pos → pos g < per g
-      → Given (asked cap per g) (cap g) (per g) (loadAfter run every i (per g - cap g) w) w x (pos g) (held g)
+      → Given (systemAt cap per g run every) i w x (pos g) (held g)
   given held pos S p = record {
     lies = lies-of;
     some = Q .solves .some;
@@ -40,11 +33,11 @@ module _ {cap per : ℕ → ℕ} {g x : ℕ} {run every : ℕ → ℕ} {i w : �
     pos = p;
     most = S .most;
     pace = S .pace;
-    full = omega (arith, supplied cap per g x held pos (Q .fitted) S (cap g) x (omega arith) (Q .fitted .solves));
+    full = omega (arith, supplied cap per g x held pos (Q .fitted) S (cap g) x (omega arith) (fits-sum (Q .fitted)));
     last = supplied cap per g x held pos (Q .fitted) S (lies-of .l) (lies-of .v) (lies-of .fits) (lies-of .solves);
   }
 
-  -- A tick keeps it: guest k has the tick.
+  -- A tick keeps the invariant: guest k has the tick.
   pub kept-tick :
       {k : ℕ} {held pos left held' pos' : ℕ → ℕ} {v v' : Tasks}
       → GuestTick cap per g k held pos left held' pos'
@@ -75,12 +68,12 @@ module _ {cap per : ℕ → ℕ} {g x : ℕ} {run every : ℕ → ℕ} {i w : �
         supply = supply;
         place = place;
         window =
-            window-tick (held g) a i run every v v' move la drained (given held' pos' supply place)
+            window-tick (held g) a i v v' move la drained (given held' pos' supply place) (λ j l. omega arith)
             (Q .solves .periods) (K .clock) u (K .window);
-        clock = clock-tick (Q .short) u (K .clock);
+        clock = clock-tick (Q .solves .short) u (K .clock);
       }
 
-  -- A taken release of task j of this guest keeps it.
+  -- A taken release of task j of this guest keeps the invariant.
   pub kept-taken :
       {j : ℕ} {held pos : ℕ → ℕ} {v v' : Tasks}
       → Taken run every j v v'
@@ -94,7 +87,7 @@ module _ {cap per : ℕ → ℕ} {g x : ℕ} {run every : ℕ → ℕ} {i w : �
     clock = clock-taken R S (K .clock);
   }
 
-  -- Where no task up to i changed, it stands.
+  -- Where no task up to i changed, the invariant stands.
   pub kept-same :
       {held pos : ℕ → ℕ} {v v' : Tasks}
       → ((m : ℕ) → m ≤ i → Same m v v')
@@ -107,7 +100,7 @@ module _ {cap per : ℕ → ℕ} {g x : ℕ} {run every : ℕ → ℕ} {i w : �
     clock = clock-same S (K .clock);
   }
 
-  -- It holds where every position is 0, every guest is about to be filled, and no task has a job or a wait.
+  -- The invariant holds where every position is 0, every guest is about to be filled, and no task has a job or a wait.
   pub kept-fresh :
       (held pos : ℕ → ℕ) (v : Tasks)
       → ((k : ℕ) → k ≤ g → held k ≡ cap k)
@@ -118,7 +111,7 @@ module _ {cap per : ℕ → ℕ} {g x : ℕ} {run every : ℕ → ℕ} {i w : �
   kept-fresh held pos v full start free due = record {
     supply = supply;
     place = place;
-    window = restart i run every v (given held pos supply place) (sum-zero (v .rest) (suc i) (λ j l. free j (omega arith)));
+    window = restart v (given held pos supply place) (sum-zero (v .rest) (suc i) (λ j l. free j (omega arith)));
     clock = record { waits = λ j l. omega (arith, due j l); since = λ r. absurd (omega (arith, free i (omega arith))) };
   }
     where
@@ -133,8 +126,8 @@ module _ {cap per : ℕ → ℕ} {g x : ℕ} {run every : ℕ → ℕ} {i w : �
       {held pos : ℕ → ℕ} {v : Tasks}
       → Kept cap per g x run every i w held pos v
       → 0 < v .rest i
-      → v .age i < response cap per g w
-  unfolding response
+      → v .age i < responseOf (per g - cap g) w
+  unfolding responseOf
   age-below K r =
       let W = K .window in
       omega (arith, W .aged r, W .inside, W .gap)
@@ -150,5 +143,5 @@ module _ {cap per : ℕ → ℕ} {g x : ℕ} {run every : ℕ → ℕ} {i w : �
         | yes e ↦ e
         | no n ↦
             (let r : 0 < v .rest i = omega arith in
-            absurd (omega (arith, age-below K r, Q .in-period, K .clock .since r)))
+            absurd (omega (arith, age-below K r, Q .solves .in-period, K .clock .since r)))
       ]

@@ -32,13 +32,15 @@ module _ {i t : ℕ} {had left : ℕ → ℕ} (S : ServedFirst i t had left) whe
             absurd (omega (
               arith,
               sum-last left i,
-              sum-zero left i (λ j l. omega (arith, served-le j (omega arith), S .before j (omega arith) (omega arith))),
+              sum-zero left i
+                  (λ j l. omega (arith, served-le j (omega arith), S .before j (omega arith) (omega arith))),
             ))
         | no n ↦ omega (arith, S .same i (omega arith) n)
       ]
 
--- the same, said of equal numbers
-pub served-as : {i t : ℕ} {had left had' : ℕ → ℕ} → ((j : ℕ) → j ≤ i → had' j ≡ had j) → ServedFirst i t had left → ServedFirst i t had' left
+-- numbers that are equal are served alike
+pub served-as : {i t : ℕ} {had left had' : ℕ → ℕ} → ((j : ℕ) → j ≤ i → had' j ≡ had j) → ServedFirst i t had left
+    → ServedFirst i t had' left
 served-as {t = t} same S = record {
   before = λ j a b. omega (arith, same j b, S .before j a b);
   took = λ a. omega (arith, same t a, S .took a);

@@ -1,26 +1,28 @@
 -- A tick keeps the guest part, and a fitted guest has used up its capacity when its period ends.
--- Strategy: while the guests above or g itself claim ticks, the window y goes on by one a tick; it stays below x, since x ticks hold the
--- whole capacity and all that is asked above. When nobody claims a tick, a new window starts. Assumes nothing.
+-- Strategy: while the guests above or g itself claim ticks, the window y goes on by one a tick; it stays below x, since
+-- x ticks hold the whole capacity and all that is asked above. When nobody claims a tick, a new window starts. Assumes
+-- nothing.
 use mathlib.Core.Path.{_≡_, refl, ap}
 use Prim.Native.Nat.{ℕ, zero, suc, _+_, _-_, _*_, _≤_, _<_}
 use native.Mathlib.Decide.{decLe, decLt, ℕ-discrete}
 use native.Mathlib.Omega.{arith}
 use Rattle.lists.specs.Sum.{sumTo}
-use Rattle.rounding.specs.Asked.{asked}
-use Rattle.windows.specs.GuestTick.{Moved, GuestTick, Fitted}
+use Rattle.equation.specs.Guest.{guestSide}
+use Rattle.windows.specs.Equation.{above}
+use Rattle.windows.specs.GuestTick.{Moved, GuestTick, GuestFits}
 use Rattle.windows.specs.GuestTick.Moved.{on, over}
 use Rattle.windows.specs.Supply.{spent, Supply}
 use Rattle.lists.proofs.Sum.{sum-le, sum-same, sum-add, sum-bump, sum-zero}
 use Rattle.rounding.proofs.Asked.{asked-mono, asked-counts}
 use Rattle.windows.proofs.GuestTick.{begun, held-le, count-on, count-new, most-on, pace-on, owed-on, owed-new}
 
--- used, where something is held
+-- what a guest has used, where it holds something
 spent-some : (h c : ℕ) → 0 < h → spent h c ≡ c - h
 unfolding spent
 spent-some zero c p = absurd (omega arith)
 spent-some (suc h) c p = refl
 
--- never the whole capacity
+-- what counts as used is never the whole capacity
 spent-below : (h c : ℕ) → 0 < c → spent h c < c
 unfolding spent
 spent-below zero c p = p
@@ -32,7 +34,7 @@ unfolding spent
 spent-full zero = refl
 spent-full (suc c) = omega arith
 
--- and nothing counts of an empty one
+-- nothing counts as used of an empty capacity
 spent-none : (c : ℕ) → spent 0 c ≡ 0
 unfolding spent
 spent-none c = refl
@@ -42,8 +44,13 @@ spent-on : {cap per p l q h : ℕ} → Moved cap per p l q h → (p + 1 ≡ per 
 spent-on (on a b e) i = rw e (omega arith)
 spent-on {cap = c} (over a b e) i = rw (i a, e) (omega (arith, spent-none c, spent-full c))
 
+-- the equation of a fitted guest, as a sum
+pub fits-sum : {cap per : ℕ → ℕ} {g x : ℕ} → GuestFits cap per g x → x ≡ cap g + above cap per g x
+unfolding guestSide
+fits-sum F = F .solves
+
 module _ (cap per : ℕ → ℕ) (g x k : ℕ) (held pos left held' pos' : ℕ → ℕ)
-    (F : Fitted cap per g x) (S : Supply cap per g x held pos) (t : GuestTick cap per g k held pos left held' pos') where
+    (F : GuestFits cap per g x) (S : Supply cap per g x held pos) (t : GuestTick cap per g k held pos left held' pos') where
   -- all that guests above hold after the tick
   above-held : sumTo held' g ≤ sumTo left g + sumTo (λ j. begun (pos' j) * cap j) g
   above-held =
@@ -85,8 +92,8 @@ module _ (cap per : ℕ → ℕ) (g x k : ℕ) (held pos left held' pos' : ℕ �
     drained,
   )
     where
-      asks : sumTo (λ j. S .m j * cap j) g ≤ asked cap per g (suc (S .y))
-      asks = asked-counts cap per (S .m) g (suc (S .y)) (F .periods) (λ j l. omega (arith, S .counts j l))
+      asks : sumTo (λ j. S .m j * cap j) g ≤ above cap per g (suc (S .y))
+      asks = asked-counts cap per (λ j. 0) (S .m) g (suc (S .y)) (F .periods) (λ j l. omega (arith, S .counts j l))
 
       shorter : suc (S .y) < x
       shorter =
@@ -94,14 +101,15 @@ module _ (cap per : ℕ → ℕ) (g x k : ℕ) (held pos left held' pos' : ℕ �
             | yes l ↦ l
             | no n ↦
                 (let e : x ≡ suc (S .y) = omega (arith, S .within) in
-                absurd (omega (arith, asks, F .solves, ap (asked cap per g) e, spent-below (left g) (cap g) (F .some))))
+                absurd (omega (arith, asks, fits-sum F, ap (above cap per g) e, spent-below (left g) (cap g) (F .some))))
           ]
 
       counted : sumTo (λ j. (S .m j + begun (pos' j)) * cap j) g ≡ sumTo (λ j. S .m j * cap j) g + sumTo (λ j. begun (pos' j) * cap j) g
       counted =
           omega (
             arith,
-            sum-same (λ j. (S .m j + begun (pos' j)) * cap j) (λ j. S .m j * cap j + begun (pos' j) * cap j) g (λ j l. omega arith),
+            sum-same (λ j. (S .m j + begun (pos' j)) * cap j) (λ j. S .m j * cap j + begun (pos' j) * cap j) g
+                (λ j l. omega arith),
             sum-add (λ j. S .m j * cap j) (λ j. begun (pos' j) * cap j) g,
           )
 
@@ -116,7 +124,8 @@ module _ (cap per : ℕ → ℕ) (g x k : ℕ) (held pos left held' pos' : ℕ �
       kept = spent-on (t .moved g (omega arith)) drained
 
   -- nobody up to g has anything left: a new window starts
-  restart : ((j : ℕ) → j < g → left j ≡ 0) → left g ≡ 0 → Supply cap per g x held' pos' × (pos g + 1 ≡ per g → left g ≡ 0)
+  restart : ((j : ℕ) → j < g → left j ≡ 0) → left g ≡ 0
+      → Supply cap per g x held' pos' × (pos g + 1 ≡ per g → left g ≡ 0)
   restart none empty = (
     record {
       y = 0;
@@ -124,7 +133,7 @@ module _ (cap per : ℕ → ℕ) (g x k : ℕ) (held pos left held' pos' : ℕ �
       counts = λ j l. count-new (t .moved j (omega arith));
       shared = omega (arith, above-held, sum-zero left g none);
       upto = λ v l. omega arith;
-      within = omega (arith, F .some, F .solves);
+      within = omega (arith, F .some, fits-sum F);
       owed = owed-new (t .moved g (omega arith)) empty;
       most = most-on (t .moved g (omega arith)) (omega (arith, S .most, left-g));
       pace = pace-on (t .moved g (omega arith)) (omega (arith, S .pace, left-g));
@@ -132,7 +141,7 @@ module _ (cap per : ℕ → ℕ) (g x k : ℕ) (held pos left held' pos' : ℕ �
     λ e. empty,
   )
 
-  -- both laws below, by who has the tick
+  -- the invariant and the used-up capacity, by who has the tick
   tick : Supply cap per g x held' pos' × (pos g + 1 ≡ per g → left g ≡ 0)
   tick =
       elim (decLt k g) [
@@ -182,7 +191,7 @@ module _ (cap per : ℕ → ℕ) (g x k : ℕ) (held pos left held' pos' : ℕ �
 -- The invariant holds where every position is 0 and every guest is about to be filled.
 pub supply-fresh :
     (cap per : ℕ → ℕ) (g x : ℕ) (held pos : ℕ → ℕ)
-    → Fitted cap per g x
+    → GuestFits cap per g x
     → ((k : ℕ) → k ≤ g → held k ≡ cap k)
     → ((k : ℕ) → k ≤ g → pos k ≡ 0)
     → Supply cap per g x held pos
@@ -192,7 +201,7 @@ supply-fresh cap per g x held pos F full start = record {
   counts = λ k l. omega (arith, start k (omega arith));
   shared = omega (arith, sum-same held (λ k. 1 * cap k) g (λ k l. omega (arith, full k (omega arith))));
   upto = λ v l. omega arith;
-  within = omega (arith, F .some, F .solves);
+  within = omega (arith, F .some, fits-sum F);
   owed = λ h. omega (arith, start g (omega arith));
   most = omega (arith, full g (omega arith));
   pace = omega (arith, full g (omega arith));
@@ -201,11 +210,11 @@ supply-fresh cap per g x held pos F full start = record {
 -- How much is used by position pos g, for any demand l that a window of v ticks holds.
 pub supplied :
     (cap per : ℕ → ℕ) (g x : ℕ) (held pos : ℕ → ℕ)
-    → Fitted cap per g x
+    → GuestFits cap per g x
     → Supply cap per g x held pos
     → (l v : ℕ)
     → l ≤ cap g
-    → v ≡ l + asked cap per g v
+    → v ≡ l + above cap per g v
     → l + held g ≤ cap g + (v - pos g)
 supplied cap per g x held pos F S l v h e =
     elim (decLt 0 (held g)) [
@@ -217,7 +226,7 @@ supplied cap per g x held pos F S l v h e =
                 omega (
                   arith,
                   S .upto (S .y) (omega arith),
-                  asked-mono cap per g {v = S .y} {w = v} (omega arith),
+                  asked-mono cap per (λ j. 0) g {v = S .y} {w = v} (omega arith),
                   spent-some (held g) (cap g) s,
                   S .owed s,
                   S .most,

@@ -1,4 +1,4 @@
--- The part of the invariant on waits and ages.
+-- The part of the invariant on waits and ages. Inner: no promise of an entry names this.
 use Prim.Native.Nat.{ℕ, _+_, _≤_, _<_}
 use Rattle.windows.specs.TaskTick.{Tasks}
 

@@ -1,7 +1,7 @@
 pub mod Served
+pub mod Equation
 pub mod GuestTick
 pub mod Supply
-pub mod Equation
 pub mod TaskTick
 pub mod Clock
 pub mod Window

@@ -1,7 +1,12 @@
 -- One tick and one taken release as the tasks of a guest see them, up to task i.
+-- Inner: no promise of an entry names this.
 use mathlib.Core.Path.{_≡_}
 use Prim.Native.Nat.{ℕ, suc, _+_, _-_, _≤_, _<_, min}
 use Rattle.lists.specs.Sum.{sumTo}
+
+-- an age stops at the longest period
+abbrev pub oldest : ℕ
+oldest = 1000000
 
 -- What there is of a guest's tasks: run left, wait and age of each.
 pub record Tasks : Type 0 where
@@ -15,7 +20,7 @@ pub record TaskTick (i a : ℕ) (v v' : Tasks) : Type 0 where
   pub last : 0 < sumTo (v' .rest) (suc i) → v' .rest i ≡ 0 → v .rest i ≡ 0
   pub less : (j : ℕ) → j ≤ i → v' .rest j ≤ v .rest j
   pub waited : (j : ℕ) → j ≤ i → v' .wait j ≡ v .wait j - 1
-  pub older : 0 < v .rest i → v' .age i ≡ min (v .age i + 1) 1000000
+  pub older : 0 < v .rest i → v' .age i ≡ min (v .age i + 1) oldest
 
 -- Task j is released: it waited for nothing and had nothing left.
 pub record Taken (run every : ℕ → ℕ) (j : ℕ) (v v' : Tasks) : Type 0 where

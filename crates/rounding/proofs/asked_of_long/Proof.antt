@@ -1,22 +1,28 @@
--- `rounding::asked_of_long` meets its contract. Assumes nothing.
+-- `rounding::asked_of_long` meets its contract: a sum that is cut off at each turn is the whole sum cut off. Assumes
+-- nothing.
 use mathlib.Core.Path.{_≡_}
 use Prim.Native.Nat.{_≤_, _-_}
 use native.Mathlib.Omega.{arith}
 use borrow.Author.Needs.{needs}
 use Rattle.lists.specs.Places.{nth}
-use Rattle.rounding.specs.Asked.{asked, cut}
+use Rattle.rounding.specs.Asked.{asked}
+use Rattle.rounding.specs.Cut.{cut}
 use Rattle.rounding.proofs.Asked.{asked-none, cut-next}
 use Rattle.rounding.proofs.asked_of_long.Statement.{statement}
 use Rattle.rounding.proofs.asked_of_long.Tie as tie
 
 abbrev Inv-loop : tie.InvT-loop
-Inv-loop cost every n v sum₀ k₀ sum k = (k ≤ n) × (sum ≡ cut (asked (nth cost) (nth every) k v))
+Inv-loop cost every late n v sum₀ k₀ sum k = (k ≤ n) × (sum ≡ cut (asked (nth cost) (nth every) (λ j. late) k v))
 
 abbrev μ-loop : tie.MeasureT-loop
-μ-loop cost every n v sum₀ k₀ sum k = n - k
+μ-loop cost every late n v sum₀ k₀ sum k = n - k
 
 loop-holds : tie.Need-loop-holds Inv-loop μ-loop
-loop-holds c = (search needs, omega (arith, asked-none (nth (c .args .cost .now)) (nth (c .args .every .now)) (c .args .v)))
+loop-holds c =
+    (search needs, omega (arith, asked-none (nth (c .args .cost .now)) (nth (c .args .every .now)) (λ j. c .args .late) (c .args .v)))
+
+add-share : tie.Need-add-share Inv-loop μ-loop
+add-share c = search needs
 
 mul-share : tie.Need-mul-share Inv-loop μ-loop
 mul-share c = search needs
@@ -49,7 +55,8 @@ loop-again : tie.Need-loop-again Inv-loop μ-loop
 loop-again c =
     let l = c .before .before .before .before .before in (
       search needs,
-      cut-next (nth (l .before .args .cost .now)) (nth (l .before .args .every .now)) _ _ _ _ _ (l .loop .inv .1) (c .before .share .ensures .0)
+      cut-next (nth (l .before .args .cost .now)) (nth (l .before .args .every .now)) (λ j. l .before .args .late) _ _ _
+          _ _ (l .loop .inv .1) (c .before .share .ensures .0)
           (c .capped .ensures),
     )
 
@@ -63,6 +70,7 @@ asked-of-long-spec =
     Inv-loop
     μ-loop
     loop-holds
+    add-share
     mul-share
     element-copy-out-share
     mul-share-2

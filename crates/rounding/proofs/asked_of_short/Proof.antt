@@ -1,22 +1,29 @@
--- `rounding::asked_of_short` meets its contract. Assumes nothing.
+-- `rounding::asked_of_short` meets its contract: each share is below 2 to the 59, so 16 of them fit in 64 bits. Assumes
+-- nothing.
 use mathlib.Core.Path.{_≡_}
 use Prim.Native.Nat.{_*_, _≤_, _-_}
 use native.Mathlib.Omega.{arith}
 use borrow.Author.Needs.{needs}
 use Rattle.lists.specs.Places.{nth}
 use Rattle.rounding.specs.Asked.{asked}
+use Rattle.rounding.specs.Cut.{bound, long}
 use Rattle.rounding.proofs.Asked.{asked-none, asked-next}
 use Rattle.rounding.proofs.asked_of_short.Statement.{statement}
 use Rattle.rounding.proofs.asked_of_short.Tie as tie
 
 abbrev Inv-loop : tie.InvT-loop
-Inv-loop cost every n v sum₀ k₀ sum k = (k ≤ n) × (sum ≡ asked (nth cost) (nth every) k v) × (sum ≤ k * 576460752303423488)
+Inv-loop cost every late n v sum₀ k₀ sum k =
+    (k ≤ n) × (sum ≡ asked (nth cost) (nth every) (λ j. late) k v) × (sum ≤ k * (long * bound))
 
 abbrev μ-loop : tie.MeasureT-loop
-μ-loop cost every n v sum₀ k₀ sum k = n - k
+μ-loop cost every late n v sum₀ k₀ sum k = n - k
 
 loop-holds : tie.Need-loop-holds Inv-loop μ-loop
-loop-holds c = (search needs, omega (arith, asked-none (nth (c .args .cost .now)) (nth (c .args .every .now)) (c .args .v)), search needs)
+loop-holds c =
+    (search needs, omega (arith, asked-none (nth (c .args .cost .now)) (nth (c .args .every .now)) (λ j. c .args .late) (c .args .v)), search needs)
+
+add-share : tie.Need-add-share Inv-loop μ-loop
+add-share c = search needs
 
 mul-share : tie.Need-mul-share Inv-loop μ-loop
 mul-share c = search needs
@@ -47,7 +54,7 @@ loop-again c =
     let l = c .before .before .before .before in (
       search needs,
       omega
-          (arith, asked-next (nth (l .before .args .cost .now)) (nth (l .before .args .every .now)) (l .loop .k) (l .before .args .v), c .share .ensures .0, l .loop .inv .1),
+          (arith, asked-next (nth (l .before .args .cost .now)) (nth (l .before .args .every .now)) (λ j. l .before .args .late) (l .loop .k) (l .before .args .v), c .share .ensures .0, l .loop .inv .1),
       search needs,
     )
 
@@ -61,6 +68,7 @@ asked-of-short-spec =
     Inv-loop
     μ-loop
     loop-holds
+    add-share
     mul-share
     element-copy-out-share
     mul-share-2

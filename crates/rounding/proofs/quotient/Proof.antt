@@ -1,4 +1,5 @@
--- `rounding::quotient` meets its contract: the quotient where nothing is left over, and otherwise one more. Assumes nothing.
+-- `rounding::quotient` meets its contract: the quotient where nothing is left over, and otherwise one more. Assumes
+-- nothing.
 use mathlib.Core.Path.{_≡_, sym, _∙_, ap}
 use Prim.Native.Nat.{ℕ, _+_}
 use native.Mathlib.Omega.{arith}

@@ -3,13 +3,13 @@ use mathlib.Core.Path.{_≡_, sym}
 use Prim.Native.Nat.{_≤_, _-_}
 use borrow.Author.Needs.{needs}
 use Rattle.lists.specs.Places.{upTo}
-use Rattle.arrays.specs.Parts.{full}
+use Rattle.arrays.specs.Parts.{filled}
 use Rattle.lists.proofs.Places.{upTo-none, upTo-next, upTo-done}
 use Rattle.arrays.proofs.server.refill.Statement.{statement}
 use Rattle.arrays.proofs.server.refill.Tie as tie
 
 abbrev Inv-loop : tie.InvT-loop
-Inv-loop left₀ position capacities n k₀ left k = (k ≤ n) × (left ≡ upTo (full position capacities) k left₀)
+Inv-loop left₀ position capacities n k₀ left k = (k ≤ n) × (left ≡ upTo (filled position capacities) k left₀)
 
 abbrev μ-loop : tie.MeasureT-loop
 μ-loop left₀ position capacities n k₀ left k = n - k
@@ -53,12 +53,12 @@ loop-less c = search needs
 loop-again : tie.Need-loop-again Inv-loop μ-loop
 loop-again c =
     let a = c .before .before .before .before .before .before .args in
-    (search needs, upTo-next (full (a .position .now) (a .capacities .now)) _ _ _ _ (c .before .before .before .before .before .loop .inv .1) (c .filled .ensures))
+    (search needs, upTo-next (filled (a .position .now) (a .capacities .now)) _ _ _ _ (c .before .before .before .before .before .loop .inv .1) (c .filled .ensures))
 
 returns : tie.Need-returns Inv-loop μ-loop
 returns c =
     let a = c .before .before .args in
-    upTo-done (full (a .position .now) (a .capacities .now)) _ _ _ _ (c .before .loop .inv .1) (search needs) (search needs)
+    upTo-done (filled (a .position .now) (a .capacities .now)) _ _ _ _ (c .before .loop .inv .1) (search needs) (search needs)
 
 pub refill-spec : {M : Type 1} → statement M
 refill-spec =

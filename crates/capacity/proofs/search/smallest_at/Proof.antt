@@ -3,10 +3,9 @@ use mathlib.Core.Path.{sym, _∙_}
 use native.Mathlib.Omega.{arith}
 use borrow.Author.Needs.{needs}
 use borrow.Author.Tests.{not-true, not-false}
-use Rattle.plan.specs.Records.{runOf}
 use Rattle.response.specs.Columns.{guestsTake}
-use Rattle.plan.proofs.Charge.{charged-least}
-use Rattle.capacity.proofs.Trial.{works-is, above-unfit, above-fitted}
+use Rattle.response.proofs.ReadyLaws.{charged-runs}
+use Rattle.capacity.proofs.SearchLaws.{works-is, above-unfit, above-fitted}
 use Rattle.capacity.proofs.search.smallest_at.Statement.{statement}
 use Rattle.capacity.proofs.search.smallest_at.Tie as tie
 
@@ -30,7 +29,7 @@ smallest-in-requires c κs =
     let filled = c .before .before .before in
     let s = filled .before .before .before .before .before .before .pre .0 in
     let g = filled .before .before .before .before .before .before .args .g in
-    (((omega (arith, s .place), s .runs .few), (omega arith, omega arith)), λ i h. omega (arith, filled .charged-of .ensures .holds i h, s .runs .some i h, charged-least (runOf g i) (g .charge)))
+    (((omega (arith, s .place), s .runs .few), (omega arith, omega arith)), charged-runs g (s .runs) _ (filled .charged-of .ensures))
 
 returns-2 : tie.Need-returns-2
 returns-2 c =

@@ -1,8 +1,11 @@
 -- The loop's invariant: the ticks done are those of a run on its way, whatever plan the columns are of, and the places past the guests are quiet.
-use Prim.Native.Nat.{_≤_, _-_}
+use mathlib.Core.Path.{_≡_}
+use mathlib.Core.List.{List}
+use Prim.Native.Nat.{ℕ, _≤_, _-_}
 use borrow.Author.Needs.{needs}
 use Rattle.plan.specs.declared.Plan.{Plan}
-use Rattle.dispatcher.specs.Lent.{stateOf, Columned, Quiet}
+use Rattle.plan.specs.Filled.{ColumnsOf}
+use Rattle.dispatcher.specs.Lent.{stateOf, Quiet}
 use Rattle.dispatcher.proofs.Lent.{quiet-kept}
 use Rattle.dispatcher.proofs.Run.{Going, starts, goes-on, stops, used-up}
 use Rattle.dispatcher.proofs.running.steps.Statement.{statement}
@@ -11,8 +14,9 @@ use Rattle.dispatcher.proofs.running.steps.Tie as tie
 abbrev Inv-loop : tie.InvT-loop
 Inv-loop left₀ position₀ rest₀ wait₀ age₀ usage₀ capacities periods tasks n ticks turn₀ done₀ left position rest wait age usage turn done =
     (done ≤ ticks)
-    × ((p : Plan)
-    → Columned p n capacities periods tasks
+    × ((p : Plan) (ids : List ℕ)
+    → p .count ≡ n
+    → ColumnsOf (p .guests) n (record { ids = ids; capacities = capacities; periods = periods; tasks = tasks })
     → Quiet n rest₀ wait₀
     → (Going (stateOf p left₀ position₀ rest₀ wait₀ age₀ usage₀) ticks done turn (stateOf p left position rest wait age usage)) × (Quiet n rest wait))
 
@@ -20,7 +24,7 @@ abbrev μ-loop : tie.MeasureT-loop
 μ-loop left₀ position₀ rest₀ wait₀ age₀ usage₀ capacities periods tasks n ticks turn₀ done₀ left position rest wait age usage turn done = ticks - done
 
 loop-holds : tie.Need-loop-holds Inv-loop μ-loop
-loop-holds c = (search needs, λ p u z. (starts _ _ _, z))
+loop-holds c = (search needs, λ p i n u z. (starts _ _ _, z))
 
 step-requires : tie.Need-step-requires Inv-loop μ-loop
 step-requires c κs =
@@ -33,9 +37,9 @@ add-done c = search needs
 returns : tie.Need-returns Inv-loop μ-loop
 returns c =
     let t = c .before .before .before .before .before .before .before .before .before in
-    λ p u z.
-    let g = t .before .loop .inv .1 p u z in
-    stops (g .0) (t .loop-test .taken) (c .before .before .step .ensures p u (g .1)) (c .if1 .taken)
+    λ p i n u z.
+    let g = t .before .loop .inv .1 p i n u z in
+    stops (g .0) (t .loop-test .taken) (c .before .before .step .ensures p i n u (g .1)) (c .if1 .taken)
 
 loop-less : tie.Need-loop-less Inv-loop μ-loop
 loop-less c = search needs
@@ -44,14 +48,14 @@ loop-again : tie.Need-loop-again Inv-loop μ-loop
 loop-again c =
     let t = c .before .before .before .before .before .before .before .before .before in (
       search needs,
-      λ p u z.
-          let g = t .before .loop .inv .1 p u z in
-          let s = c .before .before .step .ensures p u (g .1) in
-          (goes-on (g .0) (t .loop-test .taken) s (c .if1 .left), quiet-kept u _ _ _ _ _ _ (t .before .before .pre) (g .1) s),
+      λ p i n u z.
+          let g = t .before .loop .inv .1 p i n u z in
+          let s = c .before .before .step .ensures p i n u (g .1) in
+          (goes-on (g .0) (t .loop-test .taken) s (c .if1 .left), quiet-kept n u _ _ _ _ _ _ (t .before .before .pre) (g .1) s),
     )
 
 returns-2 : tie.Need-returns-2 Inv-loop μ-loop
-returns-2 c = λ p u z. used-up (c .before .loop .inv .1 p u z .0) (c .loop-test .left)
+returns-2 c = λ p i n u z. used-up (c .before .loop .inv .1 p i n u z .0) (c .loop-test .left)
 
 pub steps-spec : {M : Type 1} → statement M
 steps-spec =

@@ -13,7 +13,8 @@ use Rattle.verdict.proofs.judge.all_accepted.Statement.{statement}
 use Rattle.verdict.proofs.judge.all_accepted.Tie as tie
 
 abbrev Inv-loop : tie.InvT-loop
-Inv-loop capacities periods guests n k₀ k = (k ≤ n) × (allTo (λ j. acceptedUnder (guestsTake capacities periods j) (guestAt guests j)) k ≡ true)
+Inv-loop capacities periods guests n k₀ k =
+    (k ≤ n) × (allTo (λ j. acceptedUnder (guestsTake capacities periods j) (guestAt guests j)) k ≡ true)
 
 abbrev μ-loop : tie.MeasureT-loop
 μ-loop capacities periods guests n k₀ k = n - k
@@ -34,7 +35,9 @@ guest-accepted-requires : tie.Need-guest-accepted-requires Inv-loop μ-loop
 guest-accepted-requires c κs = c .before .before .before .before .before .pre .0 _ (c .before .loop-test .taken)
 
 returns : tie.Need-returns Inv-loop μ-loop
-returns c = all-fails _ _ _ (c .before .before .before .loop-test .taken) (sym (c .before .guest-accepted .ensures) ∙ not-true _ (c .if1 .taken))
+returns c =
+    all-fails _ _ _ (c .before .before .before .loop-test .taken)
+    (sym (c .before .guest-accepted .ensures) ∙ not-true _ (c .if1 .taken))
 
 add-k : tie.Need-add-k Inv-loop μ-loop
 add-k c = search needs
@@ -43,7 +46,8 @@ loop-less : tie.Need-loop-less Inv-loop μ-loop
 loop-less c = search needs
 
 loop-again : tie.Need-loop-again Inv-loop μ-loop
-loop-again c = (search needs, all-next _ _ (c .before .before .before .before .loop .inv .1) (sym (c .before .guest-accepted .ensures) ∙ not-false _ (c .if1 .left)))
+loop-again c =
+    (search needs, all-next _ _ (c .before .before .before .before .loop .inv .1) (sym (c .before .guest-accepted .ensures) ∙ not-false _ (c .if1 .left)))
 
 returns-2 : tie.Need-returns-2 Inv-loop μ-loop
 returns-2 c = all-done _ _ _ (omega arith) (c .before .loop .inv .1)

@@ -1,55 +1,72 @@
--- `verdict::judge::guest_accepted` meets its contract: an unfit guest is not accepted, a fitted one by its tasks. Assumes nothing.
-use mathlib.Core.Path.{_∙_}
+-- `verdict::judge::guest_accepted` meets its contract: a guest is accepted where its own capacity works. Assumes
+-- nothing.
+use mathlib.Core.Path.{sym, _∙_}
 use native.Mathlib.Omega.{arith}
 use borrow.Author.Needs.{needs}
-use borrow.Author.Tests.{not-true, not-false}
 use Rattle.response.specs.Columns.{guestsTake}
-use Rattle.response.proofs.Columns.{test-is}
-use Rattle.response.proofs.Ready.{placed-ranged, placed-ready, met-is, accepted-unfit, accepted-fit}
+use Rattle.response.proofs.ReadyLaws.{stands-ranged, charged-runs, accepted-column}
+use Rattle.response.proofs.TrialLaws.{trial-unfit-not, trial-unmet, trial-works}
 use Rattle.verdict.proofs.judge.guest_accepted.Statement.{statement}
 use Rattle.verdict.proofs.judge.guest_accepted.Tie as tie
 
 cast-n : tie.Need-cast-n
 cast-n c = search needs
 
-guest-response-requires : tie.Need-guest-response-requires
-guest-response-requires c κs =
-    let s = c .before .before .before .pre in
-    (omega (arith, s .place), placed-ranged _ _ _ _ s)
+charged-of-requires : tie.Need-charged-of-requires
+charged-of-requires c κs = c .before .before .before .pre .runs
 
-is-at-requires : tie.Need-is-at-requires
-is-at-requires c κs = search needs
+try-capacity-requires : tie.Need-try-capacity-requires
+try-capacity-requires c κs =
+    let filled = c .before .before .before in
+    let start = filled .before .before .before .before in
+    let s = start .pre in (
+      ((omega (arith, s .place), s .runs .few), stands-ranged _ _ _ _ s),
+      charged-runs (start .args .g) (s .runs) _ (filled .charged-of .ensures),
+    )
+
+enum-told : tie.Need-enum-told
+enum-told c = search needs
+
+enum-told-2 : tie.Need-enum-told-2
+enum-told-2 c = search needs
+
+enum-told-3 : tie.Need-enum-told-3
+enum-told-3 c = search needs
 
 returns : tie.Need-returns
-returns c = accepted-unfit (guestsTake _ _ _) _ (test-is (c .before .before .guest-response .ensures) (c .before .is-at .ensures) (not-true _ (c .if1 .taken)))
-
-charged-of-requires : tie.Need-charged-of-requires
-charged-of-requires c κs = c .before .before .before .before .before .before .pre .runs
-
-all-met-requires : tie.Need-all-met-requires
-all-met-requires c κs =
-    let filled = c .before .before .before in
-    let test = filled .before in
-    let s = test .before .before .before .before .before .before .pre in (
-      (omega (arith, s .place), s .runs .few),
-      placed-ready _ _ _ _ s (test-is (test .before .before .guest-response .ensures) (test .before .is-at .ensures) (not-false _ (test .if1 .left))) _ (filled .charged-of .ensures),
-    )
+returns c =
+    let tried = c .before .before in
+    let filled = tried .before .before .before .before in
+    let g = filled .before .before .before .before .args .g in
+    sym (trial-works _ _ _ (tried .try-capacity .ensures) (c .enum-told .given .1))
+    ∙ accepted-column (guestsTake _ _ _) g _ (filled .charged-of .ensures)
 
 returns-2 : tie.Need-returns-2
 returns-2 c =
-    let filled = c .before .before .before .before in
-    let test = filled .before in
-    accepted-fit (guestsTake _ _ _) _ (test-is (test .before .before .guest-response .ensures) (test .before .is-at .ensures) (not-false _ (test .if1 .left)))
-    (c .all-met .ensures ∙ met-is (guestsTake _ _ _) _ _ (filled .charged-of .ensures))
+    let tried = c .before .before in
+    let filled = tried .before .before .before .before in
+    let g = filled .before .before .before .before .args .g in
+    sym (trial-unmet _ _ _ (tried .try-capacity .ensures) (c .enum-told2 .given .1) .1)
+    ∙ accepted-column (guestsTake _ _ _) g _ (filled .charged-of .ensures)
+
+returns-3 : tie.Need-returns-3
+returns-3 c =
+    let tried = c .before .before in
+    let filled = tried .before .before .before .before in
+    let g = filled .before .before .before .before .args .g in
+    sym (trial-unfit-not _ _ _ (tried .try-capacity .ensures) (c .enum-told3 .given .1))
+    ∙ accepted-column (guestsTake _ _ _) g _ (filled .charged-of .ensures)
 
 pub guest-accepted-spec : {M : Type 1} → statement M
 guest-accepted-spec =
     tie.close
     (tie.spec
     cast-n
-    guest-response-requires
-    is-at-requires
-    returns
     charged-of-requires
-    all-met-requires
-    returns-2)
+    try-capacity-requires
+    enum-told
+    enum-told-2
+    enum-told-3
+    returns
+    returns-2
+    returns-3)

@@ -1,12 +1,13 @@
--- `verdict::judge::judge_task` meets its contract: unjudged under an unfit guest, else by the recurrence up to the task's period. Assumes nothing.
+-- `verdict::judge::judge_task` meets its contract: unjudged under an unfit guest, else by the recurrence up to the
+-- task's period. Assumes nothing.
 use mathlib.Core.Path.{sym, _∙_}
 use native.Mathlib.Omega.{arith}
 use borrow.Author.Needs.{needs}
 use borrow.Author.Tests.{not-true, not-false}
 use Rattle.response.specs.Task.{limit}
 use Rattle.response.specs.Columns.{guestsTake}
-use Rattle.response.proofs.Columns.{task-is}
-use Rattle.response.proofs.Ready.{placed-fits, placed-ready}
+use Rattle.response.proofs.ColumnsLaws.{task-is}
+use Rattle.response.proofs.ReadyLaws.{stands-fits, stands-ready}
 use Rattle.verdict.proofs.Verdict.{says-unjudged, says-judged}
 use Rattle.verdict.proofs.judge.judge_task.Statement.{statement}
 use Rattle.verdict.proofs.judge.judge_task.Tie as tie
@@ -35,7 +36,9 @@ task-response-requires c κs =
     let test = filled .before in
     let s = test .before .before .before .before .pre in (
       (omega (arith, s .0 .place), omega (arith, s .1, s .0 .runs .few)),
-      placed-ready _ _ _ _ (s .0) (placed-fits _ _ _ _ (s .0) (sym (test .before .all-fitted .ensures) ∙ not-false _ (test .if1 .left))) _ (filled .charged-of .ensures) _ (s .1),
+      stands-ready _ _ _ _ (s .0)
+          (stands-fits _ _ _ _ (s .0) (sym (test .before .all-fitted .ensures) ∙ not-false _ (test .if1 .left))) _
+          (filled .charged-of .ensures) _ (s .1),
     )
 
 mul-met-or-not : tie.Need-mul-met-or-not
@@ -54,8 +57,9 @@ returns-2 c =
     let filled = asked .before .before .before in
     let test = filled .before in
     let s = test .before .before .before .before .pre in
+    let g = test .before .before .before .before .args .g in
     says-judged _ (sym (test .before .all-fitted .ensures) ∙ not-false _ (test .if1 .left)) (c .met-or-not .ensures)
-    (asked .task-response .ensures ∙ task-is (guestsTake _ _ _) _ _ _ _ _ (s .1) (filled .charged-of .ensures))
+    (asked .task-response .ensures ∙ task-is (guestsTake _ _ _) g _ (g .tasks) _ _ (s .1) (filled .charged-of .ensures))
 
 pub judge-task-spec : {M : Type 1} → statement M
 judge-task-spec =

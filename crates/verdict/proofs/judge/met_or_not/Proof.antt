@@ -8,7 +8,6 @@ use Rattle.verdict.proofs.judge.met_or_not.Tie as tie
 enum-known-f : tie.Need-enum-known-f
 enum-known-f c = search needs
 
--- src/judge.rt:53:25
 quoted-by-requires : tie.Need-quoted-by-requires
 quoted-by-requires c κs = search needs
 

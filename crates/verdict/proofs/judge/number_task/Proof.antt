@@ -1,4 +1,5 @@
--- `verdict::judge::number_task` meets its contract: 8 for a number outside 1 to the number of tasks, else the task's verdict. Assumes nothing.
+-- `verdict::judge::number_task` meets its contract: 8 for a number outside 1 to the number of tasks, else the task's
+-- verdict. Assumes nothing.
 use mathlib.Core.Path.{_∙_}
 use native.Mathlib.Omega.{arith}
 use borrow.Author.Needs.{needs}
@@ -21,7 +22,8 @@ judge-task-requires c κs = search needs
 
 returns-3 : tie.Need-returns-3
 returns-3 c =
-    c .judge-task .ensures ∙ no-test Refused _ ∙ test-passes Refused 8 _ _ (within-right _ _ (c .before .before .if1 .left) (c .before .if2 .left))
+    c .judge-task .ensures ∙ no-test Refused _
+    ∙ test-passes Refused 8 _ _ (within-right _ _ (c .before .before .if1 .left) (c .before .if2 .left))
 
 pub number-task-spec : {M : Type 1} → statement M
 number-task-spec =

@@ -1,0 +1,181 @@
+-- How one pass over the records comes to refusal 14's test and to the columns. Assumes nothing.
+use mathlib.Core.Path.{_≡_, refl, ap, sym, _∙_}
+use mathlib.Core.Bool.{Bool, true, false, false≢true, _&&_}
+use mathlib.Core.List.{List, []}
+use Prim.Native.Nat.{ℕ, _+_, _≤_, _<_}
+use native.Mathlib.Decide.{decLt}
+use native.Mathlib.Omega.{arith}
+use lib.Dec.{ltb, eqb}
+use borrow.Author.Tests.{lt-ltb, le-ltb, eq-eqb, eqb-true}
+use Rattle.lists.specs.Choice.{pick}
+use Rattle.lists.specs.Places.{nth}
+use Rattle.lists.specs.All.{allTo}
+use Rattle.plan.specs.declared.Plan.{Plan}
+use Rattle.plan.specs.declared.Refusal.{Refusal}
+use Rattle.plan.specs.Records.{guestAt}
+use Rattle.plan.specs.Ranges.{tasksOk}
+use Rattle.plan.specs.First.{refused}
+use Rattle.plan.specs.Order.{newId, numberOf, guestNumber, planRefusal}
+use Rattle.plan.specs.declared.Columns.{Columns}
+use Rattle.plan.specs.Filled.{Filled, ColumnsOf}
+use Rattle.dispatcher.specs.declared.Dispatcher.{Dispatcher}
+use Rattle.dispatcher.specs.declared.Checked.{Checked}
+use Rattle.dispatcher.specs.State.{guestIn}
+use Rattle.arrays.specs.Ranges.{serverOk, noServer}
+use Rattle.dispatcher.specs.Valid.{tasksIn, guestInRange, taskInRange, rowOk, stateOk}
+use Rattle.arrays.specs.Rows.{jobIn, blankAt, guestIsOk, rowIsBlank}
+use Rattle.dispatcher.specs.LentCheck.{Examines, guestGoes}
+use Rattle.lists.proofs.All.{and-left, and-right, and-true, all-turn, all-by, all-at, all-ext}
+use Rattle.lists.proofs.Refusals.{passed}
+use Rattle.plan.proofs.First.{none-refused, first-fine}
+use Rattle.plan.proofs.Order.{none, counted}
+use Rattle.plan.specs.Ranges as ranges
+
+-- The ids in the column are the records'.
+new-is : (p : Plan) (ids : List ℕ) (k : ℕ) → Filled ids (λ j. guestAt (p .guests) j .id) (k + 1) → newId (nth ids) k ≡ newId (λ j. guestAt (p .guests) j .id) k
+unfolding newId
+new-is p ids k f = all-ext _ _ k (λ j l. rw (f .holds j (omega arith), f .holds k (omega arith)) refl)
+
+-- The loop's turn: one guest more goes.
+pub goes-turn : (d : Dispatcher) {ids : List ℕ} (k : ℕ) {ok new good : Bool} → Filled ids (λ j. guestIn d j .id) (k + 1) → ok ≡ allTo (guestGoes d) k
+    → new ≡ newId (nth ids) k
+    → good ≡ guestIsOk (guestIn d k) k (nth (d .left) k) (nth (d .position) k) (d .rest) (d .wait) (d .age)
+    → (ok && (new && good)) ≡ allTo (guestGoes d) (k + 1)
+goes-turn d {ids} k {ok} {new} {good} f e g h = all-turn (guestGoes d) k ok (new && good) e (rw (g, new-is (d .plan) ids k f, h) refl)
+
+-- whether row k, if past the n guests, is blank
+abbrev pub pastOk : (n : ℕ) (left position rest wait age : List ℕ) → ℕ → Bool
+pastOk n left position rest wait age k = pick (ltb k n) true (rowIsBlank k (nth left k) (nth position k) rest wait age)
+
+module _ (n : ℕ) (left position rest wait age : List ℕ) where
+  -- The rows of the guests are not looked at.
+  pub past-none : true ≡ allTo (pastOk n left position rest wait age) n
+  past-none = sym (all-by _ n (λ k h. rw (lt-ltb k n h) refl))
+
+  -- The loop's turn: one row more is blank.
+  pub past-turn : (k : ℕ) {ok r : Bool} → n ≤ k → ok ≡ allTo (pastOk n left position rest wait age) k → r ≡ rowIsBlank k (nth left k) (nth position k) rest wait age
+      → (ok && r) ≡ allTo (pastOk n left position rest wait age) (k + 1)
+  past-turn k {ok} {r} h e f = all-turn _ k ok r e (rw (le-ltb k n h) f)
+
+module _ (d : Dispatcher) (k : ℕ) where
+  -- The test of a task, or of a place past the tasks of a guest, is the definition's.
+  task-is :
+      k < d .plan .count
+      → (t : ℕ)
+      → jobIn (d .rest) (d .wait) (d .age) (guestIn d k .run) (guestIn d k .every) (guestIn d k .charge) k (guestIn d k .tasks) t ≡ taskInRange d k t
+  unfolding taskInRange tasksIn
+  task-is h t = rw (lt-ltb k (d .plan .count) h) refl
+
+  -- A guest's test is the definition's.
+  server-is : k < d .plan .count → serverOk (guestIn d k .capacity) (guestIn d k .period) (nth (d .left) k) (nth (d .position) k) ≡ guestInRange d k
+  unfolding guestInRange
+  server-is h = rw (lt-ltb k (d .plan .count) h) refl
+
+  -- A guest in its ranges is one whose record and whose row are.
+  guest-row : k < d .plan .count
+      → guestIsOk (guestIn d k) k (nth (d .left) k) (nth (d .position) k) (d .rest) (d .wait) (d .age) ≡ ((ranges.guestOk (guestIn d k) && tasksOk (guestIn d k)) && rowOk d k)
+  unfolding guestIsOk rowOk
+  guest-row h = rw (server-is h, all-ext _ (taskInRange d k) 16 (λ t l. task-is h t)) refl
+
+  -- The test of a place of a row past the guests is the definition's.
+  pub past-task-is : d .plan .count ≤ k → (t : ℕ) → blankAt (d .rest) (d .wait) (d .age) k t ≡ taskInRange d k t
+  unfolding taskInRange tasksIn
+  past-task-is h t = rw (le-ltb k (d .plan .count) h, le-ltb t 0 (omega arith)) refl
+
+  -- The test of the two numbers of a row past the guests is the definition's.
+  past-server-is : d .plan .count ≤ k → noServer (nth (d .left) k) (nth (d .position) k) ≡ guestInRange d k
+  unfolding guestInRange
+  past-server-is h = rw (le-ltb k (d .plan .count) h) refl
+
+  -- A blank row is a row past the guests.
+  blank-row : d .plan .count ≤ k → rowIsBlank k (nth (d .left) k) (nth (d .position) k) (d .rest) (d .wait) (d .age) ≡ rowOk d k
+  unfolding rowIsBlank rowOk
+  blank-row h = rw (past-server-is h, all-ext _ (taskInRange d k) 16 (λ t l. past-task-is h t)) refl
+
+-- Tests that pass together agree.
+same : (a b : Bool) → (a ≡ true → b ≡ true) → (b ≡ true → a ≡ true) → a ≡ b
+same true b f g = sym (f refl)
+same false true f g = g refl
+same false false f g = refl
+
+module _ (d : Dispatcher) (some : 1 ≤ d .plan .count) (few : d .plan .count ≤ 8) where
+  -- Where no guest is refused, the plan is not.
+  numbers-none : ((k : ℕ) → k < d .plan .count → guestNumber (d .plan .guests) k ≡ 0) → planRefusal (d .plan) .number ≡ 0
+  numbers-none h = rw (← counted (d .plan) some few) (ap (λ (r : Refusal). r .number) (first-fine _ (d .plan .count) 0 (λ z l b. h z (omega arith))))
+
+  -- Where the plan is not refused, no guest is.
+  number-zero : planRefusal (d .plan) .number ≡ 0 → (k : ℕ) → k < d .plan .count → guestNumber (d .plan .guests) k ≡ 0
+  number-zero e k h = none-refused _ (d .plan .count) 0 (rw (← counted (d .plan) some few) at e) k (omega arith) (omega arith)
+
+  -- A guest that goes has no number.
+  goes-number : (k : ℕ) → k < d .plan .count → guestGoes d k ≡ true → (guestNumber (d .plan .guests) k ≡ 0) × (rowOk d k ≡ true)
+  unfolding guestNumber
+  goes-number k h e =
+      let f = and-left (newId (λ j. guestIn d j .id) k) _ e in
+      let g = sym (guest-row d k h) ∙ and-right (newId (λ j. guestIn d j .id) k) _ e in
+      let r = and-left (ranges.guestOk (guestIn d k) && tasksOk (guestIn d k)) (rowOk d k) g in
+      (sym (none (guestIn d k) _ (and-left (ranges.guestOk (guestIn d k)) _ r) f (and-right (ranges.guestOk (guestIn d k)) _ r)), and-right (ranges.guestOk (guestIn d k) && tasksOk (guestIn d k)) (rowOk d k) g)
+
+  -- A guest with no number, whose row is in its ranges, goes.
+  number-goes : (k : ℕ) → k < d .plan .count → guestNumber (d .plan .guests) k ≡ 0 → rowOk d k ≡ true → guestGoes d k ≡ true
+  unfolding guestNumber numberOf
+  number-goes k h e r =
+      let a = passed (ranges.guestOk (guestIn d k) && newId (λ j. guestIn d j .id) k) 4 _ (omega arith) e in
+      let b = passed (tasksOk (guestIn d k)) 6 [] (omega arith) (a .1) in
+      and-true (and-right (ranges.guestOk (guestIn d k)) _ (a .0)) (guest-row d k h ∙ and-true (and-true (and-left (ranges.guestOk (guestIn d k)) _ (a .0)) (b .0)) r)
+
+  -- whether row k, if past the state's guests, is blank
+  abbrev past : ℕ → Bool
+  past = pastOk (d .plan .count) (d .left) (d .position) (d .rest) (d .wait) (d .age)
+
+  -- A state that passes is in its ranges.
+  passes : (allTo (guestGoes d) (d .plan .count) && allTo past 8) ≡ true → stateOk d ≡ true
+  unfolding stateOk
+  passes e =
+      let each : (k : ℕ) → k < d .plan .count → guestGoes d k ≡ true = λ k h. all-at (guestGoes d) (d .plan .count) k h (and-left _ (allTo past 8) e) in
+      and-true
+      (eq-eqb (planRefusal (d .plan) .number) 0 (numbers-none (λ k h. goes-number k h (each k h) .0)))
+      (all-by (rowOk d) 8 (λ k h. row k h (each k) (all-at past 8 k h (and-right (allTo (guestGoes d) (d .plan .count)) _ e))))
+    where
+      row : (k : ℕ) → k < 8 → (k < d .plan .count → guestGoes d k ≡ true) → past k ≡ true → rowOk d k ≡ true
+      row k h g p =
+          elim (decLt k (d .plan .count)) [
+            | yes l ↦ goes-number k l (g l) .1
+            | no l ↦ sym (blank-row d k (omega arith)) ∙ (rw (le-ltb k (d .plan .count) (omega arith)) at p)
+          ]
+
+  -- A state in its ranges passes.
+  stands : stateOk d ≡ true → (allTo (guestGoes d) (d .plan .count) && allTo past 8) ≡ true
+  unfolding stateOk
+  stands e =
+      let n = eqb-true (planRefusal (d .plan) .number) 0 (and-left _ (allTo (rowOk d) 8) e) in
+      let rows : (k : ℕ) → k < 8 → rowOk d k ≡ true = λ k h. all-at (rowOk d) 8 k h (and-right (eqb (planRefusal (d .plan) .number) 0) _ e) in
+      and-true
+      (all-by (guestGoes d) (d .plan .count) (λ k h. number-goes k h (number-zero n k h) (rows k (omega arith))))
+      (all-by past 8 (λ k h. row k (rows k h)))
+    where
+      row : (k : ℕ) → rowOk d k ≡ true → past k ≡ true
+      row k r =
+          elim (decLt k (d .plan .count)) [
+            | yes l ↦ rw (lt-ltb k (d .plan .count) l) refl
+            | no l ↦ rw (le-ltb k (d .plan .count) (omega arith)) (blank-row d k (omega arith) ∙ r)
+          ]
+
+  -- Guests that go and blank rows are a state in its ranges.
+  pub pass-is : (allTo (guestGoes d) (d .plan .count) && allTo past 8) ≡ stateOk d
+  pass-is = same _ (stateOk d) passes stands
+
+-- A plan of no guest, or of more than 8, is outside its ranges.
+pub uncounted : (d : Dispatcher) (r : Checked) → r .ok ≡ false → refused 1 0 ≡ planRefusal (d .plan) → Examines d r
+unfolding stateOk
+uncounted d r e f =
+    let s : stateOk d ≡ false = rw (← f) refl in
+    record { okay = e ∙ sym s; columns = λ t. absurd (false≢true (sym s ∙ t)) }
+
+-- The pass over the guests and the rows past them examines the state.
+pub examined : (d : Dispatcher) {ok b : Bool} {c : Columns} → 1 ≤ d .plan .count → d .plan .count ≤ 8
+    → ok ≡ allTo (guestGoes d) (d .plan .count)
+    → ColumnsOf (d .plan .guests) (d .plan .count) c
+    → b ≡ allTo (pastOk (d .plan .count) (d .left) (d .position) (d .rest) (d .wait) (d .age)) 8
+    → Examines d (record { ok = ok && b; columns = c })
+examined d s f e u p = record { okay = rw (e, p) (pass-is d s f); columns = λ t. u }

@@ -1,0 +1,61 @@
+-- The plan is in order, so the places that were noted are small, and so are deadline and age.
+use native.Mathlib.Omega.{arith}
+use Rattle.dispatcher.proofs.Margin.{margin-kept}
+use Rattle.dispatcher.proofs.Answers.{fits, tell-finished}
+use Rattle.dispatcher.proofs.answering.finished.Statement.{statement}
+use Rattle.dispatcher.proofs.answering.finished.Tie as tie
+
+mul-g : tie.Need-mul-g
+mul-g c = omega (arith, fits (c .pre .1) .guest)
+
+element-copy-out-g : tie.Need-element-copy-out-g
+element-copy-out-g c = fits (c .pre .1) .guest
+
+mul-grown : tie.Need-mul-grown
+mul-grown c = omega (arith, fits (c .before .pre .1) .guest)
+
+add-grown : tie.Need-add-grown
+add-grown c = omega (arith, fits (c .before .pre .1) .guest, fits (c .before .pre .1) .task)
+
+mul-grown-2 : tie.Need-mul-grown-2
+mul-grown-2 c = omega (arith, fits (c .before .pre .1) .guest, fits (c .before .pre .1) .task)
+
+element-copy-out-grown : tie.Need-element-copy-out-grown
+element-copy-out-grown c = omega (arith, fits (c .before .pre .1) .guest, fits (c .before .pre .1) .task)
+
+add-t9 : tie.Need-add-t9
+add-t9 c = omega (arith, fits (c .before .before .pre .1) .task)
+
+cast-t18 : tie.Need-cast-t18
+cast-t18 c = omega (arith, fits (c .before .before .pre .1) .task)
+
+mul-margin : tie.Need-mul-margin
+mul-margin c = omega (arith, fits (c .before .before .pre .1) .task)
+
+element-copy-out-margin : tie.Need-element-copy-out-margin
+element-copy-out-margin c = fits (c .before .before .pre .1) .task
+
+margin-requires : tie.Need-margin-requires
+margin-requires c κs = (fits (c .before .before .before .pre .1) .deadline, fits (c .before .before .before .pre .1) .ages)
+
+returns : tie.Need-returns
+returns c =
+    let m = fits (c .before .before .before .before .pre .1) in
+    λ d s. tell-finished s _ (margin-kept _ _ _ (m .deadline) (m .ages) (c .margin .ensures))
+
+pub finished-spec : {M : Type 1} → statement M
+finished-spec =
+    tie.close
+    (tie.spec
+    mul-g
+    element-copy-out-g
+    mul-grown
+    add-grown
+    mul-grown-2
+    element-copy-out-grown
+    add-t9
+    cast-t18
+    mul-margin
+    element-copy-out-margin
+    margin-requires
+    returns)

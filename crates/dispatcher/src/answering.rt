@@ -1,0 +1,52 @@
+// The answer of a tick, made from what its step noted.
+ghost use mathlib.Core.Path.{_≡_};
+ghost use Prim.Native.Nat.{_≤_};
+ghost use Rattle.dispatcher.specs.declared.Dispatcher.{Dispatcher};
+ghost use Rattle.dispatcher.specs.Answer.{marginOf, answer};
+ghost use Rattle.dispatcher.specs.Lent.{Telling, Ending};
+use crate::Answer;
+use crate::Turn;
+use plan::Plan;
+
+// Who had a tick that finished no job, by the ids of the n guests.
+pub fn unfinished(ids: &[u32; 16], n: usize, turn: Turn) -> Answer
+    requires { ⌜ ((d : Dispatcher) × Telling d (now ids) n turn) ⌝ }
+    ensures { λ r. ⌜ ((d : Dispatcher) → Telling d (now (ids .entry)) n turn → r ≡ answer d) ⌝ }
+{
+    let k = turn.guest;
+    let t = turn.task;
+    let had = turn.had;
+    if n <= k {
+        return Answer::Nobody;
+    }
+    let id = ids[k];
+    if had < 1 {
+        return Answer::Idled(id);
+    }
+    Answer::Worked(id, (t + 1) as u32)
+}
+
+// The deadline less the age: both are at most 1,000,000, so the difference is exact.
+fn margin(deadline: u32, age: u32) -> i32
+    requires { ⌜ (deadline ≤ 1000000) × (age ≤ 1000000) ⌝ }
+    ensures { λ r. ⌜ r ≡ marginOf deadline age ⌝ }
+{
+    (deadline as i32) - (age as i32)
+}
+
+// Who had a tick that finished a job, with the job's age and margin.
+pub fn finished(plan: Plan, turn: Turn, age: &[u32; 128]) -> Answer
+    requires { ⌜ ((d : Dispatcher) × Ending d plan turn (now age)) ⌝ }
+    ensures { λ r. ⌜ ((d : Dispatcher) → Ending d plan turn (now (age .entry)) → r ≡ answer d) ⌝ }
+{
+    let k = turn.guest;
+    let t = turn.task;
+    let g = plan.guests[k];
+    let grown = age[k * 16 + t];
+    Answer::Finished {
+        guest: g.id,
+        task: (t + 1) as u32,
+        age: grown,
+        margin: margin(g.deadline[t], grown),
+    }
+}

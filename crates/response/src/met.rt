@@ -1,0 +1,52 @@
+// Whether the tasks of a guest are met, off lent columns.
+ghost use mathlib.Core.Path.{_≡_};
+ghost use Prim.Native.Nat.{ℕ, _≤_, _<_};
+ghost use Rattle.lists.specs.Places.{nth};
+ghost use Rattle.response.specs.Columns.{guestsTake, columnSystem, metUnder};
+ghost use Rattle.response.specs.Ready.{Ready};
+use crate::task::task_response;
+use lists::is_at;
+
+// Whether all tasks of a fitted guest are met.
+pub fn all_met(
+    capacities: &[u32; 16],
+    periods: &[u32; 16],
+    k: usize,
+    capacity: u32,
+    period: u32,
+    run: &[u32; 16],
+    every: &[u32; 16],
+    deadline: &[u32; 16],
+    tasks: usize,
+) -> bool
+    requires { ⌜ (k ≤ 16) × (tasks ≤ 16) ⌝ }
+    requires { ⌜
+        ((i : ℕ) → i < tasks
+        → Ready (columnSystem (guestsTake (now capacities) (now periods) k) capacity period (now run) (now every)) i)
+        ⌝ }
+    ensures { λ r. ⌜
+        r
+        ≡ metUnder (columnSystem (guestsTake (now (capacities .entry)) (now (periods .entry)) k) capacity period
+        (now (run .entry)) (now (every .entry)))
+        (nth (now (deadline .entry))) tasks
+        ⌝ }
+{
+    let mut i: usize = 0;
+    while i < tasks {
+        if !is_at(task_response(
+            capacities,
+            periods,
+            k,
+            capacity,
+            period,
+            run,
+            every,
+            i,
+            deadline[i],
+        )) {
+            return false;
+        }
+        i += 1;
+    }
+    true
+}
