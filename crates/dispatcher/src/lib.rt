@@ -8,11 +8,10 @@ mod ticking;
 mod validating;
 
 // Inner: calls that are built above this crate check a state by it.
-pub use validating::examine;
-
 use plan::Columns;
 use plan::Plan;
 use plan::Refusal;
+pub use validating::examine;
 
 // The plan's records; for each guest the capacity left and the position in its period;
 // for task t of guest g, at place 16 g + t, the run left, the wait and the age.

@@ -11,7 +11,7 @@ use Rattle.dispatcher.specs.declared.Dispatcher.{Dispatcher}
 use Rattle.dispatcher.specs.Release.{release}
 use Rattle.dispatcher.specs.Valid.{stateOk}
 use Rattle.verdict.specs.Quoted.{Quoted}
-use Rattle.history.specs.Calls.{Call, releasing, ticking, start, after, play, released, times, ticksOf, ticksIn, Takes, Throughout, NoneTaken}
+use Rattle.history.specs.Calls.{Call, releasing, ticking, start, after, play, released, times, ticksOf, ticksIn, Throughout, NoneTaken, EachRelease}
 use Rattle.history.specs.Named.{everyBy}
 use Rattle.verdict_laws.proofs.Tasks.{quoted-means}
 use Rattle.history.proofs.Ticks.{tick-one}
@@ -23,9 +23,9 @@ use Rattle.history.proofs.NeverTurnedAway.{next-taken}
 
 -- Calls of a tick release nothing.
 none-in-times : (guest task n : ℕ) (d : Dispatcher) → NoneTaken guest task (times n) d
-unfolding times Throughout Takes
+unfolding times Throughout EachRelease
 none-in-times guest task zero d = tt
-none-in-times guest task (suc n) d = (λ z. z, none-in-times guest task n (after ticking d))
+none-in-times guest task (suc n) d = (tt, none-in-times guest task n (after ticking d))
 
 -- In a state that is not refused n calls of a tick do n ticks.
 ticks-in-times : (n : ℕ) (d : Dispatcher) → stateOk d ≡ true → ticksIn (times n) d ≡ n

@@ -32,6 +32,8 @@ use Rattle.dispatcher.specs.Tick.{lessAt, refilled, holder, isHeld, leftAfter, 
 use Rattle.dispatcher.specs.Answer.{marginOf, answerBy, answer, finishes}
 use Rattle.dispatcher.specs.Run.{runFrom, runFor}
 use Rattle.dispatcher.specs.Entries.{tickedBy, tick, ranBy, run}
+use Rattle.sheet.specs.Sheet.{stateAfter, answerTo, sheetNumber, sheetBy, sheet, answeredBy, answered}
+use Rattle.lists.specs.Table.{table}
 use Rattle.lists.specs.Places.{upTo}
 use Rattle.results.specs.Numbers.{Numbers}
 use Rattle.history.specs.Calls.{running, start, after, play, times}
@@ -67,13 +69,15 @@ pub record Computed : Type 0 where
 -- Each part is computed by the definitions; what case 8 has after 49 and 50 ticks follows from the promises, without
 -- 99 ticks computed.
 pub computed : Computed
-unfolding allTo unless refusal least firstFrom sumTo up asked solve guestSide guestUnder load rightAt right responseOf taskUnder chargedRun orElse firstRefused newId numberOf
-    guestNumber countedBy planRefusal placeOf headOk taskOk tasksOk jitter interference guestResponse
-    fitted fittedTo gap taskRight responseTo limit taskResponse hasGuest hasTask recordsThen refusedBy
-    guestVerdict quotedBy taskSays taskVerdict met allMet accepted acceptSays acceptance withCapacity works smallest
-    smallestCapacity upTo tasksIn guestInRange taskInRange rowOk stateOk idle startedBy fresh taken releaseNumber
-    releasedBy release lessAt refilled holder isHeld leftAfter worker isWorked restAfter ageAfter waitAfter
-    positionAfter next marginOf answerBy answer finishes runFrom runFor ranBy run tickedBy tick after play times
+unfolding allTo unless refusal least firstFrom sumTo up asked solve guestSide guestUnder load rightAt right
+    responseOf taskUnder chargedRun orElse firstRefused newId numberOf guestNumber countedBy planRefusal placeOf
+    headOk taskOk tasksOk jitter interference guestResponse fitted fittedTo gap taskRight responseTo limit
+    taskResponse hasGuest hasTask recordsThen refusedBy guestVerdict quotedBy taskSays taskVerdict met allMet
+    accepted acceptSays acceptance withCapacity works smallest smallestCapacity upTo tasksIn guestInRange
+    taskInRange rowOk stateOk idle startedBy fresh taken releaseNumber releasedBy release lessAt refilled holder
+    isHeld leftAfter worker isWorked restAfter ageAfter waitAfter positionAfter next marginOf answerBy answer
+    finishes runFrom runFor ranBy run tickedBy tick after play times table stateAfter answerTo sheetNumber
+    sheetBy sheet answeredBy answered
 computed = record {
   numbers = record {
     alone = refl;
@@ -107,6 +111,7 @@ computed = record {
     released-at-14 = refl;
     again-after-49 = early-again A 9 1 refl (running 14 ∷ []) refl 49 (omega arith);
     again-after-50 = due-again A 9 1 36 refl (running 14 ∷ []) refl 50 (omega arith);
+    sheet-answers = refl;
   };
   there-A = record { order = refl; place = omega arith; named = refl };
   there-A35 = record { order = refl; place = omega arith; named = refl };

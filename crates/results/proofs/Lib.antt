@@ -6,6 +6,7 @@ pub mod PlanFiles
 pub mod Verdicts
 pub mod Dispatcher
 pub mod Word
+pub mod Sheets
 pub mod Computed
 pub mod Numbers
 pub mod Instances

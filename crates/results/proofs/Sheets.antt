@@ -5,9 +5,9 @@ use mathlib.Core.Bool.{true}
 use mathlib.Core.List.{List}
 use Prim.Native.Nat.{ℕ, _≤_, _<_}
 use lib.ListN.{length}
+use Rattle.lists.specs.Exactly.{_exactlyWhen_}
 use Rattle.lists.specs.Places.{nth}
 use Rattle.plan.specs.declared.Plan.{Plan}
-use Rattle.planfile_laws.specs.Exact.{_exactlyWhen_}
 use Rattle.verdict.specs.Quoted.{Quoted}
 use Rattle.dispatcher.specs.declared.Dispatcher.{Dispatcher}
 use Rattle.dispatcher.specs.Release.{release}

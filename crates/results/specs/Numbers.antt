@@ -14,6 +14,7 @@ use Rattle.capacity.specs.Answer.{smallestCapacity}
 use Rattle.dispatcher.specs.declared.Answer.the-variants.{Finished}
 use Rattle.dispatcher.specs.Release.{release}
 use Rattle.dispatcher.specs.Entries.{run}
+use Rattle.sheet.specs.Sheet.{answered}
 use Rattle.history.specs.Calls.{running, start, play, released, times}
 
 -- The list, case by case.
@@ -59,3 +60,5 @@ pub record Numbers : Type 0 where
   pub released-at-14 : run (released A 9 1 (running 14 ∷ [])) 50 .answer ≡ Finished 9 1 30 (pos 20)
   pub again-after-49 : release (play (times 49) (released A 9 1 (running 14 ∷ []))) 9 1 .refusal .number ≡ 9
   pub again-after-50 : release (play (times 50) (released A 9 1 (running 14 ∷ []))) 9 1 .refusal .number ≡ 0
+  -- P5: A sheet on plan A, fresh: guest 9's two tasks, its second again, guest 8, which is not there, and a guest part beyond 32 bits, with a place to spare.
+  pub sheet-answers : answered (start A) (589826 ∷ 589825 ∷ 589826 ∷ 524289 ∷ 281474977300481 ∷ []) (5 ∷ 5 ∷ 5 ∷ 5 ∷ 5 ∷ 5 ∷ []) ≡ 0 ∷ 0 ∷ 9 ∷ 7 ∷ 7 ∷ 5 ∷ []

@@ -27,7 +27,7 @@ module _ (d : Dispatcher) (pairs before : List ℕ) where
   behind : (l : List ℕ) (i : ℕ) → length l ≤ i → nth (l ++ drop (length l) before) i ≡ nth before i
   behind l i h =
       let e : i ≡ length l + (i - length l) = omega arith in
-      rw e (getD-append-add l (drop (length l) before) (i - length l) 0 ∙ getD-drop before (length l) (i - length l) 0)
+      rw e (getD-append-add l (drop (length l) before) (i - length l) 0 ∙ getD-drop (length l) before (i - length l) 0)
 
   past-by : (n i : ℕ) → length pairs ≤ i → nth (answeredBy n d pairs before) i ≡ nth before i
   unfolding answeredBy

@@ -18,13 +18,13 @@ cast-n c = search needs
 
 jobs-of-requires : tie.Need-jobs-of-requires
 jobs-of-requires c κs =
-    let e = c .before .before .before in
+    let e = c .before .before .before .before in
     let a = e .before .before .before .before .before .before .before .before .before .before .before .before .before .before .before .args in
     plan-fine (a .state) (a .pairs .now) (a .answers .now) (e .before .before .examine .ensures (a .state .usage)) (e .before .whole-number .ensures) (e .if1 .left)
 
 take-all-requires : tie.Need-take-all-requires
 take-all-requires c κs =
-    let e = c .before .before .before .before .before .before .before .before .before .before .before .before .before .before in
+    let e = c .before .before .before .before .before .before .before .before .before .before .before .before .before .before .before in
     let a = e .before .before .before .before .before .before .before .before .before .before .before .before .before .before .before .args in
     let E = e .before .before .examine .ensures (a .state .usage) in
     (small (a .state) (a .pairs .now) (a .answers .now) E (e .before .whole-number .ensures) (e .if1 .left), room-enough (a .state) (a .pairs .now) (a .answers .now) E (e .before .whole-number .ensures) (e .if1 .left))
@@ -35,7 +35,7 @@ same-length c = search needs
 returns-2 : tie.Need-returns-2
 returns-2 c =
     let t = c .before .before in
-    let e = t .before .before .before .before .before .before .before .before .before .before .before .before .before .before .before in
+    let e = t .before .before .before .before .before .before .before .before .before .before .before .before .before .before .before .before in
     let a = e .before .before .before .before .before .before .before .before .before .before .before .before .before .before .before .args in
     let E = e .before .before .examine .ensures (a .state .usage) in
     let N = e .before .whole-number .ensures in
