@@ -34,11 +34,13 @@ margin-late deadline (suc age) h = ap (λ (b : Bool). cond b (negsuc (suc age - 
 pub margin-falls : (deadline age R : ℕ) → age ≤ R → marginOf deadline R ≤ℤ marginOf deadline age
 margin-falls deadline age R h =
     elim (decLe R deadline) [
-      | yes l ↦ rw (margin-left deadline R l, margin-left deadline age (omega arith)) (record { le = le→leb (deadline - R) (deadline - age) (omega arith) })
+      | yes l ↦ rw (margin-left deadline R l, margin-left deadline age (omega arith))
+          (record { le = le→leb (deadline - R) (deadline - age) (omega arith) })
       | no l ↦
           elim (decLe age deadline) [
             | yes m ↦ rw (margin-late deadline R (omega arith), margin-left deadline age m) (record { le = tt })
-            | no m ↦ rw (margin-late deadline R (omega arith), margin-late deadline age (omega arith)) (record { le = le→leb (age - suc deadline) (R - suc deadline) (omega arith) })
+            | no m ↦ rw (margin-late deadline R (omega arith), margin-late deadline age (omega arith))
+                (record { le = le→leb (age - suc deadline) (R - suc deadline) (omega arith) })
           ]
     ]
 

@@ -129,12 +129,18 @@ module _ (d : Dispatcher) where
   usage-nobody h = rw (not-held d h) refl
 
   -- A tick that a task has is counted for its guest.
-  pub usage-worked : holder d < d .plan .count → worker d < guestIn d (holder d) .tasks → usageAfter d ≡ oneMore (d .usage) (holder d)
+  pub usage-worked :
+      holder d < d .plan .count
+      → worker d < guestIn d (holder d) .tasks
+      → usageAfter d ≡ oneMore (d .usage) (holder d)
   unfolding usageAfter tallied
   usage-worked h w = rw (is-held d h, is-worked d h w) refl
 
   -- A tick that a guest idles away is counted for it, and among those that it idled away.
-  pub usage-idled : holder d < d .plan .count → guestIn d (holder d) .tasks ≤ worker d → usageAfter d ≡ oneMore (oneMore (d .usage) (holder d)) (idledAt (holder d))
+  pub usage-idled :
+      holder d < d .plan .count
+      → guestIn d (holder d) .tasks ≤ worker d
+      → usageAfter d ≡ oneMore (oneMore (d .usage) (holder d)) (idledAt (holder d))
   unfolding usageAfter tallied
   usage-idled h w = rw (is-held d h, not-worked d w) refl
 

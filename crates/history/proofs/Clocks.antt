@@ -38,12 +38,17 @@ module _ (p : Plan) (d : Dispatcher) (D : Sound p d) (id number : ℕ) (taken-it
   pub new-job : after (releasing id number) d ≡ taken d (placeOf p id) (number - 1)
   unfolding after
   new-job =
-      ap (λ (n : ℕ). release d id n .state) (free-task p d D id number taken-it .number)
-      ∙ release-free d id (placeOf p id) (number - 1) (subst (λ (z : ℕ). Free d id z (placeOf p id) (number - 1)) (free-task p d D id number taken-it .number) (free-task p d D id number taken-it))
+      let F = free-task p d D id number taken-it in
+      ap (λ (n : ℕ). release d id n .state) (F .number)
+      ∙ release-free d id (placeOf p id) (number - 1) (subst (λ (z : ℕ). Free d id z (placeOf p id) (number - 1)) (F .number) F)
 
   -- No tick is done since a taken release at the moment that it is taken.
   pub since-new : Since p (placeOf p id) (number - 1) 0 (after (releasing id number) d)
-  since-new = rw new-job (since-taken p (placeOf p id) (number - 1) (guest-in p d D id number taken-it) (task-in p d D id number taken-it) d D (free-task p d D id number taken-it .due) (free-task p d D id number taken-it .free))
+  since-new =
+      let F = free-task p d D id number taken-it in
+      rw new-job
+      (since-taken p (placeOf p id) (number - 1) (guest-in p d D id number taken-it) (task-in p d D id number taken-it) d D
+      (F .due) (F .free))
 
   -- After a history without another one taken, the ticks since are the history's.
   pub since-then :
@@ -52,7 +57,8 @@ module _ (p : Plan) (d : Dispatcher) (D : Sound p d) (id number : ℕ) (taken-it
       → Since p (placeOf p id) (number - 1) (ticksIn ds (after (releasing id number) d)) (play ds (after (releasing id number) d))
   since-then ds none =
       rw zero-add at
-      (since-play p (placeOf p id) (number - 1) (guest-in p d D id number taken-it) (task-in p d D id number taken-it) ds 0 (after (releasing id number) d) (sound-after (releasing id number) d D)
+      (since-play p (placeOf p id) (number - 1) (guest-in p d D id number taken-it) (task-in p d D id number taken-it) ds 0
+      (after (releasing id number) d) (sound-after (releasing id number) d D)
       (subst (λ (z : ℕ). NoneTaken z (suc (number - 1)) ds (after (releasing id number) d)) (sym id-is)
       (subst (λ (z : ℕ). NoneTaken id z ds (after (releasing id number) d)) (free-task p d D id number taken-it .number) none))
       since-new)
