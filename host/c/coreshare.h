@@ -6,7 +6,7 @@
  * - Records and states cross by value, and bytes are lent for the call alone: the library keeps no pointer and
  *   no state of its own, so calls from several threads need no lock.
  * - No call asks anything of its input: any value of any field is taken, and what is out of range is
- *   refused by its number. Number 0 is no refusal; the place of a refusal 7 to 14 is 0.
+ *   refused by its number. Number 0 is no refusal; the place of a refusal 7 to 15 is 0.
  * - A pointer must be good for its length, for the whole call, and not be NULL even where the length is 0. The library
  *   does not test that, and promises nothing where it does not hold.
  * - A CsGuest is 212 bytes, a CsPlan 1,700, a CsDispatcher 3,440 and aligned to 8. They cross on the stack, there and
