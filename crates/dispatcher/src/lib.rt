@@ -7,11 +7,10 @@ mod stepping;
 mod ticking;
 mod validating;
 
-// Inner: calls that are built above this crate check a state by it.
 use plan::Columns;
 use plan::Plan;
 use plan::Refusal;
-pub use validating::examine;
+pub use validating::examine; // Inner: calls built above this crate check a state by it.
 
 // The plan's records; for each guest the capacity left and the position in its period;
 // for task t of guest g, at place 16 g + t, the run left, the wait and the age.
