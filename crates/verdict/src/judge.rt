@@ -1,14 +1,10 @@
 // Verdicts off lent columns and one guest's record at a time.
 ghost use mathlib.Core.Path.{_≡_};
 ghost use mathlib.Core.Bool.{true};
-ghost use mathlib.Core.List.{[], _∷_};
-ghost use Prim.Native.Nat.{ℕ, _+_, _-_, _≤_, _<_};
+ghost use Prim.Native.Nat.{ℕ, _+_, _≤_, _<_};
 ghost use lib.Dec.{leb};
 ghost use Rattle.lists.specs.All.{allTo};
-ghost use Rattle.lists.specs.Refusals.{refusal, _orRefuse_};
 ghost use Rattle.plan.specs.Records.{guestAt, deadlineOf};
-ghost use Rattle.plan.specs.Ranges.{within};
-ghost use Rattle.plan.specs.First.{refusedBy};
 ghost use Rattle.verdict.specs.Verdict.{guestSays, quotedBy, taskSays};
 ghost use Rattle.equation.specs.System.{taskUnder};
 ghost use Rattle.response.specs.Task.{systemOf, limit};
@@ -57,7 +53,7 @@ fn met_or_not(f: Found, deadline: u32) -> TaskVerdict
 }
 
 // The verdict of task i of the guest g at place k.
-fn judge_task(
+pub fn judge_task(
     g: Guest,
     capacities: &[u32; 16],
     periods: &[u32; 16],
@@ -90,32 +86,6 @@ fn judge_task(
         most,
     );
     met_or_not(f, deadline[i])
-}
-
-// The verdict of task number `task`, from 1, of the guest g at place k.
-pub fn number_task(
-    g: Guest,
-    capacities: &[u32; 16],
-    periods: &[u32; 16],
-    k: usize,
-    task: u32,
-) -> TaskVerdict
-    requires { ⌜ Stands g (now capacities) (now periods) k ⌝ }
-    ensures { λ r. ⌜
-        r
-        ≡ refusedBy TaskVerdict.Refused (refusal (within 1 (g .tasks) task orRefuse 8 ∷ [])) 0
-        (taskSays (allTo (fittedAt (now (capacities .entry)) (now (periods .entry))) (k + 1)) (deadlineOf g (task - 1))
-        (taskUnder (systemOf (guestsTake (now (capacities .entry)) (now (periods .entry)) k) g) (task - 1) (limit g (task - 1))))
-        ⌝ }
-{
-    if task < 1 {
-        return TaskVerdict::Refused(8, 0);
-    }
-    let tasks = g.tasks;
-    if tasks < task {
-        return TaskVerdict::Refused(8, 0);
-    }
-    judge_task(g, capacities, periods, k, (task - 1) as usize)
 }
 
 // Whether the guest at place k is fitted and all its tasks are met.
