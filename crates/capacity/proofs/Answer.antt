@@ -14,10 +14,11 @@ use Rattle.plan.specs.Records.{guestAt}
 use Rattle.plan.specs.declared.Columns.{Columns}
 use Rattle.plan.specs.declared.Plan.{Plan}
 use Rattle.plan.specs.declared.Refusal.{Refusal}
-use Rattle.response.specs.Columns.{guestsTake, fittedAt, acceptedUnder}
+use Rattle.response.specs.Columns.{guestsTake, fittedAt}
 use Rattle.capacity.specs.declared.CapacityAnswer.{CapacityAnswer}
 use Rattle.capacity.specs.declared.CapacityAnswer.the-variants.{Refused}
-use Rattle.capacity.specs.Capacity.{atCapacity, smallest}
+use Rattle.capacity.specs.Capacity.{smallest}
+use Rattle.capacity.specs.Search.{worksAt}
 use Rattle.capacity.specs.Answer.{capacitySays, smallestCapacity}
 use Rattle.verdict.proofs.Verdict.{in-order, no-test, place-found, guest-there}
 use Rattle.capacity.proofs.Capacity.{smallest-is}
@@ -25,7 +26,7 @@ use Rattle.capacity.proofs.Capacity.{smallest-is}
 -- records in order, and the guest is there: the answer of the search
 pub capacity-judged : (p : Plan) {r : Refusal} (e : r ≡ planRefusal p) (h : r .number ≤ 0) (c : Columns) (f : ColumnsOf (p .guests) c) (id : ℕ) {k : ℕ}
     (s : k ≡ firstFrom (λ j. eqb (nth (c .ids) j) id) (p .count) 0) → k < p .count → {x : Found} {v : CapacityAnswer}
-    → x ≡ least (λ a. allTo (fittedAt (c .capacities) (c .periods)) k && acceptedUnder (guestsTake (c .capacities) (c .periods) k) (atCapacity (guestAt (p .guests) k) a)) (guestAt (p .guests) k .period) 1
+    → x ≡ least (λ a. allTo (fittedAt (c .capacities) (c .periods)) k && worksAt (guestsTake (c .capacities) (c .periods) k) (guestAt (p .guests) k) a) (guestAt (p .guests) k .period) 1
     → v ≡ capacitySays x → v ≡ smallestCapacity p id
 unfolding smallestCapacity
 capacity-judged p e h c f id {k} s l a q =

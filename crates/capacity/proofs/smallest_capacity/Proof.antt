@@ -3,7 +3,7 @@ use native.Mathlib.Omega.{arith}
 use borrow.Author.Needs.{needs}
 use Rattle.capacity.specs.Answer.{smallestCapacity}
 use Rattle.capacity.specs.declared.CapacityAnswer.the-variants.{Refused}
-use Rattle.response.proofs.ReadyLaws.{stands-at}
+use Rattle.response.proofs.ReadyLaws.{seated-at}
 use Rattle.verdict.proofs.Verdict.{records-refuse, in-order, guest-missing}
 use Rattle.capacity.proofs.Answer.{capacity-judged}
 use Rattle.capacity.proofs.smallest_capacity.Statement.{statement}
@@ -49,7 +49,7 @@ smallest-at-requires c κs =
     let columns = found .before .before .before .before .before .before .before in
     let passed = columns .before in
     let order = in-order _ (passed .before .before .check .ensures) (passed .if1 .left) in
-    (stands-at _ _ (columns .columns-of .ensures) order _ (found .if2 .left), omega (arith, order .guests _ (found .if2 .left) .head .short))
+    (seated-at _ _ (columns .columns-of .ensures) order _ (found .if2 .left), omega (arith, order .guests _ (found .if2 .left) .head .short))
 
 capacity-says-requires : tie.Need-capacity-says-requires
 capacity-says-requires c κs = search needs

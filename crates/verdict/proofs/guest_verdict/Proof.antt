@@ -3,7 +3,7 @@ use native.Mathlib.Omega.{arith}
 use borrow.Author.Needs.{needs}
 use Rattle.verdict.specs.Verdict.{guestVerdict}
 use Rattle.verdict.specs.declared.GuestVerdict.the-variants.{Refused}
-use Rattle.response.proofs.ReadyLaws.{stands-at}
+use Rattle.response.proofs.ReadyLaws.{seated-at}
 use Rattle.verdict.proofs.Verdict.{records-refuse, in-order, guest-missing, guest-judged}
 use Rattle.verdict.proofs.guest_verdict.Statement.{statement}
 use Rattle.verdict.proofs.guest_verdict.Tie as tie
@@ -39,7 +39,7 @@ response-at-requires c κs =
     let columns = found .before .before .before .before .before .before .before in
     let passed = columns .before in
     let order = in-order _ (passed .before .before .check .ensures) (passed .if1 .left) in
-    let s = stands-at _ _ (columns .columns-of .ensures) order _ (found .if2 .left) in
+    let s = seated-at _ _ (columns .columns-of .ensures) order _ (found .if2 .left) in
     (omega (arith, s .place), s .ranged _ (omega arith))
 
 guest-says-requires : tie.Need-guest-says-requires

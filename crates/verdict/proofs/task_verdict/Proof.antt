@@ -3,7 +3,7 @@ use native.Mathlib.Omega.{arith}
 use borrow.Author.Needs.{needs}
 use Rattle.verdict.specs.Verdict.{taskVerdict}
 use Rattle.verdict.specs.declared.TaskVerdict.the-variants.{Refused}
-use Rattle.response.proofs.ReadyLaws.{stands-at}
+use Rattle.response.proofs.ReadyLaws.{seated-at}
 use Rattle.verdict.proofs.Verdict.{records-refuse, in-order, guest-missing, task-judged}
 use Rattle.verdict.proofs.task_verdict.Statement.{statement}
 use Rattle.verdict.proofs.task_verdict.Tie as tie
@@ -47,7 +47,7 @@ number-task-requires c κs =
     let found = c .before .before .before .before in
     let columns = found .before .before .before .before .before .before .before in
     let passed = columns .before in
-    stands-at _ _ (columns .columns-of .ensures) (in-order _ (passed .before .before .check .ensures) (passed .if1 .left)) _ (found .if2 .left)
+    seated-at _ _ (columns .columns-of .ensures) (in-order _ (passed .before .before .check .ensures) (passed .if1 .left)) _ (found .if2 .left)
 
 returns-3 : tie.Need-returns-3
 returns-3 c =
