@@ -9,7 +9,7 @@ ghost use Rattle.verdict.specs.Verdict.{guestSays, quotedBy, taskSays};
 ghost use Rattle.equation.specs.System.{taskUnder};
 ghost use Rattle.response.specs.Task.{systemOf, limit};
 ghost use Rattle.response.specs.Columns.{guestsTake, fittedAt, acceptedUnder};
-ghost use Rattle.response.specs.Ready.{Stands};
+ghost use Rattle.response.specs.Ready.{Seated};
 use crate::GuestVerdict;
 use crate::TaskVerdict;
 use lists::Found;
@@ -18,8 +18,9 @@ use plan::Plan;
 use response::Trial;
 use response::all_fitted;
 use response::charged_of;
+use response::guest_response;
 use response::task_response;
-use response::try_capacity;
+use response::try_guest;
 
 // The verdict of a guest's response.
 pub fn guest_says(f: Found) -> GuestVerdict
@@ -60,7 +61,7 @@ pub fn judge_task(
     k: usize,
     i: usize,
 ) -> TaskVerdict
-    requires { ⌜ Stands g (now capacities) (now periods) k × (i < g .tasks) ⌝ }
+    requires { ⌜ Seated g (now capacities) (now periods) k × (i < g .tasks) ⌝ }
     ensures { λ r. ⌜
         r
         ≡ taskSays (allTo (fittedAt (now (capacities .entry)) (now (periods .entry))) (k + 1)) (deadlineOf g i)
@@ -90,24 +91,11 @@ pub fn judge_task(
 
 // Whether the guest at place k is fitted and all its tasks are met.
 fn guest_accepted(g: Guest, capacities: &[u32; 16], periods: &[u32; 16], k: usize) -> bool
-    requires { ⌜ Stands g (now capacities) (now periods) k ⌝ }
+    requires { ⌜ Seated g (now capacities) (now periods) k ⌝ }
     ensures { λ r. ⌜ r ≡ acceptedUnder (guestsTake (now (capacities .entry)) (now (periods .entry)) k) g ⌝ }
 {
-    let every = g.every;
-    let deadline = g.deadline;
-    let n = g.tasks as usize;
-    let run = charged_of(g);
-    match try_capacity(
-        capacities,
-        periods,
-        k,
-        g.capacity,
-        g.period,
-        &run,
-        &every,
-        &deadline,
-        n,
-    ) {
+    let f = guest_response(capacities, periods, k, g.capacity, g.period);
+    match try_guest(f, g, capacities, periods, k) {
         Trial::Works => true,
         Trial::Unmet => false,
         Trial::Unfit => false,
@@ -117,7 +105,7 @@ fn guest_accepted(g: Guest, capacities: &[u32; 16], periods: &[u32; 16], k: usiz
 // Whether all guests are fitted and all tasks met, one guest after the other.
 pub fn all_accepted(plan: Plan, capacities: &[u32; 16], periods: &[u32; 16]) -> bool
     requires { ⌜
-        ((k : ℕ) → k < plan .count → Stands (guestAt (plan .guests) k) (now capacities) (now periods) k) × (plan .count ≤ 8)
+        ((k : ℕ) → k < plan .count → Seated (guestAt (plan .guests) k) (now capacities) (now periods) k) × (plan .count ≤ 8)
         ⌝ }
     ensures { λ r. ⌜
         r

@@ -4,7 +4,7 @@ use borrow.Author.Needs.{needs}
 use Rattle.capacity.specs.Answer.{smallestCapacity}
 use Rattle.capacity.specs.declared.CapacityAnswer.the-variants.{Refused}
 use Rattle.plan.proofs.LookUp.{lent, lent-few, look-refuses, look-order, look-here, look-few}
-use Rattle.response.proofs.ReadyLaws.{stands-at}
+use Rattle.response.proofs.ReadyLaws.{seated-at}
 use Rattle.capacity.proofs.Answer.{capacity-judged}
 use Rattle.capacity.proofs.smallest_capacity.Statement.{statement}
 use Rattle.capacity.proofs.smallest_capacity.Tie as tie
@@ -50,7 +50,7 @@ smallest-at-requires c κs =
     let l = look .look-up .ensures _ (lent (columns .before .check .ensures) (columns .columns-of .ensures)) in
     let h = found .if1 .left in
     let order = look-order l h in
-    (stands-at _ _ (columns .columns-of .ensures) order _ (look-here l h), omega (arith, order .guests _ (look-here l h) .head .short))
+    (seated-at _ _ (columns .columns-of .ensures) order _ (look-here l h), omega (arith, order .guests _ (look-here l h) .head .short))
 
 capacity-says-requires : tie.Need-capacity-says-requires
 capacity-says-requires c κs = search needs

@@ -3,7 +3,7 @@ use borrow.Author.Needs.{needs}
 use Rattle.verdict.specs.Verdict.{acceptSays}
 use Rattle.plan.proofs.LookUp.{check-passes}
 use Rattle.plan.proofs.Order.{plan-in}
-use Rattle.response.proofs.ReadyLaws.{stands-at}
+use Rattle.response.proofs.ReadyLaws.{seated-at}
 use Rattle.verdict.proofs.Verdict.{plan-accepted, plan-refuses}
 use Rattle.verdict.proofs.accept.Statement.{statement}
 use Rattle.verdict.proofs.accept.Tie as tie
@@ -22,7 +22,7 @@ all-accepted-requires c κs =
     let columns = c .before .before .before .before in
     let passed = columns .before in
     let order = plan-in _ (check-passes _ (passed .before .before .check .ensures) (passed .if1 .left)) in
-    (stands-at _ _ (columns .columns-of .ensures) order, order .few)
+    (seated-at _ _ (columns .columns-of .ensures) order, order .few)
 
 returns-2 : tie.Need-returns-2
 unfolding acceptSays

@@ -4,7 +4,7 @@ use borrow.Author.Needs.{needs}
 use Rattle.verdict.specs.Verdict.{guestVerdict}
 use Rattle.verdict.specs.declared.GuestVerdict.the-variants.{Refused}
 use Rattle.plan.proofs.LookUp.{lent, lent-few, look-refuses, look-order, look-here}
-use Rattle.response.proofs.ReadyLaws.{stands-at}
+use Rattle.response.proofs.ReadyLaws.{seated-at}
 use Rattle.verdict.proofs.Verdict.{guest-judged}
 use Rattle.verdict.proofs.guest_verdict.Statement.{statement}
 use Rattle.verdict.proofs.guest_verdict.Tie as tie
@@ -33,7 +33,7 @@ response-at-requires c κs =
     let columns = look .before .before .before .before .before in
     let l = look .look-up .ensures _ (lent (columns .before .check .ensures) (columns .columns-of .ensures)) in
     let h = found .if1 .left in
-    let s = stands-at _ _ (columns .columns-of .ensures) (look-order l h) _ (look-here l h) in
+    let s = seated-at _ _ (columns .columns-of .ensures) (look-order l h) _ (look-here l h) in
     (omega (arith, s .place), s .ranged _ (omega arith))
 
 guest-says-requires : tie.Need-guest-says-requires

@@ -8,7 +8,7 @@ use Rattle.verdict.specs.Verdict.{taskVerdict}
 use Rattle.verdict.specs.declared.TaskVerdict.the-variants.{Refused}
 use Rattle.plan.proofs.LookUp.{lent, lent-few, look-refuses, look-order, look-here, look-few}
 use Rattle.plan.proofs.Ranges.{within-says}
-use Rattle.response.proofs.ReadyLaws.{stands-at}
+use Rattle.response.proofs.ReadyLaws.{seated-at}
 use Rattle.verdict.proofs.Verdict.{task-missing, task-judged}
 use Rattle.verdict.proofs.task_verdict.Statement.{statement}
 use Rattle.verdict.proofs.task_verdict.Tie as tie
@@ -76,7 +76,7 @@ judge-task-requires c κs =
     let start = columns .before .before in
     let g = guestAt (start .args .plan .guests) (look .look-up .result .place) in
     let number = within-says 1 (g .tasks) (start .args .task) (sym (test .before .has-task .ensures) ∙ not-false _ (test .if2 .left)) in
-    (stands-at _ _ (columns .columns-of .ensures) (look-order l h) _ (look-here l h), omega (arith, number .0, number .1))
+    (seated-at _ _ (columns .columns-of .ensures) (look-order l h) _ (look-here l h), omega (arith, number .0, number .1))
 
 returns-3 : tie.Need-returns-3
 returns-3 c =
