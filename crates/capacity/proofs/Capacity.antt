@@ -8,11 +8,9 @@ use lib.ListN.{length, List·getD-eq-default}
 use lib.Seq.{getD-set-same, getD-set-other}
 use Rattle.lists.specs.All.{allTo}
 use Rattle.lists.specs.Search.{least}
-use Rattle.lists.specs.Table.{table}
 use Rattle.lists.specs.declared.Found.the-variants.{At}
 use Rattle.equation.specs.System.{taskUnder}
-use Rattle.plan.specs.Charge.{charged}
-use Rattle.plan.specs.Filled.{Filled, ColumnsOf}
+use Rattle.plan.specs.Filled.{ColumnsOf}
 use Rattle.plan.specs.Order.{planRefusal}
 use Rattle.plan.specs.Ranges.{mostGuests}
 use Rattle.plan.specs.Records.{absent, guestAt, runOf}
@@ -23,15 +21,14 @@ use Rattle.response.specs.Interference.{jitter, interference}
 use Rattle.response.specs.Guest.{guestResponse, fitted, fittedTo}
 use Rattle.response.specs.Task.{systemOf, responseTo}
 use Rattle.response.specs.Met.{allMet}
-use Rattle.response.specs.Columns.{guestsTake, fittedAt, columnSystem, acceptedUnder}
+use Rattle.response.specs.Columns.{guestsTake, fittedAt}
 use Rattle.capacity.specs.Capacity.{atCapacity, withCapacity, works, smallest}
-use Rattle.capacity.specs.Search.{fitsAt}
+use Rattle.capacity.specs.Search.{fitsAt, worksAt}
 use Rattle.lists.proofs.All.{and-assoc, all-ext}
 use Rattle.rounding.proofs.Asked.{asked-same}
-use Rattle.lists.proofs.Table.{table-length, table-at}
 use Rattle.plan.proofs.Charge.{charged-least}
 use Rattle.plan.proofs.Order.{PlanIn, plan-in}
-use Rattle.response.proofs.ColumnsLaws.{interference-grows, task-is, accepted-is, columns-take, columns-fit}
+use Rattle.response.proofs.ColumnsLaws.{interference-grows, accepted-is, columns-take, columns-fit}
 use Rattle.capacity.proofs.SearchLaws.{fits-down, met-up}
 
 -- a place that holds a guest in its ranges is a place of the list: no other has an id
@@ -68,7 +65,7 @@ module _ (p : Plan) (k : ℕ) (here : k < length (p .guests)) (c : ℕ) where
   fitted-above j l = rw (same-above j (omega arith), guest-above j l) refl
 
   -- the guest is fitted by its equation at the capacity
-  pub fitted-there : fitted (withCapacity p k c) k ≡ fitsAt (interference p k) (guestAt (p .guests) k .period) c
+  pub fitted-there : fitted (withCapacity p k c) k ≡ fitsAt (interference p k) (guestAt (p .guests) k) c
   unfolding fitted guestResponse fitsAt
   fitted-there = rw (same-above k (omega arith), guest-there) refl
 
@@ -78,8 +75,8 @@ module _ (p : Plan) (k : ℕ) (here : k < length (p .guests)) (c : ℕ) where
   task-there i most = rw (same-above k (omega arith), guest-there) refl
 
   -- it works where those above are fitted and the guest with it is accepted
-  pub works-split : works p k c ≡ (allTo (fitted p) k && acceptedUnder (interference p k) (atCapacity (guestAt (p .guests) k) c))
-  unfolding works fittedTo allTo
+  pub works-split : works p k c ≡ (allTo (fitted p) k && worksAt (interference p k) (guestAt (p .guests) k) c)
+  unfolding works fittedTo allTo worksAt
   works-split =
       and-assoc (allTo (fitted (withCapacity p k c)) k) (fitted (withCapacity p k c) k) (allMet (withCapacity p k c) k)
       ∙ ap (λ (b : Bool). b && (fitted (withCapacity p k c) k && allMet (withCapacity p k c) k)) (all-ext _ _ k fitted-above)
@@ -87,7 +84,7 @@ module _ (p : Plan) (k : ℕ) (here : k < length (p .guests)) (c : ℕ) where
 
 -- the search off columns is the definition's
 pub smallest-is : (p : Plan) → PlanIn p → (c : Columns) → ColumnsOf (p .guests) mostGuests c → (k : ℕ) → k < p .count
-    → least (λ x. allTo (fittedAt (c .capacities) (c .periods)) k && acceptedUnder (guestsTake (c .capacities) (c .periods) k) (atCapacity (guestAt (p .guests) k) x)) (guestAt (p .guests) k .period) 1
+    → least (λ x. allTo (fittedAt (c .capacities) (c .periods)) k && worksAt (guestsTake (c .capacities) (c .periods) k) (guestAt (p .guests) k) x) (guestAt (p .guests) k .period) 1
     ≡ smallest p k
 unfolding smallest
 smallest-is p o c f k h =
@@ -104,20 +101,14 @@ module _ (p : Plan) (ok : planRefusal p .number ≡ 0) (k : ℕ) (h : k < p .cou
   pub fitted-down : (c c′ : ℕ) → 1 ≤ c → c ≤ c′ → fitted (withCapacity p k c′) k ≡ true → fitted (withCapacity p k c) k ≡ true
   fitted-down c c′ pos le e =
       fitted-there p k here c
-      ∙ fits-down (interference p k) (interference-grows p k) (guestAt (p .guests) k .period) c c′ pos le (sym (fitted-there p k here c′) ∙ e)
+      ∙ fits-down (interference p k) (interference-grows p k) (guestAt (p .guests) k) c c′ pos le (sym (fitted-there p k here c′) ∙ e)
 
   -- a task that responds in time at a capacity does so at each larger one that is fitted, with no larger response
   pub met-below : (i : ℕ) → i < guestAt (p .guests) k .tasks → (most c c′ r : ℕ) → 1 ≤ c → c ≤ c′ → fitted (withCapacity p k c′) k ≡ true
       → responseTo (withCapacity p k c) k i most ≡ At r → (r′ : ℕ) × (responseTo (withCapacity p k c′) k i most ≡ At r′) × (r′ ≤ r)
   met-below i l most c c′ r pos le fit e =
       let g = guestAt (p .guests) k in
-      let above = interference p k in
-      let run = table (charged g) 16 in
       let o = plan-in p ok .guests k h in
-      let filled : Filled run (charged g) 16 = record { long = table-length (charged g) 16; holds = λ j m. table-at (charged g) 0 16 j m } in
-      let few : i < 16 = omega (arith, o .head .few) in
-      let column : (x : ℕ) → taskUnder (columnSystem above x (g .period) run (g .every)) i most ≡ responseTo (withCapacity p k x) k i most =
-      λ x. task-is above (atCapacity g x) run 16 i most few record { long = filled .long; holds = filled .holds } ∙ sym (task-there p k here x i most) in
-      let m = met-up above (interference-grows p k) (g .period) run (g .every) i (omega (arith, filled .holds i few, o .tasks i l .runs, charged-least (runOf g i) (g .charge))) c c′ most r pos le
-      (sym (fitted-there p k here c′) ∙ fit) (column c ∙ e) in
-      (m .0, sym (column c′) ∙ m .1, m .2)
+      let m = met-up (interference p k) (interference-grows p k) g i (omega (arith, o .tasks i l .runs, charged-least (runOf g i) (g .charge)))
+      c c′ most r pos le (sym (fitted-there p k here c′) ∙ fit) (sym (task-there p k here c i most) ∙ e) in
+      (m .0, task-there p k here c′ i most ∙ m .1, m .2)

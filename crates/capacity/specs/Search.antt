@@ -1,23 +1,22 @@
--- What capacities come to off lent columns, under guests that take `above v` from v ticks. Inner: no promise of an
--- entry names this.
+-- What the capacities of a guest come to, under guests that take `above v` from v ticks.
+-- Inner: no promise of an entry names this.
 use mathlib.Core.Bool.{Bool}
-use mathlib.Core.List.{List}
 use Prim.Native.Nat.{ℕ}
-use Rattle.lists.specs.Places.{nth}
 use Rattle.lists.specs.Search.{isAt}
 use Rattle.lists.specs.declared.Found.{Found}
 use Rattle.lists.specs.declared.Found.the-variants.{At, Nothing}
 use Rattle.equation.specs.Guest.{guestUnder}
-use Rattle.response.specs.Columns.{columnSystem, acceptedIn}
+use Rattle.plan.specs.declared.Guest.{Guest}
+use Rattle.response.specs.Columns.{acceptedUnder}
+use Rattle.capacity.specs.Capacity.{atCapacity}
 
 -- whether the guest is fitted at capacity c
-unfoldable pub fitsAt : (above : ℕ → ℕ) → (period c : ℕ) → Bool
-fitsAt above period c = isAt (guestUnder above c period)
+unfoldable pub fitsAt : (above : ℕ → ℕ) → Guest → (c : ℕ) → Bool
+fitsAt above g c = isAt (guestUnder above c (g .period))
 
 -- whether the guest is fitted at capacity c and all its tasks are met
-unfoldable pub worksAt : (above : ℕ → ℕ) → (period : ℕ) → (run every deadline : List ℕ) → (tasks c : ℕ) → Bool
-worksAt above period run every deadline tasks c =
-    acceptedIn (columnSystem above c period run every) (nth deadline) tasks
+unfoldable pub worksAt : (above : ℕ → ℕ) → Guest → (c : ℕ) → Bool
+worksAt above g c = acceptedUnder above (atCapacity g c)
 
 -- an answer, or else m
 abbrev pub orAt : Found → ℕ → Found

@@ -3,7 +3,7 @@ ghost use Rattle.capacity.specs.Promises.{Sized};
 use plan::Plan;
 use plan::check;
 use plan::columns_of;
-use plan::place_of;
+use plan::look_up;
 
 mod search;
 
@@ -16,19 +16,17 @@ pub enum CapacityAnswer {
 pub fn smallest_capacity(plan: Plan, id: u32) -> CapacityAnswer
     ensures { λ r. ⌜ Sized plan id r ⌝ }
 {
-    let refused = check(plan);
-    if 0 < refused.number {
-        return CapacityAnswer::Refused(refused.number, refused.place);
+    let records = check(plan);
+    let columns = columns_of(plan);
+    let ids = columns.ids;
+    let capacities = columns.capacities;
+    let periods = columns.periods;
+    let found = look_up(records, &ids, plan.count, id);
+    let refusal = found.refusal;
+    if 0 < refusal.number {
+        return CapacityAnswer::Refused(refusal.number, refusal.place);
     }
-    let c = columns_of(plan);
-    let ids = c.ids;
-    let capacities = c.capacities;
-    let periods = c.periods;
-    let n = plan.count as usize;
-    let k = place_of(&ids, n, id);
-    if n <= k {
-        return CapacityAnswer::Refused(7, 0);
-    }
+    let k = found.place;
     let guests = plan.guests;
     search::capacity_says(search::smallest_at(guests[k], &capacities, &periods, k))
 }

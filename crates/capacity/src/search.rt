@@ -5,8 +5,8 @@ ghost use Prim.Native.Nat.{_+_, _-_, _≤_, _<_};
 ghost use Rattle.lists.specs.All.{allTo};
 ghost use Rattle.lists.specs.Search.{least};
 ghost use Rattle.rounding.specs.Cut.{bound};
-ghost use Rattle.response.specs.Columns.{guestsTake, fittedAt, acceptedUnder};
-ghost use Rattle.response.specs.Ready.{RunsTo, Stands};
+ghost use Rattle.response.specs.Columns.{guestsTake, fittedAt};
+ghost use Rattle.response.specs.Ready.{RunsIn, Seated};
 ghost use Rattle.capacity.specs.Capacity.{atCapacity};
 ghost use Rattle.capacity.specs.Answer.{capacitySays};
 ghost use Rattle.capacity.specs.Search.{worksAt, orAt};
@@ -15,8 +15,8 @@ use lists::Found;
 use plan::Guest;
 use response::Trial;
 use response::all_fitted;
-use response::charged_of;
-use response::try_capacity;
+use response::guest_response;
+use response::try_guest;
 
 // The answer of a search.
 pub fn capacity_says(f: Found) -> CapacityAnswer
@@ -38,28 +38,29 @@ fn or_at(f: Found, m: u32) -> Found
     }
 }
 
+// The guest g with capacity c.
+fn at_capacity(g: Guest, c: u32) -> Guest
+    ensures { λ r. ⌜ r ≡ atCapacity g c ⌝ }
+{
+    let mut h = g;
+    h.capacity = c;
+    h
+}
+
 // The smallest capacity that works, of those from lo on and below hi: nothing works from an unfit middle on, nor up to
 // a fitted one that does not work.
 fn smallest_in(
-    caps: &[u32; 16],
+    g: Guest,
+    capacities: &[u32; 16],
     periods: &[u32; 16],
     k: usize,
-    period: u32,
-    run: &[u32; 16],
-    every: &[u32; 16],
-    deadline: &[u32; 16],
-    n: usize,
     lo: u32,
     hi: u32,
 ) -> Found
-    requires { ⌜ ((k ≤ 16) × (n ≤ 16)) × ((1 ≤ lo) × (hi ≤ period + 1)) ⌝ }
-    requires { ⌜ RunsTo (now run) n ⌝ }
+    requires { ⌜ (k ≤ 16) × ((1 ≤ lo) × (hi ≤ g .period + 1)) ⌝ }
+    requires { ⌜ RunsIn g ⌝ }
     ensures { λ r. ⌜
-        r
-        ≡ least
-        (worksAt (guestsTake (now (caps .entry)) (now (periods .entry)) k) period (now (run .entry)) (now (every .entry))
-        (now (deadline .entry)) n)
-        (hi - lo) lo
+        r ≡ least (worksAt (guestsTake (now (capacities .entry)) (now (periods .entry)) k) g) (hi - lo) lo
         ⌝ }
 {
     if hi <= lo {
@@ -67,46 +68,27 @@ fn smallest_in(
     }
     let mid = lo + (hi - lo) / 2;
     let next = mid + 1;
-    let t = try_capacity(caps, periods, k, mid, period, run, every, deadline, n);
-    match t {
-        Trial::Unfit => smallest_in(caps, periods, k, period, run, every, deadline, n, lo, mid),
-        Trial::Unmet => smallest_in(caps, periods, k, period, run, every, deadline, n, next, hi),
-        Trial::Works => or_at(
-            smallest_in(caps, periods, k, period, run, every, deadline, n, lo, mid),
-            mid,
-        ),
+    let f = guest_response(capacities, periods, k, mid, g.period);
+    match try_guest(f, at_capacity(g, mid), capacities, periods, k) {
+        Trial::Unfit => smallest_in(g, capacities, periods, k, lo, mid),
+        Trial::Unmet => smallest_in(g, capacities, periods, k, next, hi),
+        Trial::Works => or_at(smallest_in(g, capacities, periods, k, lo, mid), mid),
     }
 }
 
 // The smallest capacity of the guest g at place k; none works under an unfit guest.
 pub fn smallest_at(g: Guest, capacities: &[u32; 16], periods: &[u32; 16], k: usize) -> Found
-    requires { ⌜ Stands g (now capacities) (now periods) k × (g .period + 1 < bound) ⌝ }
+    requires { ⌜ Seated g (now capacities) (now periods) k × (g .period + 1 < bound) ⌝ }
     ensures { λ r. ⌜
         r
         ≡ least
         (λ c. allTo (fittedAt (now (capacities .entry)) (now (periods .entry))) k
-        && acceptedUnder (guestsTake (now (capacities .entry)) (now (periods .entry)) k) (atCapacity g c))
+        && worksAt (guestsTake (now (capacities .entry)) (now (periods .entry)) k) g c)
         (g .period) 1
         ⌝ }
 {
-    let every = g.every;
-    let deadline = g.deadline;
-    let tasks = g.tasks as usize;
-    let period = g.period;
     if !all_fitted(capacities, periods, k) {
         return Found::Nothing;
     }
-    let run = charged_of(g);
-    smallest_in(
-        capacities,
-        periods,
-        k,
-        period,
-        &run,
-        &every,
-        &deadline,
-        tasks,
-        1,
-        period + 1,
-    )
+    smallest_in(g, capacities, periods, k, 1, g.period + 1)
 }

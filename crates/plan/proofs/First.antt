@@ -1,12 +1,16 @@
--- Laws of the first refusal. Assumes nothing.
+-- Laws of the first refusal, and of an answer that is a refusal or else what was asked for. Assumes nothing.
 use mathlib.Core.Path.{_≡_, refl}
+use mathlib.Core.Bool.{Bool, true, false}
+use mathlib.Core.List.{List, [], _∷_}
 use mathlib.Core.Logic.{⊎-elim}
 use Prim.Native.Nat.{ℕ, zero, suc, _+_, _-_, _≤_, _<_}
 use native.Mathlib.Nat.{eq-or-lt-of-le}
 use native.Mathlib.Numerals.{add-one}
 use native.Mathlib.Omega.{arith}
+use Rattle.lists.specs.Refusals.{Test, refusal, _orRefuse_}
 use Rattle.plan.specs.declared.Refusal.{Refusal}
-use Rattle.plan.specs.First.{refused, fine, orElse, firstRefused}
+use Rattle.plan.specs.First.{refused, fine, orElse, firstRefused, refusedBy}
+use Rattle.lists.proofs.Refusals.{none-left, go-on, stop}
 
 -- a loop's way out: place k is refused
 pub first-here : (f : ℕ → ℕ) (n k x : ℕ) → k < n → x ≡ f k → 0 < x → refused x k ≡ firstRefused f (n - k) k
@@ -27,6 +31,12 @@ pub first-end : (f : ℕ → ℕ) (n k : ℕ) → n ≤ k → fine ≡ firstRefu
 unfolding firstRefused
 first-end f n k h = let q : n - k ≡ 0 = omega arith in rw q refl
 
+-- a number above 0 goes before what comes after
+pub refused-here : (x k : ℕ) (after : Refusal) → 0 < x → refused x k ≡ orElse x k after
+unfolding orElse
+refused-here zero k after h = absurd (omega arith)
+refused-here (suc n) k after h = refl
+
 -- no number here, so what comes after has none
 pub after-zero : (x k : ℕ) (r : Refusal) → orElse x k r .number ≡ 0 → (x ≡ 0) × (r .number ≡ 0)
 unfolding orElse
@@ -46,3 +56,39 @@ pub first-fine : (f : ℕ → ℕ) (m k : ℕ) → ((z : ℕ) → k ≤ z → z 
 unfolding firstRefused orElse
 first-fine f zero k h = refl
 first-fine f (suc m) k h = rw (h k (omega arith) (omega arith)) (first-fine f m (suc k) (λ z l b. h z (omega arith) (omega arith)))
+
+-- an answer that is a refusal or else v
+module _ {A : Type 0} (refuse : ℕ → ℕ → A) where
+  -- a number above 0 refuses
+  pub number-refuses : (x place : ℕ) (v : A) → 0 < x → refuse x place ≡ refusedBy refuse x place v
+  unfolding refusedBy
+  number-refuses zero place v h = absurd (omega arith)
+  number-refuses (suc x) place v h = refl
+
+  -- a test fails
+  pub test-refuses :
+      {b : Bool} (n : ℕ) (ts : List Test) (v : A)
+      → 0 < n
+      → b ≡ false
+      → refuse n 0 ≡ refusedBy refuse (refusal (b orRefuse n ∷ ts)) 0 v
+  unfolding refusedBy
+  test-refuses zero ts v h e = absurd (omega arith)
+  test-refuses (suc n) ts v h e = rw (stop (suc n) ts e) refl
+
+  -- a test passes
+  pub test-passes :
+      {b : Bool} (n : ℕ) (ts : List Test) (v : A)
+      → b ≡ true
+      → refusedBy refuse (refusal ts) 0 v ≡ refusedBy refuse (refusal (b orRefuse n ∷ ts)) 0 v
+  test-passes n ts v e = rw (go-on n ts e) refl
+
+  -- no test is left
+  pub no-test : (v : A) → v ≡ refusedBy refuse (refusal []) 0 v
+  unfolding refusedBy
+  no-test v = rw none-left refl
+
+  -- an answer that is no refusal has number 0, and is what was asked for
+  pub no-number : {a : A} → ((n k : ℕ) → refuse n k ≡ a → ⊥) → (n k : ℕ) (v : A) → refusedBy refuse n k v ≡ a → (n ≡ 0) × (v ≡ a)
+  unfolding refusedBy
+  no-number none zero k v e = (refl, e)
+  no-number none (suc n) k v e = absurd (none (suc n) k e)

@@ -5,4 +5,5 @@ pub mod First
 pub mod Ranges
 pub mod Order
 pub mod Place
+pub mod LookUp
 pub mod Promises

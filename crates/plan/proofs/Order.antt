@@ -1,23 +1,24 @@
 -- How the code comes to the records' refusal, and what records that pass say. Assumes nothing.
 use mathlib.Core.Path.{_≡_, refl, sym, ap, _∙_}
 use mathlib.Core.Bool.{Bool, true, false, not, _&&_}
-use mathlib.Core.List.{List, []}
-use Prim.Native.Nat.{ℕ, _+_, _≤_, _<_}
+use mathlib.Core.List.{List, [], _∷_}
+use Prim.Native.Nat.{ℕ, zero, suc, _+_, _≤_, _<_}
 use native.Mathlib.Omega.{arith}
 use lib.Dec.{eqb}
 use borrow.Author.Tests.{le-leb, lt-leb}
 use Rattle.lists.specs.All.{allTo}
 use Rattle.lists.specs.Places.{nth}
+use Rattle.lists.specs.Refusals.{Test, unless, refusal, _orRefuse_}
 use Rattle.plan.specs.declared.Guest.{Guest}
 use Rattle.plan.specs.declared.Plan.{Plan}
 use Rattle.plan.specs.Records.{guestAt}
 use Rattle.plan.specs.Ranges.{mostGuests, within, guestOk, tasksOk}
 use Rattle.plan.specs.Filled.{Filled}
-use Rattle.plan.specs.First.{refused, firstRefused}
-use Rattle.plan.specs.Order.{newId, numberOf, guestNumber, countedBy, planRefusal}
+use Rattle.plan.specs.First.{refused, orElse, firstRefused, refusedBy, refuseOr}
+use Rattle.plan.specs.Order.{newId, numberOf, guestNumber, countedBy, planRefusal, recordsThen}
 use Rattle.lists.proofs.All.{and-left, and-right, and-true, and-false-left, and-false-right, all-turn, all-ext}
 use Rattle.lists.proofs.Refusals.{none-left, go-on, stop, passed}
-use Rattle.plan.proofs.First.{none-refused}
+use Rattle.plan.proofs.First.{none-refused, after-zero, no-number}
 use Rattle.plan.proofs.Ranges.{within-says, GuestIn, guest-says}
 
 -- the order of one guest, by what its tests come to
@@ -108,3 +109,37 @@ plan-in p e =
       guests = λ k h. number-none (p .guests) k (each k h) .0;
       new = λ k h. number-none (p .guests) k (each k h) .1;
     }
+
+-- the first test's refusal does not depend on those after it
+then-first : (x k : ℕ) (b : Bool) (n : ℕ) (ts : List Test) → 0 < orElse x k (refused (refusal (b orRefuse n ∷ [])) 0) .number
+    → orElse x k (refused (refusal (b orRefuse n ∷ [])) 0) ≡ orElse x k (refused (refusal (b orRefuse n ∷ ts)) 0)
+unfolding orElse refusal unless
+then-first zero k true n ts h = absurd (omega arith)
+then-first zero k false n ts h = refl
+then-first (suc x) k b n ts h = refl
+
+-- so for the records' order and a test after it
+pub records-first : (p : Plan) (b : Bool) (n : ℕ) (ts : List Test) → 0 < recordsThen p (b orRefuse n ∷ []) .number
+    → recordsThen p (b orRefuse n ∷ []) ≡ recordsThen p (b orRefuse n ∷ ts)
+unfolding recordsThen
+records-first p b n ts h = then-first (planRefusal p .number) (planRefusal p .place) b n ts h
+
+-- records in order: the tests decide
+pub records-pass : {A : Type 0} (refuse : ℕ → ℕ → A) (p : Plan) (tests : List Test) (v : A) → planRefusal p .number ≡ 0
+    → refusedBy refuse (refusal tests) 0 v ≡ refuseOr refuse (recordsThen p tests) v
+unfolding recordsThen orElse
+records-pass refuse p tests v e = rw e refl
+
+-- no number: the records are in order and no test after them fails
+pub records-none : (p : Plan) (tests : List Test) → recordsThen p tests .number ≡ 0 → (planRefusal p .number ≡ 0) × (refusal tests ≡ 0)
+unfolding recordsThen
+records-none p tests e = after-zero (planRefusal p .number) (planRefusal p .place) (refused (refusal tests) 0) e
+
+-- so says an answer that is no refusal, which is what was asked for
+pub by-records : {A : Type 0} (refuse : ℕ → ℕ → A) {a : A} → ((n k : ℕ) → refuse n k ≡ a → ⊥)
+    → (p : Plan) (tests : List Test) (v : A) → refuseOr refuse (recordsThen p tests) v ≡ a
+    → (planRefusal p .number ≡ 0) × ((refusal tests ≡ 0) × (v ≡ a))
+by-records refuse none p tests v e =
+    let r = no-number refuse none (recordsThen p tests .number) (recordsThen p tests .place) v e in
+    let o = records-none p tests (r .0) in
+    (o .0, (o .1, r .1))

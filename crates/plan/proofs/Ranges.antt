@@ -1,9 +1,9 @@
 -- What the tests of the ranges say. Assumes nothing.
-use mathlib.Core.Path.{_≡_}
+use mathlib.Core.Path.{_≡_, refl}
 use mathlib.Core.Bool.{true, _&&_}
 use Prim.Native.Nat.{ℕ, _≤_, _<_}
 use lib.Dec.{leb}
-use borrow.Author.Tests.{leb-true}
+use borrow.Author.Tests.{leb-true, le-leb}
 use Rattle.plan.specs.declared.Guest.{Guest}
 use Rattle.plan.specs.Records.{runOf, everyOf, deadlineOf}
 use Rattle.plan.specs.Ranges.{within, headOk, guestOk, taskOk, tasksOk}
@@ -35,6 +35,10 @@ pub record GuestIn (g : Guest) : Type 0 where
 -- from low to high
 pub within-says : (low high x : ℕ) → within low high x ≡ true → (low ≤ x) × (x ≤ high)
 within-says low high x e = (leb-true low x (and-left (leb low x) _ e), leb-true x high (and-right (leb low x) _ e))
+
+-- in the range from 1
+pub within-right : (high x : ℕ) → 1 ≤ x → x ≤ high → within 1 high x ≡ true
+within-right high x l h = rw (le-leb 1 x l, le-leb x high h) refl
 
 -- refusal 4's test
 pub head-says : (id capacity period tasks : ℕ) → headOk id capacity period tasks ≡ true → HeadIn id capacity period tasks

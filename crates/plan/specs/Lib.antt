@@ -6,3 +6,4 @@ pub mod Order
 pub mod Place
 pub mod Filled
 pub mod Promises
+pub mod LookUp

@@ -10,6 +10,7 @@ mod tests;
 
 pub use column::columns_of;
 pub use find::has_task;
+pub use find::look_up;
 pub use find::place_of;
 pub use tests::charged_run;
 pub use tests::head_ok;
@@ -49,6 +50,12 @@ pub struct Columns {
     pub capacities: [u32; 16],
     pub periods: [u32; 16],
     pub tasks: [u32; 16],
+}
+
+// A guest that was looked up by its id: the refusal, or where it has number 0 the guest's place.
+pub struct LookedUp {
+    pub refusal: Refusal,
+    pub place: usize,
 }
 
 // A record of zeros.

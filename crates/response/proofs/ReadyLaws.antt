@@ -1,8 +1,8 @@
 -- What records in their ranges give the inner functions. Assumes nothing.
 use mathlib.Core.Path.{_≡_, sym, _∙_, ap}
-use mathlib.Core.Bool.{Bool, true, _&&_}
+use mathlib.Core.Bool.{true}
 use mathlib.Core.List.{List}
-use Prim.Native.Nat.{ℕ, _+_, _≤_, _<_}
+use Prim.Native.Nat.{ℕ, _+_, _<_}
 use native.Mathlib.Omega.{arith}
 use Rattle.lists.specs.All.{allTo}
 use Rattle.lists.specs.Places.{nth}
@@ -15,42 +15,40 @@ use Rattle.plan.specs.Records.{guestAt, runOf, deadlineOf}
 use Rattle.plan.specs.declared.Columns.{Columns}
 use Rattle.plan.specs.declared.Guest.{Guest}
 use Rattle.plan.specs.declared.Plan.{Plan}
-use Rattle.response.specs.Columns.{guestsTake, fittedAt, columnSystem, metUnder, acceptedIn, acceptedUnder}
+use Rattle.response.specs.Columns.{guestsTake, fittedAt, columnSystem, metUnder, fittedIn}
 use Rattle.response.specs.Task.{systemOf}
-use Rattle.response.specs.Ready.{Ready, RunsTo, RunsIn, Stands}
+use Rattle.response.specs.Ready.{Ready, InRange, Seated}
 use Rattle.lists.proofs.All.{all-at, all-ext}
 use Rattle.plan.proofs.Charge.{charged-least}
 use Rattle.plan.proofs.Order.{PlanIn}
 use Rattle.response.proofs.ColumnsLaws.{task-is}
 
--- the charged runs of records in their ranges are runs
-pub charged-runs : (g : Guest) → RunsIn g → (run : List ℕ) → Filled run (charged g) (g .tasks) → RunsTo run (g .tasks)
-charged-runs g r run f i h = omega (arith, f .holds i h, r .some i h, charged-least (runOf g i) (g .charge))
+-- a fitted guest in its ranges is ready for its tasks' recurrences
+pub guest-ready : (above : ℕ → ℕ) (g : Guest) → InRange g → fittedIn (systemOf above g) ≡ true
+    → (run : List ℕ) → Filled run (charged g) (g .tasks) → (i : ℕ) → i < g .tasks
+    → Ready (columnSystem above (g .capacity) (g .period) run (g .every)) i
+guest-ready above g s fits run f i h = record {
+  some = s .some;
+  within = s .within;
+  fits = fits;
+  runs = omega (arith, f .holds i h, s .runs .some i h, charged-least (runOf g i) (g .charge));
+}
 
-module _ (g : Guest) (capacities periods : List ℕ) (k : ℕ) (s : Stands g capacities periods k) where
-  -- the guest's capacity is from 1 to its period
-  pub stands-ranged : (1 ≤ g .capacity) × (g .capacity ≤ g .period)
-  stands-ranged = let r = s .ranged k (omega arith) in (omega (arith, r .0, s .capacity), omega (arith, r .1, s .capacity, s .period))
+module _ (g : Guest) (capacities periods : List ℕ) (k : ℕ) (s : Seated g capacities periods k) where
+  -- the guest is in its ranges
+  pub seated-range : InRange g
+  seated-range =
+      let r = s .ranged k (omega arith) in
+      record { some = omega (arith, r .0, s .capacity); within = omega (arith, r .1, s .capacity, s .period); runs = s .runs }
 
   -- the guest is fitted where it and all above are
-  pub stands-fits : allTo (fittedAt capacities periods) (k + 1) ≡ true
+  pub seated-fits : allTo (fittedAt capacities periods) (k + 1) ≡ true
       → isAt (guestUnder (guestsTake capacities periods k) (g .capacity) (g .period)) ≡ true
   unfolding fittedAt
-  stands-fits a =
+  seated-fits a =
       ap (λ (c : ℕ). isAt (guestUnder (guestsTake capacities periods k) c (g .period))) (sym (s .capacity))
       ∙ ap (λ (t : ℕ). isAt (guestUnder (guestsTake capacities periods k) (nth capacities k) t)) (sym (s .period))
       ∙ all-at (fittedAt capacities periods) (k + 1) k (omega arith) a
-
-  -- a fitted guest is ready for its tasks' recurrences
-  pub stands-ready : isAt (guestUnder (guestsTake capacities periods k) (g .capacity) (g .period)) ≡ true
-      → (run : List ℕ) → Filled run (charged g) (g .tasks) → (i : ℕ) → i < g .tasks
-      → Ready (columnSystem (guestsTake capacities periods k) (g .capacity) (g .period) run (g .every)) i
-  stands-ready fits run f i h = record {
-    some = stands-ranged .0;
-    within = stands-ranged .1;
-    fits = fits;
-    runs = charged-runs g (s .runs) run f i h;
-  }
 
 -- the tasks off the column of charged runs are the guest's
 pub met-is : (above : ℕ → ℕ) (g : Guest) (run : List ℕ) → Filled run (charged g) (g .tasks)
@@ -59,17 +57,10 @@ pub met-is : (above : ℕ → ℕ) (g : Guest) (run : List ℕ) → Filled run (
 unfolding metUnder
 met-is above g run f = all-ext _ _ (g .tasks) (λ i h. ap isAt (task-is above g run (g .tasks) i (deadlineOf g i) h f))
 
--- a guest is accepted where its test off the column of charged runs says so
-pub accepted-column : (above : ℕ → ℕ) (g : Guest) (run : List ℕ) → Filled run (charged g) (g .tasks)
-    → acceptedIn (columnSystem above (g .capacity) (g .period) run (g .every)) (deadlineOf g) (g .tasks) ≡ acceptedUnder above g
-unfolding acceptedIn
-accepted-column above g run f =
-    ap (λ (b : Bool). isAt (guestUnder above (g .capacity) (g .period)) && b) (met-is above g run f)
-
--- each guest of records in order stands in their columns
-pub stands-at : (p : Plan) (c : Columns) → ColumnsOf (p .guests) mostGuests c → PlanIn p → (k : ℕ) → k < p .count
-    → Stands (guestAt (p .guests) k) (c .capacities) (c .periods) k
-stands-at p c f o k h =
+-- each guest of records in order is seated in their columns
+pub seated-at : (p : Plan) (c : Columns) → ColumnsOf (p .guests) mostGuests c → PlanIn p → (k : ℕ) → k < p .count
+    → Seated (guestAt (p .guests) k) (c .capacities) (c .periods) k
+seated-at p c f o k h =
     let here : k < 8 = omega (arith, o .few) in
     record {
       place = here;

@@ -17,10 +17,6 @@ pub record Ready (S : System) (i : ℕ) : Type 0 where
   pub fits : fittedIn S ≡ true
   pub runs : 1 ≤ S .run i
 
--- each of the first n tasks has a run
-abbrev pub RunsTo : (run : List ℕ) → ℕ → Type 0
-RunsTo run n = (i : ℕ) → i < n → 1 ≤ nth run i
-
 -- the first n capacities are from 1 to the periods
 abbrev pub Ranged : (capacities periods : List ℕ) → ℕ → Type 0
 Ranged capacities periods n = (k : ℕ) → k < n → (1 ≤ nth capacities k) × (nth capacities k ≤ nth periods k)
@@ -31,8 +27,14 @@ pub record RunsIn (g : Guest) : Type 0 where
   pub some : (i : ℕ) → i < g .tasks → 1 ≤ runOf g i
   pub short : (i : ℕ) → i < g .tasks → runOf g i ≤ longest
 
+-- A guest whose capacity can be tried: it is from 1 to the period, and each run is in its range.
+pub record InRange (g : Guest) : Type 0 where
+  pub some : 1 ≤ g .capacity
+  pub within : g .capacity ≤ g .period
+  pub runs : RunsIn g
+
 -- Columns of capacities and periods in their ranges, whose guest at place k is g.
-pub record Stands (g : Guest) (capacities periods : List ℕ) (k : ℕ) : Type 0 where
+pub record Seated (g : Guest) (capacities periods : List ℕ) (k : ℕ) : Type 0 where
   pub place : k < mostGuests
   pub ranged : Ranged capacities periods (k + 1)
   pub capacity : nth capacities k ≡ g .capacity

@@ -7,7 +7,8 @@ mod trial;
 
 pub use charge::charged_of;
 pub use guest::all_fitted;
+pub use guest::guest_response;
 pub use guest::response_at;
 pub use task::task_response;
 pub use trial::Trial;
-pub use trial::try_capacity;
+pub use trial::try_guest;

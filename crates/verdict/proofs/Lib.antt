@@ -1,5 +1,4 @@
 -- Laws, each file named after the definition that it is about.
 pub mod Verdict
-pub mod NoRefusal
 pub mod Quoted
 pub mod Promises

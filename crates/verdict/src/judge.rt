@@ -1,19 +1,15 @@
 // Verdicts off lent columns and one guest's record at a time.
 ghost use mathlib.Core.Path.{_≡_};
 ghost use mathlib.Core.Bool.{true};
-ghost use mathlib.Core.List.{[], _∷_};
-ghost use Prim.Native.Nat.{ℕ, _+_, _-_, _≤_, _<_};
+ghost use Prim.Native.Nat.{ℕ, _+_, _≤_, _<_};
 ghost use lib.Dec.{leb};
 ghost use Rattle.lists.specs.All.{allTo};
-ghost use Rattle.lists.specs.Refusals.{refusal, _orRefuse_};
 ghost use Rattle.plan.specs.Records.{guestAt, deadlineOf};
-ghost use Rattle.plan.specs.Ranges.{within};
-ghost use Rattle.plan.specs.First.{refusedBy};
 ghost use Rattle.verdict.specs.Verdict.{guestSays, quotedBy, taskSays};
 ghost use Rattle.equation.specs.System.{taskUnder};
 ghost use Rattle.response.specs.Task.{systemOf, limit};
 ghost use Rattle.response.specs.Columns.{guestsTake, fittedAt, acceptedUnder};
-ghost use Rattle.response.specs.Ready.{Stands};
+ghost use Rattle.response.specs.Ready.{Seated};
 use crate::GuestVerdict;
 use crate::TaskVerdict;
 use lists::Found;
@@ -22,8 +18,9 @@ use plan::Plan;
 use response::Trial;
 use response::all_fitted;
 use response::charged_of;
+use response::guest_response;
 use response::task_response;
-use response::try_capacity;
+use response::try_guest;
 
 // The verdict of a guest's response.
 pub fn guest_says(f: Found) -> GuestVerdict
@@ -57,14 +54,14 @@ fn met_or_not(f: Found, deadline: u32) -> TaskVerdict
 }
 
 // The verdict of task i of the guest g at place k.
-fn judge_task(
+pub fn judge_task(
     g: Guest,
     capacities: &[u32; 16],
     periods: &[u32; 16],
     k: usize,
     i: usize,
 ) -> TaskVerdict
-    requires { ⌜ Stands g (now capacities) (now periods) k × (i < g .tasks) ⌝ }
+    requires { ⌜ Seated g (now capacities) (now periods) k × (i < g .tasks) ⌝ }
     ensures { λ r. ⌜
         r
         ≡ taskSays (allTo (fittedAt (now (capacities .entry)) (now (periods .entry))) (k + 1)) (deadlineOf g i)
@@ -92,52 +89,13 @@ fn judge_task(
     met_or_not(f, deadline[i])
 }
 
-// The verdict of task number `task`, from 1, of the guest g at place k.
-pub fn number_task(
-    g: Guest,
-    capacities: &[u32; 16],
-    periods: &[u32; 16],
-    k: usize,
-    task: u32,
-) -> TaskVerdict
-    requires { ⌜ Stands g (now capacities) (now periods) k ⌝ }
-    ensures { λ r. ⌜
-        r
-        ≡ refusedBy TaskVerdict.Refused (refusal (within 1 (g .tasks) task orRefuse 8 ∷ [])) 0
-        (taskSays (allTo (fittedAt (now (capacities .entry)) (now (periods .entry))) (k + 1)) (deadlineOf g (task - 1))
-        (taskUnder (systemOf (guestsTake (now (capacities .entry)) (now (periods .entry)) k) g) (task - 1) (limit g (task - 1))))
-        ⌝ }
-{
-    if task < 1 {
-        return TaskVerdict::Refused(8, 0);
-    }
-    let tasks = g.tasks;
-    if tasks < task {
-        return TaskVerdict::Refused(8, 0);
-    }
-    judge_task(g, capacities, periods, k, (task - 1) as usize)
-}
-
 // Whether the guest at place k is fitted and all its tasks are met.
 fn guest_accepted(g: Guest, capacities: &[u32; 16], periods: &[u32; 16], k: usize) -> bool
-    requires { ⌜ Stands g (now capacities) (now periods) k ⌝ }
+    requires { ⌜ Seated g (now capacities) (now periods) k ⌝ }
     ensures { λ r. ⌜ r ≡ acceptedUnder (guestsTake (now (capacities .entry)) (now (periods .entry)) k) g ⌝ }
 {
-    let every = g.every;
-    let deadline = g.deadline;
-    let n = g.tasks as usize;
-    let run = charged_of(g);
-    match try_capacity(
-        capacities,
-        periods,
-        k,
-        g.capacity,
-        g.period,
-        &run,
-        &every,
-        &deadline,
-        n,
-    ) {
+    let f = guest_response(capacities, periods, k, g.capacity, g.period);
+    match try_guest(f, g, capacities, periods, k) {
         Trial::Works => true,
         Trial::Unmet => false,
         Trial::Unfit => false,
@@ -147,7 +105,7 @@ fn guest_accepted(g: Guest, capacities: &[u32; 16], periods: &[u32; 16], k: usiz
 // Whether all guests are fitted and all tasks met, one guest after the other.
 pub fn all_accepted(plan: Plan, capacities: &[u32; 16], periods: &[u32; 16]) -> bool
     requires { ⌜
-        ((k : ℕ) → k < plan .count → Stands (guestAt (plan .guests) k) (now capacities) (now periods) k) × (plan .count ≤ 8)
+        ((k : ℕ) → k < plan .count → Seated (guestAt (plan .guests) k) (now capacities) (now periods) k) × (plan .count ≤ 8)
         ⌝ }
     ensures { λ r. ⌜
         r

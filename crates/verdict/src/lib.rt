@@ -3,7 +3,8 @@ ghost use Rattle.verdict.specs.Promises.{GuestJudged, TaskJudged, Accept
 use plan::Plan;
 use plan::check;
 use plan::columns_of;
-use plan::place_of;
+use plan::has_task;
+use plan::look_up;
 use response::response_at;
 
 mod judge;
@@ -34,54 +35,53 @@ pub enum Acceptance {
 pub fn guest_verdict(plan: Plan, id: u32) -> GuestVerdict
     ensures { λ r. ⌜ GuestJudged plan id r ⌝ }
 {
-    let refused = check(plan);
-    if 0 < refused.number {
-        return GuestVerdict::Refused(refused.number, refused.place);
+    let records = check(plan);
+    let columns = columns_of(plan);
+    let ids = columns.ids;
+    let capacities = columns.capacities;
+    let periods = columns.periods;
+    let found = look_up(records, &ids, plan.count, id);
+    let refusal = found.refusal;
+    if 0 < refusal.number {
+        return GuestVerdict::Refused(refusal.number, refusal.place);
     }
-    let c = columns_of(plan);
-    let ids = c.ids;
-    let capacities = c.capacities;
-    let periods = c.periods;
-    let n = plan.count as usize;
-    let k = place_of(&ids, n, id);
-    if n <= k {
-        return GuestVerdict::Refused(7, 0);
-    }
-    judge::guest_says(response_at(&capacities, &periods, k))
+    judge::guest_says(response_at(&capacities, &periods, found.place))
 }
 
 // The verdict of task number `task`, from 1, of the guest with an id.
 pub fn task_verdict(plan: Plan, id: u32, task: u32) -> TaskVerdict
     ensures { λ r. ⌜ TaskJudged plan id task r ⌝ }
 {
-    let refused = check(plan);
-    if 0 < refused.number {
-        return TaskVerdict::Refused(refused.number, refused.place);
+    let records = check(plan);
+    let columns = columns_of(plan);
+    let ids = columns.ids;
+    let capacities = columns.capacities;
+    let periods = columns.periods;
+    let found = look_up(records, &ids, plan.count, id);
+    let refusal = found.refusal;
+    if 0 < refusal.number {
+        return TaskVerdict::Refused(refusal.number, refusal.place);
     }
-    let c = columns_of(plan);
-    let ids = c.ids;
-    let capacities = c.capacities;
-    let periods = c.periods;
-    let n = plan.count as usize;
-    let k = place_of(&ids, n, id);
-    if n <= k {
-        return TaskVerdict::Refused(7, 0);
-    }
+    let k = found.place;
     let guests = plan.guests;
-    judge::number_task(guests[k], &capacities, &periods, k, task)
+    let g = guests[k];
+    if !has_task(g.tasks, task) {
+        return TaskVerdict::Refused(8, 0);
+    }
+    judge::judge_task(g, &capacities, &periods, k, (task - 1) as usize)
 }
 
 // Whether all guests are fitted and all tasks met.
 pub fn accept(plan: Plan) -> Acceptance
     ensures { λ r. ⌜ Accepts plan r ⌝ }
 {
-    let refused = check(plan);
-    if 0 < refused.number {
-        return Acceptance::Refused(refused.number, refused.place);
+    let refusal = check(plan);
+    if 0 < refusal.number {
+        return Acceptance::Refused(refusal.number, refusal.place);
     }
-    let c = columns_of(plan);
-    let capacities = c.capacities;
-    let periods = c.periods;
+    let columns = columns_of(plan);
+    let capacities = columns.capacities;
+    let periods = columns.periods;
     if judge::all_accepted(plan, &capacities, &periods) {
         Acceptance::Accepted
     } else {

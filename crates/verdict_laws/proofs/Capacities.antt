@@ -20,7 +20,8 @@ use Rattle.verdict_laws.specs.Guests.{There}
 use Rattle.verdict_laws.specs.Capacities.{CapacityWorks, CapacityMeans}
 use Rattle.lists.proofs.All.{and-left, and-right, and-true}
 use Rattle.lists.proofs.Search.{Says, least-says}
-use Rattle.verdict.proofs.Verdict.{records-pass, test-passes, no-test}
+use Rattle.plan.proofs.First.{test-passes, no-test}
+use Rattle.plan.proofs.Order.{records-pass}
 use Rattle.verdict_laws.proofs.Guests.{there-place, there-has, fitted-all, all-fitted}
 use Rattle.verdict_laws.proofs.Tasks.{met-in-time, in-time-met}
 

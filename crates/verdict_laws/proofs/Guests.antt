@@ -22,10 +22,9 @@ use Rattle.verdict_laws.specs.Guests.{There, GuestSolves, Responds, AllF
 use Rattle.lists.proofs.All.{all-at, all-by}
 use Rattle.lists.proofs.Search.{at-of, is-at, first-before}
 use Rattle.equation.proofs.Solve.{Solved, Answers, solve-answers, solve-by}
-use Rattle.plan.proofs.Order.{plan-in}
+use Rattle.plan.proofs.Order.{plan-in, records-pass, by-records}
 use Rattle.lists.proofs.Refusals.{passed}
-use Rattle.verdict.proofs.Verdict.{records-pass, test-passes, no-test}
-use Rattle.verdict.proofs.NoRefusal.{by-records}
+use Rattle.plan.proofs.First.{test-passes, no-test}
 use Rattle.verdict_laws.proofs.Ids.{idOf, found-id, id-one}
 
 -- the search finds the id at its place, since an id stands for one guest

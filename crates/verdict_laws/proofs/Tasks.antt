@@ -29,9 +29,9 @@ use Rattle.lists.proofs.All.{all-at, all-by, all-false}
 use Rattle.lists.proofs.Search.{is-at}
 use Rattle.equation.proofs.Solve.{Answers, solve-answers, solve-by}
 use Rattle.lists.proofs.Refusals.{passed}
-use Rattle.plan.proofs.Ranges.{within-says}
-use Rattle.verdict.proofs.Verdict.{records-pass, test-passes, no-test, within-right}
-use Rattle.verdict.proofs.NoRefusal.{by-records}
+use Rattle.plan.proofs.Ranges.{within-says, within-right}
+use Rattle.plan.proofs.First.{test-passes, no-test}
+use Rattle.plan.proofs.Order.{records-pass, by-records}
 use Rattle.verdict_laws.proofs.Guests.{there-place, there-has, has-there, fits-fitted, fitted-all}
 use Rattle.verdict.specs.declared.TaskVerdict.the-variants as task
 

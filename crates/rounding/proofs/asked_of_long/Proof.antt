@@ -19,7 +19,8 @@ abbrev μ-loop : tie.MeasureT-loop
 
 loop-holds : tie.Need-loop-holds Inv-loop μ-loop
 loop-holds c =
-    (search needs, omega (arith, asked-none (nth (c .args .cost .now)) (nth (c .args .every .now)) (λ j. c .args .late) (c .args .v)))
+    let a = c .args in
+    (search needs, omega (arith, asked-none (nth (a .cost .now)) (nth (a .every .now)) (λ j. a .late) (a .v)))
 
 add-share : tie.Need-add-share Inv-loop μ-loop
 add-share c = search needs
@@ -53,11 +54,11 @@ loop-less c = search needs
 
 loop-again : tie.Need-loop-again Inv-loop μ-loop
 loop-again c =
-    let l = c .before .before .before .before .before in (
+    let l = c .before .before .before .before .before in
+    let a = l .before .args in (
       search needs,
-      cut-next (nth (l .before .args .cost .now)) (nth (l .before .args .every .now)) (λ j. l .before .args .late) _ _ _
-          _ _ (l .loop .inv .1) (c .before .share .ensures .0)
-          (c .capped .ensures),
+      cut-next (nth (a .cost .now)) (nth (a .every .now)) (λ j. a .late) _ _ _ _ _ (l .loop .inv .1)
+          (c .before .share .ensures .0) (c .capped .ensures),
     )
 
 returns : tie.Need-returns Inv-loop μ-loop

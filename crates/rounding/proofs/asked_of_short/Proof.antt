@@ -20,7 +20,9 @@ abbrev μ-loop : tie.MeasureT-loop
 
 loop-holds : tie.Need-loop-holds Inv-loop μ-loop
 loop-holds c =
-    (search needs, omega (arith, asked-none (nth (c .args .cost .now)) (nth (c .args .every .now)) (λ j. c .args .late) (c .args .v)), search needs)
+    let a = c .args in
+    let none = asked-none (nth (a .cost .now)) (nth (a .every .now)) (λ j. a .late) (a .v) in
+    (search needs, omega (arith, none), search needs)
 
 add-share : tie.Need-add-share Inv-loop μ-loop
 add-share c = search needs
@@ -51,12 +53,10 @@ loop-less c = search needs
 
 loop-again : tie.Need-loop-again Inv-loop μ-loop
 loop-again c =
-    let l = c .before .before .before .before in (
-      search needs,
-      omega
-          (arith, asked-next (nth (l .before .args .cost .now)) (nth (l .before .args .every .now)) (λ j. l .before .args .late) (l .loop .k) (l .before .args .v), c .share .ensures .0, l .loop .inv .1),
-      search needs,
-    )
+    let l = c .before .before .before .before in
+    let a = l .before .args in
+    let next = asked-next (nth (a .cost .now)) (nth (a .every .now)) (λ j. a .late) (l .loop .k) (a .v) in
+    (search needs, omega (arith, next, c .share .ensures .0, l .loop .inv .1), search needs)
 
 returns : tie.Need-returns Inv-loop μ-loop
 returns c = let h : c .before .loop .k ≡ c .before .before .args .n = omega arith in rw (← h) (c .before .loop .inv .1)

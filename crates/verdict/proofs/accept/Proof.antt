@@ -1,8 +1,10 @@
 -- `verdict::accept` meets its promise: the records' refusal, else one pass over the guests off the columns. Assumes nothing.
 use borrow.Author.Needs.{needs}
 use Rattle.verdict.specs.Verdict.{acceptSays}
-use Rattle.response.proofs.ReadyLaws.{stands-at}
-use Rattle.verdict.proofs.Verdict.{in-order, plan-accepted, plan-refuses}
+use Rattle.plan.proofs.LookUp.{check-passes}
+use Rattle.plan.proofs.Order.{plan-in}
+use Rattle.response.proofs.ReadyLaws.{seated-at}
+use Rattle.verdict.proofs.Verdict.{plan-accepted, plan-refuses}
 use Rattle.verdict.proofs.accept.Statement.{statement}
 use Rattle.verdict.proofs.accept.Tie as tie
 
@@ -19,22 +21,22 @@ all-accepted-requires : tie.Need-all-accepted-requires
 all-accepted-requires c κs =
     let columns = c .before .before .before .before in
     let passed = columns .before in
-    let order = in-order _ (passed .before .before .check .ensures) (passed .if1 .left) in
-    (stands-at _ _ (columns .columns-of .ensures) order, order .few)
+    let order = plan-in _ (check-passes _ (passed .before .before .check .ensures) (passed .if1 .left)) in
+    (seated-at _ _ (columns .columns-of .ensures) order, order .few)
 
 returns-2 : tie.Need-returns-2
 unfolding acceptSays
 returns-2 c =
     let columns = c .before .before .before .before .before .before in
     let passed = columns .before in
-    plan-accepted _ (passed .before .before .check .ensures) (passed .if1 .left) _ (columns .columns-of .ensures) (c .before .all-accepted .ensures) (c .if2 .taken)
+    plan-accepted _ (check-passes _ (passed .before .before .check .ensures) (passed .if1 .left)) (columns .columns-of .ensures) (c .before .all-accepted .ensures) (c .if2 .taken)
 
 returns-3 : tie.Need-returns-3
 unfolding acceptSays
 returns-3 c =
     let columns = c .before .before .before .before .before .before in
     let passed = columns .before in
-    plan-accepted _ (passed .before .before .check .ensures) (passed .if1 .left) _ (columns .columns-of .ensures) (c .before .all-accepted .ensures) (c .if2 .left)
+    plan-accepted _ (check-passes _ (passed .before .before .check .ensures) (passed .if1 .left)) (columns .columns-of .ensures) (c .before .all-accepted .ensures) (c .if2 .left)
 
 pub accept-spec : {M : Type 1} → statement M
 accept-spec =

@@ -1,72 +1,105 @@
--- `verdict::task_verdict` meets its promise: the records' refusal, then 7, then 8, then the task's response off the columns. Assumes nothing.
+-- `verdict::task_verdict` meets its promise: the way in, then 8, then the task's response off the columns. Assumes nothing.
+use mathlib.Core.Path.{sym, _∙_}
 use native.Mathlib.Omega.{arith}
 use borrow.Author.Needs.{needs}
+use borrow.Author.Tests.{not-true, not-false}
+use Rattle.plan.specs.Records.{guestAt}
 use Rattle.verdict.specs.Verdict.{taskVerdict}
 use Rattle.verdict.specs.declared.TaskVerdict.the-variants.{Refused}
-use Rattle.response.proofs.ReadyLaws.{stands-at}
-use Rattle.verdict.proofs.Verdict.{records-refuse, in-order, guest-missing, task-judged}
+use Rattle.plan.proofs.LookUp.{lent, lent-few, look-refuses, look-order, look-here, look-few}
+use Rattle.plan.proofs.Ranges.{within-says}
+use Rattle.response.proofs.ReadyLaws.{seated-at}
+use Rattle.verdict.proofs.Verdict.{task-missing, task-judged}
 use Rattle.verdict.proofs.task_verdict.Statement.{statement}
 use Rattle.verdict.proofs.task_verdict.Tie as tie
 
 check-requires : tie.Need-check-requires
 check-requires c κs = search needs
 
-returns : tie.Need-returns
-unfolding taskVerdict
-returns c = records-refuse Refused _ _ _ (c .before .before .check .ensures) (c .if1 .taken)
-
 columns-of-requires : tie.Need-columns-of-requires
 columns-of-requires c κs = search needs
 
-cast-n : tie.Need-cast-n
-cast-n c = search needs
+look-up-requires : tie.Need-look-up-requires
+look-up-requires c κs = lent-few _ (c .before .before .before .before .before .check .ensures)
 
-place-of-requires : tie.Need-place-of-requires
-place-of-requires c κs =
-    let passed = c .before .before .before .before .before .before in
-    omega (arith, in-order _ (passed .before .before .check .ensures) (passed .if1 .left) .few)
+returns : tie.Need-returns
+unfolding taskVerdict
+returns found =
+    let look = found .before .before .before in
+    let columns = look .before .before .before .before .before in
+    let l = look .look-up .ensures _ (lent (columns .before .check .ensures) (columns .columns-of .ensures)) in
+    look-refuses l Refused _ _ (found .if1 .taken)
+
+mul-g : tie.Need-mul-g
+mul-g c =
+    let found = c .before in
+    let look = found .before .before .before in
+    let columns = look .before .before .before .before .before in
+    let l = look .look-up .ensures _ (lent (columns .before .check .ensures) (columns .columns-of .ensures)) in
+    omega (arith, look-few l (found .if1 .left))
+
+array-copy-out-g : tie.Need-array-copy-out-g
+array-copy-out-g c =
+    let found = c .before in
+    let look = found .before .before .before in
+    let columns = look .before .before .before .before .before in
+    let l = look .look-up .ensures _ (lent (columns .before .check .ensures) (columns .columns-of .ensures)) in
+    look-few l (found .if1 .left)
+
+has-task-requires : tie.Need-has-task-requires
+has-task-requires c κs = search needs
 
 returns-2 : tie.Need-returns-2
-unfolding taskVerdict
 returns-2 c =
-    let columns = c .before .before .before .before .before .before .before in
-    let passed = columns .before in
-    guest-missing _ (passed .before .before .check .ensures) (passed .if1 .left) _ (columns .columns-of .ensures) _ (c .before .place-of .ensures) Refused _ _ (c .if2 .taken)
-
-mul-number-task : tie.Need-mul-number-task
-mul-number-task c = search needs
-
-array-copy-out-number-task : tie.Need-array-copy-out-number-task
-array-copy-out-number-task c =
-    let found = c .before in
-    let passed = found .before .before .before .before .before .before .before .before in
-    omega (arith, found .if2 .left, in-order _ (passed .before .before .check .ensures) (passed .if1 .left) .few)
-
-number-task-requires : tie.Need-number-task-requires
-number-task-requires c κs =
     let found = c .before .before .before .before in
-    let columns = found .before .before .before .before .before .before .before in
-    let passed = columns .before in
-    stands-at _ _ (columns .columns-of .ensures) (in-order _ (passed .before .before .check .ensures) (passed .if1 .left)) _ (found .if2 .left)
+    let look = found .before .before .before in
+    let columns = look .before .before .before .before .before in
+    let l = look .look-up .ensures _ (lent (columns .before .check .ensures) (columns .columns-of .ensures)) in
+    task-missing l (found .if1 .left) _ (c .before .has-task .ensures) (not-true _ (c .if2 .taken))
+
+sub-judge-task : tie.Need-sub-judge-task
+sub-judge-task c =
+    let test = c .before .before in
+    within-says _ _ _ (sym (test .before .has-task .ensures) ∙ not-false _ (test .if2 .left)) .0
+
+cast-judge-task : tie.Need-cast-judge-task
+cast-judge-task c = search needs
+
+judge-task-requires : tie.Need-judge-task-requires
+judge-task-requires c κs =
+    let test = c .before .before in
+    let found = test .before .before .before .before in
+    let look = found .before .before .before in
+    let columns = look .before .before .before .before .before in
+    let l = look .look-up .ensures _ (lent (columns .before .check .ensures) (columns .columns-of .ensures)) in
+    let h = found .if1 .left in
+    let start = columns .before .before in
+    let g = guestAt (start .args .plan .guests) (look .look-up .result .place) in
+    let number = within-says 1 (g .tasks) (start .args .task) (sym (test .before .has-task .ensures) ∙ not-false _ (test .if2 .left)) in
+    (seated-at _ _ (columns .columns-of .ensures) (look-order l h) _ (look-here l h), omega (arith, number .0, number .1))
 
 returns-3 : tie.Need-returns-3
 returns-3 c =
-    let found = c .before .before .before .before .before in
-    let columns = found .before .before .before .before .before .before .before in
-    let passed = columns .before in
-    task-judged _ (passed .before .before .check .ensures) (passed .if1 .left) _ (columns .columns-of .ensures) _ (found .before .place-of .ensures) _ (found .if2 .left) (c .number-task .ensures)
+    let test = c .before .before .before in
+    let found = test .before .before .before .before in
+    let look = found .before .before .before in
+    let columns = look .before .before .before .before .before in
+    let l = look .look-up .ensures _ (lent (columns .before .check .ensures) (columns .columns-of .ensures)) in
+    task-judged l (found .if1 .left) (columns .columns-of .ensures) _ (test .before .has-task .ensures) (not-false _ (test .if2 .left)) (c .judge-task .ensures)
 
 pub task-verdict-spec : {M : Type 1} → statement M
 task-verdict-spec =
     tie.close
     (tie.spec
     check-requires
-    returns
     columns-of-requires
-    cast-n
-    place-of-requires
+    look-up-requires
+    returns
+    mul-g
+    array-copy-out-g
+    has-task-requires
     returns-2
-    mul-number-task
-    array-copy-out-number-task
-    number-task-requires
+    sub-judge-task
+    cast-judge-task
+    judge-task-requires
     returns-3)

@@ -38,7 +38,9 @@ cast-r : tie.Need-cast-r Inv-loop μ-loop
 cast-r c =
     let l = c .before .before in
     let s = l .before .before .before in
-    omega (arith, c .charged-run .ensures, charged-most (runOf (s .args .g) (l .loop .i)) (s .args .g .charge) (s .pre .short (l .loop .i) (omega arith)) (omega arith))
+    let g = s .args .g in
+    let i = l .loop .i in
+    omega (arith, c .charged-run .ensures, charged-most (runOf g i) (g .charge) (s .pre .short i (omega arith)) (omega arith))
 
 mul-r : tie.Need-mul-r Inv-loop μ-loop
 mul-r c = search needs
@@ -55,7 +57,8 @@ loop-less c = search needs
 loop-again : tie.Need-loop-again Inv-loop μ-loop
 loop-again c =
     let g = c .before .before .before .before .before .args .g in
-    (search needs, rw (c .charged-run .ensures) (filled-next (λ j. chargedRun (nth (g .run) j) (g .charge)) _ (array-write-r c) (c .before .before .loop .inv .1)))
+    let next = filled-next (λ j. chargedRun (nth (g .run) j) (g .charge)) _ (array-write-r c) (c .before .before .loop .inv .1) in
+    (search needs, rw (c .charged-run .ensures) next)
 
 returns : tie.Need-returns Inv-loop μ-loop
 returns c = filled-done _ _ _ (c .loop-test .left) (c .before .loop .inv .1)

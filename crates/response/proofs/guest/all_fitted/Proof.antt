@@ -43,7 +43,8 @@ loop-again : tie.Need-loop-again Inv-loop μ-loop
 unfolding fittedAt
 loop-again c =
     let l = c .before .before .before .before in
-    (search needs, all-next _ _ (l .loop .inv .1) (test-is (c .before .before .response-at .ensures) (c .before .is-at .ensures) (not-false _ (c .if1 .left))))
+    let fits = test-is (c .before .before .response-at .ensures) (c .before .is-at .ensures) (not-false _ (c .if1 .left)) in
+    (search needs, all-next _ _ (l .loop .inv .1) fits)
 
 returns-2 : tie.Need-returns-2 Inv-loop μ-loop
 returns-2 c = all-done _ _ _ (omega arith) (c .before .loop .inv .1)

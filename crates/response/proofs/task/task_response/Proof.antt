@@ -34,11 +34,14 @@ sub-room c = search needs
 loop-holds : tie.Need-loop-holds Inv-loop μ-loop
 loop-holds c =
     let a = c .before .args in
-    task-start (regular (columnSystem (guestsTake (a .capacities .now) (a .periods .now) (a .n)) (a .capacity) (a .period) (a .run .now) (a .every .now))
-    (take-grows _ _ _) _ (c .before .pre .1) .1) (omega arith) (omega arith)
+    let above = guestsTake (a .capacities .now) (a .periods .now) (a .n) in
+    let S = columnSystem above (a .capacity) (a .period) (a .run .now) (a .every .now) in
+    task-start (regular S (take-grows _ _ _) _ (c .before .pre .1) .1) (omega arith) (omega arith)
 
 right-of-requires : tie.Need-right-of-requires Inv-loop μ-loop
-right-of-requires c κs = let s = c .before .before in ((s .pre .0, (s .pre .1 .some, (s .pre .1 .within, s .pre .1 .runs))), omega (arith, c .loop .inv .high))
+right-of-requires c κs =
+    let s = c .before .before .pre in
+    ((s .0, (s .1 .some, (s .1 .within, s .1 .runs))), omega (arith, c .loop .inv .high))
 
 wide-requires : tie.Need-wide-requires Inv-loop μ-loop
 wide-requires c κs = search needs

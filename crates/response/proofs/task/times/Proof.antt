@@ -15,7 +15,9 @@ mul-result : tie.Need-mul-result
 mul-result c = let k : c .wide .result ≤ bound - 1 = omega arith in omega (arith, mul-le-mul (c .before .pre) k)
 
 returns : tie.Need-returns
-returns c = let k : c .wide .result ≤ bound - 1 = omega arith in (rw (c .wide .ensures .0) refl, omega (arith, mul-le-mul (c .before .pre) k))
+returns c =
+    let k : c .wide .result ≤ bound - 1 = omega arith in
+    (rw (c .wide .ensures .0) refl, omega (arith, mul-le-mul (c .before .pre) k))
 
 pub times-spec : {M : Type 1} → statement M
 times-spec = tie.close (tie.spec wide-requires mul-result returns)

@@ -47,7 +47,8 @@ loop-less c = search needs
 
 loop-again : tie.Need-loop-again Inv-loop μ-loop
 loop-again c =
-    (search needs, all-next _ _ (c .before .before .before .before .loop .inv .1) (sym (c .before .guest-accepted .ensures) ∙ not-false _ (c .if1 .left)))
+    let accepted = sym (c .before .guest-accepted .ensures) ∙ not-false _ (c .if1 .left) in
+    (search needs, all-next _ _ (c .before .before .before .before .loop .inv .1) accepted)
 
 returns-2 : tie.Need-returns-2 Inv-loop μ-loop
 returns-2 c = all-done _ _ _ (omega arith) (c .before .loop .inv .1)

@@ -7,7 +7,7 @@ use borrow.Author.Tests.{not-true, not-false}
 use Rattle.response.specs.Task.{limit}
 use Rattle.response.specs.Columns.{guestsTake}
 use Rattle.response.proofs.ColumnsLaws.{task-is}
-use Rattle.response.proofs.ReadyLaws.{stands-fits, stands-ready}
+use Rattle.response.proofs.ReadyLaws.{guest-ready, seated-range, seated-fits}
 use Rattle.verdict.proofs.Verdict.{says-unjudged, says-judged}
 use Rattle.verdict.proofs.judge.judge_task.Statement.{statement}
 use Rattle.verdict.proofs.judge.judge_task.Tie as tie
@@ -34,11 +34,12 @@ task-response-requires : tie.Need-task-response-requires
 task-response-requires c κs =
     let filled = c .before .before in
     let test = filled .before in
-    let s = test .before .before .before .before .pre in (
+    let start = test .before .before .before .before in
+    let s = start .pre in (
       (omega (arith, s .0 .place), omega (arith, s .1, s .0 .runs .few)),
-      stands-ready _ _ _ _ (s .0)
-          (stands-fits _ _ _ _ (s .0) (sym (test .before .all-fitted .ensures) ∙ not-false _ (test .if1 .left))) _
-          (filled .charged-of .ensures) _ (s .1),
+      guest-ready (guestsTake _ _ _) (start .args .g) (seated-range _ _ _ _ (s .0))
+          (seated-fits _ _ _ _ (s .0) (sym (test .before .all-fitted .ensures) ∙ not-false _ (test .if1 .left)))
+          _ (filled .charged-of .ensures) _ (s .1),
     )
 
 mul-met-or-not : tie.Need-mul-met-or-not
