@@ -6,6 +6,8 @@ pub mod Tick
 pub mod Told
 pub mod Release
 pub mod Fresh
+pub mod Followed
+pub mod Sheet
 pub mod View
 -- The promise.
 pub mod Independence

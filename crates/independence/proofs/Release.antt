@@ -11,8 +11,7 @@ use borrow.Author.Tests.{lt-ltb}
 use Rattle.lists.specs.Refusals.{refusal, _orRefuse_}
 use Rattle.plan.specs.declared.Guest.{Guest}
 use Rattle.plan.specs.declared.Plan.{Plan}
-use Rattle.plan.specs.Place.{placeOf}
-use Rattle.plan.specs.Ranges.{within}
+use Rattle.plan.specs.Place.{placeOf, hasGuest, hasNumber, hasTask}
 use Rattle.plan.specs.Records.{everyOf}
 use Rattle.plan.specs.Charge.{charged}
 use Rattle.arrays.specs.Place.{placeAt}
@@ -31,7 +30,7 @@ use Rattle.independence.proofs.Alike.{Alike, tasksOf, in-one, in-other,
 -- The number of a release once the guest is known to be there: 8, 9, 10.
 abbrev ownNumber : (tasks wait rest task : ℕ) → ℕ
 ownNumber tasks wait rest task =
-    refusal (within 1 tasks task orRefuse 8 ∷ eqb wait 0 orRefuse 9 ∷ eqb rest 0 orRefuse 10 ∷ [])
+    refusal (hasNumber tasks task orRefuse 8 ∷ eqb wait 0 orRefuse 9 ∷ eqb rest 0 orRefuse 10 ∷ [])
 
 -- Where the guest is there, 14 and 7 are not given.
 number-here :
@@ -40,13 +39,13 @@ number-here :
     → placeOf (d .plan) id ≡ k
     → k < d .plan .count
     → releaseNumber d id task ≡ ownNumber (guestIn d k .tasks) (waitAt d k (task - 1)) (restAt d k (task - 1)) task
-unfolding releaseNumber
+unfolding releaseNumber hasGuest hasTask
 number-here d id k task D e h = rw e (go-on 14 _ (D .ok) ∙ go-on 7 _ (lt-ltb k (d .plan .count) h))
 
 -- Numbers that agree on a task that is there give the same answer.
 own-number :
     (b : Bool) (tasks wait rest wait' rest' task : ℕ)
-    → within 1 tasks task ≡ b
+    → hasNumber tasks task ≡ b
     → (task - 1 < tasks → (wait ≡ wait') × (rest ≡ rest'))
     → ownNumber tasks wait rest task ≡ ownNumber tasks wait' rest' task
 own-number false tasks wait rest wait' rest' task e h = stop 8 _ e ∙ sym (stop 8 _ e)
@@ -71,7 +70,7 @@ module _ {id k : ℕ} {p q : Plan} (S : SameFor id k p q) {d e : Dispatcher} (A 
   same-number task =
       number-here d id k task (A .one) place-one (in-one S A)
       ∙ rw (tasks-one S A, tasks-other S A)
-      (own-number (within 1 (tasksOf p k) task) (tasksOf p k) (waitAt d k (task - 1)) (restAt d k (task - 1))
+      (own-number (hasNumber (tasksOf p k) task) (tasksOf p k) (waitAt d k (task - 1)) (restAt d k (task - 1))
       (waitAt e k (task - 1)) (restAt e k (task - 1)) task refl (λ l. (A .wait (task - 1) l, A .rest (task - 1) l)))
       ∙ sym (number-here e id k task (A .other) place-other (in-other S A))
 

@@ -1,10 +1,12 @@
--- What of a history concerns a guest: the ticks, and the releases of its own tasks, in order. The calls alone are
--- looked at, not the states.
-use mathlib.Core.Bool.{Bool, true, false}
+-- What of a history concerns a guest: the ticks, and the releases of its own tasks, singly or on sheets, in order. The
+-- calls alone are looked at, not the states.
+use mathlib.Core.Bool.{Bool, true, false, _&&_}
 use mathlib.Core.List.{List, [], _∷_, _++_}
 use Prim.Native.Nat.{ℕ}
-use lib.Dec.{eqb}
-use Rattle.history.specs.Calls.{Call, releasing, ticking, running}
+use lib.Dec.{eqb, leb}
+use lib.ListN.{length}
+use Rattle.sheet.specs.Sheet.{mostPairs, guestOf, taskOf}
+use Rattle.history.specs.Calls.{Call, releasing, ticking, running, sheeting}
 
 -- One thing asked for, as it concerns the guest.
 pub data Ask : Type 0 where
@@ -20,11 +22,27 @@ unfoldable pub ownIf : Bool → (task : ℕ) → List Ask
 ownIf true task = ownRelease task ∷ []
 ownIf false task = []
 
+-- What the pairs of a sheet ask for: the releases of the guest's own tasks, in order.
+unfoldable pub asksPairs : (id : ℕ) → (pairs : List ℕ) → List Ask
+asksPairs id [] = []
+asksPairs id (pair ∷ pairs) = ownIf (eqb (guestOf pair) id) (taskOf pair) ++ asksPairs id pairs
+
+-- Whether a sheet is called with at most 256 pairs and a place for each answer. Otherwise it is refused whole, whatever
+-- the state.
+abbrev pub sheetFits : (pairs : List ℕ) (room : ℕ) → Bool
+sheetFits pairs room = leb (length pairs) mostPairs && leb (length pairs) room
+
+-- What a sheet asks for, by whether it fits. A sheet that is refused whole counts as no releases.
+unfoldable pub asksSheet : (fits : Bool) → (id : ℕ) → (pairs : List ℕ) → List Ask
+asksSheet true id pairs = asksPairs id pairs
+asksSheet false id pairs = []
+
 -- What a call asks for: the release of another guest's task leaves nothing.
 unfoldable pub asks : (id : ℕ) → Call → List Ask
 asks id (releasing guest task) = ownIf (eqb guest id) task
 asks id ticking = oneTick ∷ []
 asks id (running n) = aRun n ∷ []
+asks id (sheeting pairs room) = asksSheet (sheetFits pairs room) id pairs
 
 -- What a history asks for, as it concerns the guest with that id.
 unfoldable pub own : (id : ℕ) → List Call → List Ask

@@ -1,7 +1,7 @@
 -- A guest's view of a history: its own events in order, the answers of its releases and one event for each tick done.
 use mathlib.Core.Bool.{Bool, true, false}
 use mathlib.Core.List.{List, [], _∷_, _++_}
-use Prim.Native.Nat.{ℕ}
+use Prim.Native.Nat.{ℕ, zero, suc}
 use lib.Dec.{eqb}
 use Rattle.lists.specs.Choice.{pick}
 use Rattle.dispatcher.specs.declared.Dispatcher.{Dispatcher}
@@ -9,7 +9,8 @@ use Rattle.dispatcher.specs.declared.Answer.{Answer}
 use Rattle.dispatcher.specs.declared.Answer.the-variants.{Silent, Nobody, Idled, Worked, Finished}
 use Rattle.dispatcher.specs.Release.{release}
 use Rattle.dispatcher.specs.Entries.{tick, run}
-use Rattle.history.specs.Calls.{Call, releasing, ticking, running, after, singles}
+use Rattle.sheet.specs.Sheet.{guestOf, taskOf, pairReleased, sheet}
+use Rattle.history.specs.Calls.{Call, releasing, ticking, running, sheeting, after, singles}
 use Rattle.independence.specs.Event.{Event, answered, elsewhere, idled, worked, finished}
 
 -- What the guest with that id can tell of a tick, by the tick's answer. Of another guest's tick it can tell no more
@@ -31,11 +32,25 @@ unfoldable pub answeredIf : Bool → (task number : ℕ) → List Event
 answeredIf true task number = answered task number ∷ []
 answeredIf false task number = []
 
+-- What it can tell of the pairs of a sheet, released one by one: the answers of its own pairs, in order.
+unfoldable pub seesPairs : (id : ℕ) → (pairs : List ℕ) → Dispatcher → List Event
+seesPairs id [] d = []
+seesPairs id (pair ∷ pairs) d =
+    answeredIf (eqb (guestOf pair) id) (taskOf pair) (pairReleased d pair .refusal .number)
+    ++ seesPairs id pairs (pairReleased d pair .state)
+
+-- What it can tell of a sheet, by the number of the whole refusal, 0 for none. A sheet that is refused whole counts as
+-- no releases.
+unfoldable pub seesSheet : (number : ℕ) → (id : ℕ) → (pairs : List ℕ) → Dispatcher → List Event
+seesSheet zero id pairs d = seesPairs id pairs d
+seesSheet (suc n) id pairs d = []
+
 -- What it can tell of a call.
 unfoldable pub sees : (id : ℕ) → Call → Dispatcher → List Event
 sees id (releasing guest task) d = answeredIf (eqb guest id) task (release d guest task .refusal .number)
 sees id ticking d = told id (tick d .answer)
 sees id (running n) d = toldAll id (singles (run d n .done) d)
+sees id (sheeting pairs room) d = seesSheet (sheet d pairs room .refusal .number) id pairs d
 
 -- What it can tell of a history of calls.
 unfoldable pub view : (id : ℕ) → List Call → Dispatcher → List Event

@@ -14,11 +14,11 @@ use Rattle.independence.specs.View.{view}
 use Rattle.independence.proofs.Independence as proved
 
 -- Take two plans that are the same for a guest (`SameFor`): neither is refused, the guest stands at place k with the
--- same record, and the guests above it have the same capacities and periods. Take two histories of releases and single
--- ticks that agree on the ticks, and on that guest's own releases and when they come (`own`). All other records and
--- releases may differ. The guest then gets the same answers to its releases, the same ticks, and the same finished jobs
--- with the same ages and margins, in the same order. Runs of several ticks are left out, since a run stops at any
--- guest's finish.
+-- same record, and the guests above it have the same capacities and periods. Take two histories of releases, sheets and
+-- single ticks that agree on the ticks, and on that guest's own releases and when they come (`own`). All other records
+-- and releases may differ. The guest then gets the same answers to its releases, the same ticks, and the same finished
+-- jobs with the same ages and margins, in the same order. A sheet counts by that guest's own pairs, and one that is
+-- refused whole counts as no releases. Runs of several ticks are left out, since a run stops at any guest's finish.
 pub independence :
     (id k : ℕ) (p q : Plan)
     → SameFor id k p q

@@ -1,5 +1,5 @@
--- Independence at plan A: guest 9's view over 44 ticks, written out, is the same beside a guest 7 that is pressed and in
--- a crowded plan. Each of the things that must agree is needed: changed alone, it shows.
+-- Independence at plan A: guest 9's view over 44 ticks, written out, is the same beside a guest 7 that is pressed, in a
+-- crowded plan, and with its releases on sheets. Each of the things that must agree is needed: changed alone, it shows.
 use mathlib.Core.Path.{_≡_, refl, sym, ap, _∙_}
 use mathlib.Core.Bool.{Bool, true, false, false≢true}
 use mathlib.Core.List.{List, [], _∷_, _++_}
@@ -10,7 +10,7 @@ use Rattle.independence.specs.Event.{Event, answered, elsewhere, idled, worked,
 use Rattle.independence.specs.Own.{only}
 use Rattle.independence.specs.View.{view}
 use Rattle.worked.specs.Plans.{A}
-use Rattle.results.specs.Views.{Views, planWith, crowded, quiet, pressed, beset, shown}
+use Rattle.results.specs.Views.{Views, planWith, crowded, quiet, pressed, beset, sheeted, shown}
 use Rattle.independence.proofs.Independence.{same-itself}
 use Rattle.results.proofs.ComputedViews.{computed}
 use Rattle.results.proofs.Independence.{independence, alone}
@@ -32,6 +32,14 @@ pub in-the-crowd : view 9 beset (start crowded) ≡ shown
 in-the-crowd =
     sym (independence 9 1 A crowded (computed .same-crowded) quiet beset (computed .singly-quiet) (computed .singly-beset)
     (sym (computed .asked-beset)))
+    ∙ views .unreleased
+
+-- With its releases on sheets, among pairs of other guests and sheets refused whole, guest 9 can tell the same as with
+-- single releases.
+pub on-sheets : view 9 sheeted (start A) ≡ shown
+on-sheets =
+    independence 9 1 A A (same-itself (computed .same-crowded .here)) sheeted quiet (computed .singly-sheeted)
+    (computed .singly-quiet) (computed .asked-sheeted)
     ∙ views .unreleased
 
 -- With all releases of guest 7 taken away, guest 9 can tell the same.

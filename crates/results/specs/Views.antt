@@ -2,10 +2,11 @@
 -- views for each thing that does show when it is changed.
 use mathlib.Core.Path.{_≡_}
 use mathlib.Core.List.{List, [], _∷_, _++_}
-use Prim.Native.Nat.{ℕ, zero, suc}
+use Prim.Native.Nat.{ℕ, zero, suc, _+_, _*_}
 use lib.IntN.{pos}
 use Rattle.plan.specs.declared.Plan.{Plan}
-use Rattle.history.specs.Calls.{Call, releasing, ticking, running, start, times}
+use Rattle.sheet.specs.Sheet.{pairBase}
+use Rattle.history.specs.Calls.{Call, releasing, ticking, running, sheeting, start, times}
 use Rattle.independence.specs.Event.{Event, answered, elsewhere, idled, worked, finished}
 use Rattle.independence.specs.Own.{own}
 use Rattle.independence.specs.View.{view}
@@ -52,8 +53,19 @@ pressed = among (releasing 7 1 ∷ [])
 abbrev pub beset : List Call
 beset = among (releasing 8 1 ∷ releasing 8 2 ∷ releasing 11 1 ∷ releasing 12 1 ∷ [])
 
--- What guest 9 can tell then, five ticks to a line: the first task is finished at age 24, the second at age 44, and the
--- last release comes too early.
+-- The pair of a sheet that is a release of this guest's task.
+abbrev pub pairOf : (guest task : ℕ) → ℕ
+pairOf guest task = guest * pairBase + task
+
+-- Guest 9's releases come on sheets, among pairs of other guests. Before each of the ticks comes a sheet of a pair of
+-- guest 9 with no place for an answer, which is refused whole.
+abbrev pub sheeted : List Call
+sheeted =
+    sheeting (pairOf 7 1 ∷ pairOf 9 1 ∷ pairOf 12 1 ∷ pairOf 9 2 ∷ []) 4
+    ∷ (before (sheeting (pairOf 9 1 ∷ []) 0 ∷ []) 44 ++ (sheeting (pairOf 9 1 ∷ pairOf 7 1 ∷ []) 9 ∷ []))
+
+-- What guest 9 can tell in all these, five ticks to a line: the first task is finished at age 24, the second at age 44,
+-- and the last release comes too early.
 abbrev pub shown : List Event
 shown =
     answered 1 0
@@ -86,6 +98,11 @@ pub record Views : Type 0 where
   -- When its own release comes shows: before the third tick or after it.
   pub sooner : view 9 (releasing 9 1 ∷ times 3) (start A) ≡ answered 1 0 ∷ elsewhere ∷ elsewhere ∷ worked 1 ∷ []
   pub later : view 9 (times 3 ++ (releasing 9 1 ∷ [])) (start A) ≡ elsewhere ∷ elsewhere ∷ idled ∷ answered 1 0 ∷ []
+  -- On a sheet guest 9 can tell the answers of its own pairs: the first is taken, and the same again comes too early.
+  pub on-a-sheet :
+      view 9 (sheeting (pairOf 9 1 ∷ pairOf 7 1 ∷ pairOf 9 1 ∷ []) 3 ∷ []) (start A) ≡ answered 1 0 ∷ answered 1 9 ∷ []
+  -- A sheet that is refused whole tells it nothing.
+  pub refused-whole : view 9 (sheeting (pairOf 9 1 ∷ pairOf 7 1 ∷ pairOf 9 1 ∷ []) 2 ∷ []) (start A) ≡ []
   -- In a run another guest's release shows, though the same is asked for guest 9: the run stops at that guest's finish.
   pub same-run : own 9 (releasing 7 1 ∷ running 4 ∷ []) ≡ own 9 (running 4 ∷ [])
   pub stopped : view 9 (releasing 7 1 ∷ running 4 ∷ []) (start A) ≡ elsewhere ∷ []
