@@ -1,5 +1,6 @@
 -- The theorems behind the promises, a file for each subject: statements, each with a line that cites its proof.
--- Numbers, Instances and PlanA show them at document 01's plans, and Computed holds what is shown by computing there.
+-- Numbers, Instances, PlanA and PlanAViews show them at document 01's plans, and Computed and ComputedViews hold what is
+-- shown by computing there.
 pub mod Refusals
 pub mod Causes
 pub mod PlanFiles
@@ -7,7 +8,10 @@ pub mod Verdicts
 pub mod Dispatcher
 pub mod Word
 pub mod Sheets
+pub mod Independence
 pub mod Computed
+pub mod ComputedViews
 pub mod Numbers
 pub mod Instances
 pub mod PlanA
+pub mod PlanAViews

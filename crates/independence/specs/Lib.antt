@@ -1,0 +1,5 @@
+pub mod Event
+pub mod View
+pub mod Own
+pub mod NoRuns
+pub mod SameFor
