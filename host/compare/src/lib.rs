@@ -17,6 +17,7 @@ mod show;
 mod shrink;
 pub mod side;
 mod states;
+mod tries;
 
 use session::Session;
 use std::time::{Duration, Instant};
