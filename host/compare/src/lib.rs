@@ -5,6 +5,7 @@ mod blocks;
 mod call;
 mod exhaustive;
 mod histories;
+pub mod independence;
 mod pairs;
 mod plans;
 pub mod planview;
@@ -17,6 +18,7 @@ mod show;
 mod shrink;
 pub mod side;
 mod states;
+mod tries;
 
 use session::Session;
 use std::time::{Duration, Instant};
@@ -30,5 +32,6 @@ pub fn everything(session: &mut Session, budget: Duration) {
         random_calls::round(session);
         histories::history(session);
         promise::histories(session);
+        independence::histories(session);
     }
 }

@@ -12,9 +12,10 @@ use crate::plans::{self, SMALL, TINY};
 use crate::session::Session;
 use crate::show;
 use crate::side::Side;
+use crate::tries::{Script, fewest};
 use play::{Quoted, Seen, play};
 use reference::plan::Plan;
-use script::{Script, fewest, script};
+use script::script;
 
 /// One plan with quoted tasks, and some histories against it.
 pub fn histories(session: &mut Session) {

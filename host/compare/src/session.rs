@@ -84,8 +84,7 @@ impl Session {
     }
 
     /// Whether a check that is not one call held each time.
-    #[cfg(test)]
-    pub(crate) fn held(&self, name: &str) -> bool {
+    pub fn held(&self, name: &str) -> bool {
         let mut others = self.others.iter().filter(|other| other.0 == name);
         others.any(|(_, right, wrong)| *right > 0 && *wrong == 0)
     }

@@ -1,10 +1,10 @@
 //! Plays a script of releases, watches the clock itself and counts where the ticks went.
 
-use super::script::{Script, Tried};
 use crate::side::Side;
+use crate::tries::{Script, Tried, is_refused_whole};
 use reference::dispatcher::{
-    Answer, COUNTED, Dispatcher, FINISHED, IDLED, IDLED_FROM, LONGEST_SHEET, NOBODY, NOBODYS,
-    PLACES, parts, place_of,
+    Answer, COUNTED, Dispatcher, FINISHED, IDLED, IDLED_FROM, NOBODY, NOBODYS, PLACES, parts,
+    place_of,
 };
 use reference::plan::Plan;
 
@@ -87,7 +87,7 @@ impl Play<'_> {
         self.seen.sheets += 1;
         if outcome.refusal.number != 0 {
             self.seen.refused_whole += 1;
-            return match pairs.len() > LONGEST_SHEET || room < pairs.len() {
+            return match is_refused_whole(pairs.len(), room) {
                 true => Ok(()),
                 false => Err(format!(
                     "tick {time}: sheet refused whole: {:?}",

@@ -1,33 +1,11 @@
-//! What is tried before each tick of a history.
+//! Makes the releases that are tried against the promise.
 
 use crate::random::Random;
 use crate::session::Session;
-use crate::show;
 use crate::side::Side;
-use reference::dispatcher::{LONGEST_SHEET, pair};
+use crate::tries::{Script, Tried, refused_whole};
+use reference::dispatcher::pair;
 use reference::plan::{Guest, Plan};
-use std::fmt;
-
-/// One call before a tick: a release of a pair, or a sheet of pairs with room for so many answers.
-#[derive(Clone)]
-pub enum Tried {
-    Single(u64),
-    Sheet(Vec<u64>, usize),
-}
-
-/// What is tried before each tick.
-pub type Script = Vec<Vec<Tried>>;
-
-impl fmt::Display for Tried {
-    fn fmt(&self, to: &mut fmt::Formatter<'_>) -> fmt::Result {
-        match self {
-            Tried::Single(pair) => write!(to, "release {}", show::pairs(&[*pair])),
-            Tried::Sheet(pairs, room) => {
-                write!(to, "sheet {}, {room} answer places", show::pairs(pairs))
-            }
-        }
-    }
-}
 
 /// Releases that hurt: the tasks of a guest begin together, mostly just after it used up its capacity,
 /// and then come as soon as they are due, or at random; one by one, or in sheets.
@@ -85,11 +63,8 @@ fn in_sheets(random: &mut Random, mut pairs: Vec<u64>) -> Vec<Tried> {
         pairs.insert(random.below(pairs.len() + 1), other);
     }
     let mut tries = Vec::new();
-    let many = LONGEST_SHEET + 1;
-    match random.below(16) {
-        0 => tries.push(Tried::Sheet(pairs.clone(), pairs.len() - 1)),
-        1 => tries.push(Tried::Sheet(pairs.repeat(many)[..many].to_vec(), many)),
-        _ => (),
+    if random.once_in(8) {
+        tries.push(refused_whole(random, &pairs));
     }
     let room = pairs.len() + random.below(3);
     tries.push(Tried::Sheet(pairs, room));
@@ -120,38 +95,4 @@ fn used_up(side: &Side, plan: &Plan, horizon: u32) -> Vec<Vec<u32>> {
         }
     }
     used_up
-}
-
-/// A script with as few calls, and in its sheets as few pairs, as still fail.
-pub fn fewest(script: Script, fails: impl Fn(&Script) -> bool) -> Script {
-    let mut best = script;
-    for time in (0..best.len()).rev() {
-        for at in (0..best[time].len()).rev() {
-            let mut fewer = best.clone();
-            fewer[time].remove(at);
-            match fails(&fewer) {
-                true => best = fewer,
-                false => best = fewer_pairs(best, [time, at], &fails),
-            }
-        }
-    }
-    best
-}
-
-/// The script with as few pairs in one of its sheets as still fail.
-fn fewer_pairs(script: Script, [time, at]: [usize; 2], fails: &impl Fn(&Script) -> bool) -> Script {
-    let mut best = script;
-    let Tried::Sheet(pairs, _) = &best[time][at] else {
-        return best;
-    };
-    for gone in (0..pairs.len()).rev() {
-        let mut fewer = best.clone();
-        if let Tried::Sheet(pairs, _) = &mut fewer[time][at] {
-            pairs.remove(gone);
-        }
-        if fails(&fewer) {
-            best = fewer;
-        }
-    }
-    best
 }
