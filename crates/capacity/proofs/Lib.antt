@@ -3,3 +3,4 @@ pub mod Trial
 pub mod Capacity
 pub mod Answer
 pub mod Promises
+pub mod Told

@@ -18,7 +18,7 @@ use Rattle.dispatcher.specs.Release.{taken, releaseNumber, releasedBy, release}
 use Rattle.windows.specs.TaskTick.{Taken, Same}
 use Rattle.lists.proofs.All.{and-true}
 use Rattle.lists.proofs.Refusals.{none-left, go-on, stop, passed}
-use Rattle.plan.proofs.Ranges.{within-says}
+use Rattle.plan.proofs.RangesLaws.{within-says}
 use Rattle.history.proofs.Seen.{runIn, everyIn, tasksAt, Shaped}
 
 -- Guest k of the state has the id, task t of it the number, and nothing waits or is left there.

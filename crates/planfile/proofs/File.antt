@@ -10,7 +10,7 @@ use Rattle.plan.specs.Ranges.{within}
 use Rattle.plan.specs.First.{refused, firstRefused}
 use Rattle.planfile.specs.File.{blockAt, blocksIn, sizeOk, numberAt, sizedBy, fileRefusal}
 use Rattle.lists.proofs.All.{and-left, and-right}
-use Rattle.plan.proofs.Ranges.{within-says}
+use Rattle.plan.proofs.RangesLaws.{within-says}
 use Rattle.plan.proofs.First.{none-refused}
 
 -- a right length
