@@ -16,7 +16,7 @@ use Rattle.arrays.specs.Ranges.{serverOk, noServer, jobOk, noJob}
 use Rattle.arrays.specs.Rows.{jobIn, blankAt, guestIsOk, rowIsBlank}
 use Rattle.lists.proofs.All.{all-at, all-end}
 use Rattle.plan.proofs.Charge.{charged-most}
-use Rattle.plan.proofs.Ranges.{task-says}
+use Rattle.plan.proofs.RangesLaws.{task-says}
 
 -- A bound of 0 is a test for 0.
 leb-zero : (x : ℕ) → leb x 0 ≡ eqb x 0

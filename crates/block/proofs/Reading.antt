@@ -12,7 +12,7 @@ use Rattle.words.specs.Word.{word}
 use Rattle.block.specs.Reading.{taskCount, column, guestOf, sumsToZero, kindOk, ownPlace, zeroBetween, zerosOk, blockNumber}
 use Rattle.lists.specs.All.{allTo}
 use Rattle.block.specs.Layout.{runWord, everyWord, deadlineWord}
-use Rattle.plan.proofs.Ranges.{head-says}
+use Rattle.plan.proofs.RangesLaws.{head-says}
 use Rattle.lists.proofs.All.{and-left, all-at}
 use Rattle.lists.proofs.Table.{table-at}
 use Rattle.lists.proofs.Refusals.{none-left, go-on, stop, passed}

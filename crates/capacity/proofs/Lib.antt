@@ -3,3 +3,4 @@ pub mod SearchLaws
 pub mod Capacity
 pub mod Answer
 pub mod Promises
+pub mod Told

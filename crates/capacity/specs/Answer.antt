@@ -1,4 +1,4 @@
--- The answer for a guest id, with its refusals in order.
+-- The answer for a guest's id, with its refusals in order.
 use mathlib.Core.List.{[], _∷_}
 use Prim.Native.Nat.{ℕ}
 use Rattle.lists.specs.Refusals.{_orRefuse_}
@@ -12,7 +12,7 @@ use Rattle.capacity.specs.declared.CapacityAnswer.{CapacityAnswer}
 use Rattle.capacity.specs.declared.CapacityAnswer.the-variants.{Refused, Smallest}
 use Rattle.capacity.specs.Capacity.{smallest}
 
--- the capacity, or 11 where none works
+-- the answer is the capacity that was found, or 11 where none works
 abbrev pub capacitySays : Found → CapacityAnswer
 capacitySays (At c) = Smallest c
 capacitySays Nothing = Refused 11 0

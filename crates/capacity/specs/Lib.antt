@@ -1,4 +1,5 @@
 pub mod Capacity
 pub mod Answer
 pub mod Promises
+pub mod Told
 pub mod Search

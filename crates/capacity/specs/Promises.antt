@@ -5,6 +5,6 @@ use Rattle.plan.specs.declared.Plan.{Plan}
 use Rattle.capacity.specs.declared.CapacityAnswer.{CapacityAnswer}
 use Rattle.capacity.specs.Answer.{smallestCapacity}
 
--- smallest_capacity: the guest's smallest capacity
+-- smallest_capacity gives the guest's smallest capacity
 abbrev pub Sized : Plan → ℕ → CapacityAnswer → Type 0
 Sized p id r = r ≡ smallestCapacity p id

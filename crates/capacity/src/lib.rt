@@ -7,6 +7,7 @@ use plan::look_up;
 
 mod search;
 
+// The answer: a refusal's number and place; the smallest capacity.
 pub enum CapacityAnswer {
     Refused(u32, u32),
     Smallest(u32),

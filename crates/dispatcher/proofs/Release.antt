@@ -35,7 +35,7 @@ use Rattle.plan.proofs.First.{none-refused}
 use Rattle.plan.proofs.Order.{counted, plan-in}
 use Rattle.arrays.proofs.Rows.{runs-small}
 use Rattle.plan.proofs.Charge.{charged-most}
-use Rattle.plan.proofs.Ranges.{head-says}
+use Rattle.plan.proofs.RangesLaws.{head-says}
 
 -- A guest in its ranges has at most 16 tasks.
 pub few-tasks : (g : Guest) → guestOk g ≡ true → g .tasks ≤ 16

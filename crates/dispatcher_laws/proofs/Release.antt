@@ -19,7 +19,7 @@ use Rattle.dispatcher.specs.Release.{taken, releaseNumber, releasedBy, release}
 use Rattle.windows.specs.TaskTick.{Taken, Same}
 use Rattle.lists.proofs.All.{and-true}
 use Rattle.lists.proofs.Refusals.{none-left, go-on, stop, passed}
-use Rattle.plan.proofs.Ranges.{within-says}
+use Rattle.plan.proofs.RangesLaws.{within-says}
 use Rattle.plan.proofs.Order.{plan-in}
 use Rattle.dispatcher.proofs.Valid.{ok-plan}
 use Rattle.dispatcher_laws.proofs.Seen.{runIn, everyIn, tasksAt, Shaped}

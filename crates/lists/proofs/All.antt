@@ -8,30 +8,30 @@ use native.Mathlib.Numerals.{add-one}
 use native.Mathlib.Omega.{arith}
 use Rattle.lists.specs.All.{allTo}
 
--- what both say, of the left
+-- where both tests pass, the left one passes
 pub and-left : (a b : Bool) → (a && b) ≡ true → a ≡ true
 and-left true b e = refl
 and-left false b e = e
 
--- and of the right
+-- where both tests pass, the right one passes
 pub and-right : (a b : Bool) → (a && b) ≡ true → b ≡ true
 and-right true b e = e
 and-right false b e = absurd (false≢true e)
 
--- both, from each
+-- where each test passes, both pass
 pub and-true : {a b : Bool} → a ≡ true → b ≡ true → (a && b) ≡ true
 and-true p q = rw (p, q) refl
 
--- not both, for want of the left
+-- where the left test fails, not both pass
 pub and-false-left : {a : Bool} (b : Bool) → a ≡ false → (a && b) ≡ false
 and-false-left b e = rw e refl
 
--- or of the right
+-- where the right test fails, not both pass
 pub and-false-right : (a : Bool) {b : Bool} → b ≡ false → (a && b) ≡ false
 and-false-right true e = e
 and-false-right false e = refl
 
--- a loop starts
+-- a loop starts: none is tested yet
 pub all-none : (f : ℕ → Bool) → allTo f 0 ≡ true
 unfolding allTo
 all-none f = refl
@@ -46,13 +46,13 @@ pub all-next : (f : ℕ → Bool) (n : ℕ) → allTo f n ≡ true → f n ≡ t
 unfolding allTo
 all-next f n e q = rw add-one (and-true e q)
 
--- all, from each
+-- where each of the first n passes, all pass
 pub all-by : (f : ℕ → Bool) (n : ℕ) → ((k : ℕ) → k < n → f k ≡ true) → allTo f n ≡ true
 unfolding allTo
 all-by f zero h = refl
 all-by f (suc n) h = and-true (all-by f n (λ k l. h k (omega arith))) (h n (omega arith))
 
--- each, from all
+-- where all of the first n pass, each passes
 pub all-at : (f : ℕ → Bool) (n k : ℕ) → k < n → allTo f n ≡ true → f k ≡ true
 unfolding allTo
 all-at f zero k h e = absurd (omega arith)
@@ -72,18 +72,18 @@ all-fails f m n h q = go (allTo f m) refl
 pub all-done : (f : ℕ → Bool) (i n : ℕ) → i ≡ n → allTo f i ≡ true → true ≡ allTo f n
 all-done f i n e q = sym (rw (← e) q)
 
--- tests that agree below n
+-- tests that agree at each number below n agree on all of them
 pub all-ext : (f g : ℕ → Bool) (n : ℕ) → ((k : ℕ) → k < n → f k ≡ g k) → allTo f n ≡ allTo g n
 unfolding allTo
 all-ext f g zero h = refl
 all-ext f g (suc n) h = rw (all-ext f g n (λ k l. h k (omega arith)), h n (omega arith)) refl
 
--- tests regrouped
+-- three tests in a row can be grouped either way
 pub and-assoc : (a b c : Bool) → ((a && b) && c) ≡ (a && (b && c))
 and-assoc true b c = refl
 and-assoc false b c = refl
 
--- two tests in a row, or one row of both
+-- all pass two tests exactly if all pass the one and all pass the other
 and-swap : (a b f g : Bool) → ((a && b) && (f && g)) ≡ ((a && f) && (b && g))
 and-swap false b f g = refl
 and-swap true true f g = refl
@@ -101,7 +101,8 @@ unfolding allTo
 all-false f zero e = absurd (false≢true (sym e))
 all-false f (suc n) e = go (allTo f n) refl (f n) refl (all-false f n)
   where
-    go : (a : Bool) → allTo f n ≡ a → (b : Bool) → f n ≡ b → (allTo f n ≡ false → (j : ℕ) × (j < n) × (f j ≡ false)) → (j : ℕ) × (j < suc n) × (f j ≡ false)
+    go : (a : Bool) → allTo f n ≡ a → (b : Bool) → f n ≡ b → (allTo f n ≡ false → (j : ℕ) × (j < n) × (f j ≡ false))
+        → (j : ℕ) × (j < suc n) × (f j ≡ false)
     go a p false q h = (n, omega arith, q)
     go false p true q h = (let x = h p in (x .0, omega (arith, x .1), x .2))
     go true p true q h = absurd (false≢true (sym e ∙ and-true p q))

@@ -21,10 +21,12 @@ upTo-length f (suc n) l = length-set (upTo f n l) n (f n (getD l n 0)) ∙ upTo-
 pub upTo-rest : (f : ℕ → ℕ → ℕ) (n : ℕ) (l : List ℕ) (k : ℕ) → n ≤ k → getD (upTo f n l) k 0 ≡ getD l k 0
 unfolding upTo
 upTo-rest f zero l k h = refl
-upTo-rest f (suc n) l k h = getD-set-other (upTo f n l) n k (f n (getD l n 0)) 0 (λ e. omega arith) ∙ upTo-rest f n l k (omega arith)
+upTo-rest f (suc n) l k h =
+    getD-set-other (upTo f n l) n k (f n (getD l n 0)) 0 (λ e. omega arith) ∙ upTo-rest f n l k (omega arith)
 
--- place k, once it has been passed
-pub upTo-at : (f : ℕ → ℕ → ℕ) (n : ℕ) (l : List ℕ) (k : ℕ) → k < n → k < length l → getD (upTo f n l) k 0 ≡ f k (getD l k 0)
+-- place k holds the changed number once it has been passed
+pub upTo-at : (f : ℕ → ℕ → ℕ) (n : ℕ) (l : List ℕ) (k : ℕ) → k < n → k < length l
+    → getD (upTo f n l) k 0 ≡ f k (getD l k 0)
 unfolding upTo
 upTo-at f zero l k h p = absurd (omega arith)
 upTo-at f (suc n) l k h p =
@@ -33,25 +35,26 @@ upTo-at f (suc n) l k h p =
     (λ q. getD-set-other (upTo f n l) n k (f n (getD l n 0)) 0 (λ e. omega arith) ∙ upTo-at f n l k q p)
     (eq-or-lt-of-le {n = k} {m = n} (omega arith))
 
--- a loop starts
+-- a loop starts: no place is changed yet
 pub upTo-none : (f : ℕ → ℕ → ℕ) (l : List ℕ) → upTo f 0 l ≡ l
 unfolding upTo
 upTo-none f l = refl
 
--- one place more, as a loop writes it
+-- changing one place more is writing it
 upTo-step : (f : ℕ → ℕ → ℕ) (n : ℕ) (l : List ℕ) → set (upTo f n l) n (f n (getD l n 0)) ≡ upTo f (n + 1) l
 unfolding upTo
 upTo-step f n l = rw add-one refl
 
 -- a loop's turn: the list is the first n places changed; one more is written, with f of what stands there
-pub upTo-next : (f : ℕ → ℕ → ℕ) (n : ℕ) (l w : List ℕ) (v : ℕ) → w ≡ upTo f n l → v ≡ f n (getD w n 0) → set w n v ≡ upTo f (n + 1) l
+pub upTo-next : (f : ℕ → ℕ → ℕ) (n : ℕ) (l w : List ℕ) (v : ℕ) → w ≡ upTo f n l → v ≡ f n (getD w n 0)
+    → set w n v ≡ upTo f (n + 1) l
 upTo-next f n l w v e q = rw (e, q, e, upTo-rest f n l n (omega arith)) (upTo-step f n l)
 
 -- the loop's end: n places were passed and no more
 pub upTo-done : (f : ℕ → ℕ → ℕ) (i n : ℕ) (l w : List ℕ) → w ≡ upTo f i l → i ≤ n → n ≤ i → w ≡ upTo f n l
 upTo-done f i n l w e p q = let h : i ≡ n = omega arith in rw (e, h) refl
 
--- a place after a write: what was written, or what it held
+-- a place after a write holds what was written, or what it held
 pub set-get : (l : List ℕ) (i v k : ℕ) → (getD (set l i v) k 0 ≡ v) ⊎ (getD (set l i v) k 0 ≡ getD l k 0)
 set-get l i v k =
     elim (ℕ-discrete k i) [
@@ -63,7 +66,7 @@ set-get l i v k =
       | no e ↦ inr (getD-set-other l i k v 0 e)
     ]
 
--- a place after the first n were changed: changed, or as it was
+-- a place after the first n were changed holds the changed number, or what it held
 pub upTo-get :
     (f : ℕ → ℕ → ℕ) (n : ℕ) (l : List ℕ) (k : ℕ)
     → (getD (upTo f n l) k 0 ≡ f k (getD l k 0)) ⊎ (getD (upTo f n l) k 0 ≡ getD l k 0)
@@ -79,14 +82,15 @@ upTo-get f (suc n) l k =
           (λ q. inr (getD-set-other (upTo f n l) n k (f n (getD l n 0)) 0 e ∙ q)) (upTo-get f n l k)
     ]
 
--- changes that agree on the first n places
+-- changes that agree on the first n places give one list
 pub upTo-ext : (f g : ℕ → ℕ → ℕ) (n : ℕ) (l : List ℕ) → ((k x : ℕ) → k < n → f k x ≡ g k x) → upTo f n l ≡ upTo g n l
 unfolding upTo
 upTo-ext f g zero l h = refl
 upTo-ext f g (suc n) l h = rw (upTo-ext f g n l (λ k x b. h k x (omega arith)), h n (getD l n 0) (omega arith)) refl
 
 -- places from m on that a change leaves as they are need not be passed
-pub upTo-short : (f : ℕ → ℕ → ℕ) (m n : ℕ) (l : List ℕ) → m ≤ n → ((k : ℕ) → m ≤ k → k < n → f k (getD l k 0) ≡ getD l k 0) → upTo f n l ≡ upTo f m l
+pub upTo-short : (f : ℕ → ℕ → ℕ) (m n : ℕ) (l : List ℕ) → m ≤ n
+    → ((k : ℕ) → m ≤ k → k < n → f k (getD l k 0) ≡ getD l k 0) → upTo f n l ≡ upTo f m l
 unfolding upTo
 upTo-short f m zero l p h = let e : m ≡ 0 = omega arith in rw e refl
 upTo-short f m (suc n) l p h =

@@ -6,7 +6,7 @@ use Prim.Native.Nat.{ℕ, _<_}
 use native.Mathlib.Omega.{arith}
 use Rattle.lists.specs.Refusals.{Test, unless, refusal, _orRefuse_}
 
--- no tests are left
+-- where no tests are left the number is 0
 pub none-left : refusal [] ≡ 0
 unfolding refusal
 none-left = refl
@@ -16,12 +16,12 @@ pub go-on : {b : Bool} (n : ℕ) (ts : List Test) → b ≡ true → refusal (b 
 unfolding refusal unless
 go-on n ts e = rw e refl
 
--- it fails: its number
+-- a test fails: the number is the test's
 pub stop : {b : Bool} (n : ℕ) (ts : List Test) → b ≡ false → refusal (b orRefuse n ∷ ts) ≡ n
 unfolding refusal unless
 stop n ts e = rw e refl
 
--- no number, so the first test passed and nothing after it refused
+-- where the number is 0 the first test passed and nothing after it refused
 pub passed : (b : Bool) (n : ℕ) (ts : List Test) → 0 < n → refusal (b orRefuse n ∷ ts) ≡ 0 → (b ≡ true) × (refusal ts ≡ 0)
 unfolding refusal unless
 passed true n ts p e = (refl, e)

@@ -18,21 +18,21 @@ pub record First (p : ℕ → Bool) (d x y : ℕ) : Type 0 where
   pub holds : p y ≡ true
   pub first : (z : ℕ) → x ≤ z → z < y → p z ≡ false
 
--- p passes nowhere there
+-- p passes at no number from x on and below x + d
 pub record Nowhere (p : ℕ → Bool) (d x : ℕ) : Type 0 where
   pub never : (z : ℕ) → x ≤ z → z < x + d → p z ≡ false
 
--- what an answer says
+-- what an answer of the search says of p
 abbrev pub Says : (ℕ → Bool) → ℕ → ℕ → Found → Type 0
 Says p d x Nothing = Nowhere p d x
 Says p d x (At y) = First p d x y
 
--- x passes
+-- where p passes at x the search finds x
 least-true : (p : ℕ → Bool) (d x : ℕ) → p x ≡ true → least p (suc d) x ≡ At x
 unfolding least
 least-true p d x e = rw (e, least)
 
--- x fails
+-- where p fails at x the search goes on from x + 1
 least-false : (p : ℕ → Bool) (d x : ℕ) → p x ≡ false → least p (suc d) x ≡ least p d (suc x)
 unfolding least
 least-false p d x e = rw (e, least)
@@ -44,23 +44,29 @@ stepped p d x Nothing e o = record { never = λ z h k. go z k (eq-or-lt-of-le h)
     go : (z : ℕ) → z < x + suc d → (x ≡ z) ⊎ (x < z) → p z ≡ false
     go z k (inl q) = rw (← q) e
     go z k (inr l) = o .never z l (omega arith)
-stepped p d x (At y) e o = record { low = omega arith; high = omega arith; holds = o .holds; first = λ z h k. go z k (eq-or-lt-of-le h) }
+stepped p d x (At y) e o =
+    record { low = omega arith; high = omega arith; holds = o .holds; first = λ z h k. go z k (eq-or-lt-of-le h) }
   where
     go : (z : ℕ) → z < y → (x ≡ z) ⊎ (x < z) → p z ≡ false
     go z k (inl q) = rw (← q) e
     go z k (inr l) = o .first z l k
 
--- the search's answer says so
+-- the search's answer says what is so of p
 pub least-says : (p : ℕ → Bool) (d x : ℕ) → Says p d x (least p d x)
 unfolding least
 least-says p zero x = record { never = λ z h k. absurd (omega arith) }
 least-says p (suc d) x = go (p x) refl (least-says p d (suc x))
   where
     go : (b : Bool) → p x ≡ b → Says p d (suc x) (least p d (suc x)) → Says p (suc d) x (least p (suc d) x)
-    go true e o = rw (least-true p d x e) record { low = omega arith; high = omega arith; holds = e; first = λ z h k. absurd (omega arith) }
+    go true e o = rw (least-true p d x e) record {
+      low = omega arith;
+      high = omega arith;
+      holds = e;
+      first = λ z h k. absurd (omega arith);
+    }
     go false e o = rw (least-false p d x e) (stepped p d x (least p d (suc x)) e o)
 
--- two answers that say so are one
+-- two answers that say what is so of p are one
 pub says-one : (p : ℕ → Bool) (d x : ℕ) (r s : Found) → Says p d x r → Says p d x s → r ≡ s
 says-one p d x Nothing Nothing a b = refl
 says-one p d x Nothing (At y) a b = absurd (false≢true (sym (a .never y (b .low) (b .high)) ∙ b .holds))
@@ -71,7 +77,7 @@ says-one p d x (At y) (At z) a b =
     let e : y ≡ z = omega arith in
     ap At e
 
--- so what says so is the search's answer
+-- an answer that says what is so of p is the search's
 pub least-is : (p : ℕ → Bool) (d x : ℕ) (r : Found) → Says p d x r → r ≡ least p d x
 least-is p d x r a = says-one p d x r (least p d x) a (least-says p d x)
 
@@ -81,18 +87,19 @@ Passed p k = (z : ℕ) → z < k → p z ≡ false
 
 -- a counting loop's way out: k passes
 pub count-at : (p : ℕ → Bool) (n k : ℕ) → k < n → Passed p k → p k ≡ true → At k ≡ least p n 0
-count-at p n k h b e = least-is p n 0 (At k) record { low = omega arith; high = omega arith; holds = e; first = λ z l m. b z m }
+count-at p n k h b e =
+    least-is p n 0 (At k) record { low = omega arith; high = omega arith; holds = e; first = λ z l m. b z m }
 
--- and its end: none did
+-- a counting loop's end: no number passed
 pub count-none : (p : ℕ → Bool) (n k : ℕ) → n ≤ k → Passed p k → Nothing ≡ least p n 0
 count-none p n k h b = least-is p n 0 Nothing record { never = λ z l m. b z (omega arith) }
 
--- an answer, from the test
+-- where something was found it is a number
 pub at-of : (f : Found) → isAt f ≡ true → (y : ℕ) × (f ≡ At y)
 at-of Nothing e = absurd (false≢true e)
 at-of (At y) e = (y, refl)
 
--- the test, from an answer
+-- a number that was found is something
 pub is-at : {f : Found} {y : ℕ} → f ≡ At y → isAt f ≡ true
 is-at e = rw e refl
 
@@ -101,8 +108,9 @@ pub first-hit : (f : ℕ → Bool) (n k : ℕ) → k < n → f k ≡ true → fi
 unfolding firstFrom
 first-hit f n k h e = let q : n - k ≡ suc (n - (k + 1)) = omega arith in rw (q, e) refl
 
--- or fails
-pub first-skip : (f : ℕ → Bool) (n k : ℕ) → k < n → f k ≡ false → firstFrom f (n - k) k ≡ firstFrom f (n - (k + 1)) (k + 1)
+-- a search over places, one turn: place k fails
+pub first-skip : (f : ℕ → Bool) (n k : ℕ) → k < n → f k ≡ false
+    → firstFrom f (n - k) k ≡ firstFrom f (n - (k + 1)) (k + 1)
 unfolding firstFrom
 first-skip f n k h e = let q : n - k ≡ suc (n - (k + 1)) = omega arith in rw (q, e, add-one) refl
 
@@ -111,12 +119,13 @@ pub first-none : (f : ℕ → Bool) (n k : ℕ) → n ≤ k → firstFrom f (n -
 unfolding firstFrom
 first-none f n k h = let q : n - k ≡ 0 = omega arith in rw q refl
 
--- from the first place on
+-- a search over all places is one from the first place on
 pub first-all : (f : ℕ → Bool) (n : ℕ) → firstFrom f (n - 0) 0 ≡ firstFrom f n 0
 first-all f n = let q : n - 0 ≡ n = omega arith in rw q refl
 
 -- what was found passes
-found-by : (f : ℕ → Bool) (m k r : ℕ) (b : Bool) → f k ≡ b → (r < suc k + m → f r ≡ true) → pick b k r < k + suc m → f (pick b k r) ≡ true
+found-by : (f : ℕ → Bool) (m k r : ℕ) (b : Bool) → f k ≡ b → (r < suc k + m → f r ≡ true) → pick b k r < k + suc m
+    → f (pick b k r) ≡ true
 found-by f m k r true e g h = e
 found-by f m k r false e g h = g (omega arith)
 
@@ -125,7 +134,7 @@ unfolding firstFrom
 first-found f zero k h = absurd (omega arith)
 first-found f (suc m) k h = found-by f m k (firstFrom f m (suc k)) (f k) refl (first-found f m (suc k)) h
 
--- it is no further than the places go
+-- what was found is no further than the places go
 le-by : (b : Bool) (k m r : ℕ) → r ≤ suc k + m → pick b k r ≤ k + suc m
 le-by true k m r h = omega arith
 le-by false k m r h = omega arith
@@ -145,7 +154,8 @@ first-ext f g zero k h = refl
 first-ext f g (suc m) k h = rw (h k (omega arith), first-ext f g m (suc k) (λ z l. h z (omega arith))) refl
 
 -- before the place that was found none passes
-before-by : (f : ℕ → Bool) (k r z : ℕ) (b : Bool) → f k ≡ b → (suc k ≤ z → z < r → f z ≡ false) → k ≤ z → z < pick b k r → f z ≡ false
+before-by : (f : ℕ → Bool) (k r z : ℕ) (b : Bool) → f k ≡ b → (suc k ≤ z → z < r → f z ≡ false) → k ≤ z
+    → z < pick b k r → f z ≡ false
 before-by f k r z true e g l h = absurd (omega arith)
 before-by f k r z false e g l h = ⊎-elim (λ p. rw (← p) e) (λ p. g p h) (eq-or-lt-of-le {n = k} {m = z} l)
 

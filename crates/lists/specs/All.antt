@@ -2,7 +2,7 @@
 use mathlib.Core.Bool.{Bool, true, _&&_}
 use Prim.Native.Nat.{ℕ, zero, suc}
 
--- f 0, f 1, … and f (n - 1)
+-- whether f passes at 0, at 1 and so on to n - 1
 unfoldable pub allTo : (ℕ → Bool) → ℕ → Bool
 allTo f zero = true
 allTo f (suc n) = allTo f n && f n

@@ -1,4 +1,4 @@
--- The one or the other, by a test.
+-- The one of two values that a test chooses.
 use mathlib.Core.Bool.{Bool, true, false}
 
 abbrev pub pick : {A : Type 0} → Bool → A → A → A

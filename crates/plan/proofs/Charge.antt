@@ -2,13 +2,14 @@
 use Prim.Native.Nat.{ℕ, _≤_, _<_}
 use native.Mathlib.Omega.{arith}
 use Rattle.plan.specs.Charge.{chargedRun}
+use Rattle.plan.specs.Ranges.{longest}
 
--- it is no less than the run
+-- the charged run is no less than the run
 pub charged-least : (run charge : ℕ) → run ≤ chargedRun run charge
 unfolding chargedRun
 charged-least run charge = omega arith
 
--- in the ranges it fits 32 bits
-pub charged-most : (run charge : ℕ) → run ≤ 1000000 → charge < 65536 → chargedRun run charge < 4294967296
+-- a charged run in its ranges fits 32 bits
+pub charged-most : (run charge : ℕ) → run ≤ longest → charge < 65536 → chargedRun run charge < 4294967296
 unfolding chargedRun
 charged-most run charge h c = omega arith

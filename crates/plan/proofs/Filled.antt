@@ -12,7 +12,7 @@ use Rattle.plan.specs.declared.Guest.{Guest}
 use Rattle.plan.specs.Records.{guestAt}
 use Rattle.plan.specs.Filled.{Filled, ColumnsOf}
 
--- nothing is written yet
+-- a loop starts: nothing is written yet
 pub filled-none : (f : ℕ → ℕ) → Filled (replicate 16 0) f 0
 filled-none f = record { long = refl; holds = λ z h. absurd (omega arith) }
 
@@ -26,13 +26,18 @@ filled-next f {r} k l c = record {
       (eq-or-lt-of-le {n = z} {m = k} (omega arith));
 }
 
--- a loop's end
+-- a loop's end: an array that holds k numbers holds the first n of them
 pub filled-done : (f : ℕ → ℕ) {r : List ℕ} (k n : ℕ) → n ≤ k → Filled r f k → Filled r f n
 filled-done f k n h c = record { long = c .long; holds = λ z l. c .holds z (omega arith) }
 
--- no guest's numbers are written yet
+-- a loop starts: no guest's numbers are written yet
 pub columns-none : (gs : List Guest)
-    → ColumnsOf gs 0 (record { ids = replicate 16 0; capacities = replicate 16 0; periods = replicate 16 0; tasks = replicate 16 0 })
+    → ColumnsOf gs 0 (record {
+      ids = replicate 16 0;
+      capacities = replicate 16 0;
+      periods = replicate 16 0;
+      tasks = replicate 16 0;
+    })
 columns-none gs =
     record { ids = filled-none _; capacities = filled-none _; periods = filled-none _; tasks = filled-none _ }
 
@@ -51,7 +56,7 @@ columns-next k l f = record {
   tasks = filled-next _ k l (f .tasks);
 }
 
--- a loop's end: fewer guests' columns are in those of more
+-- a loop's end: the columns of k guests are those of the first n of them
 pub columns-done : {gs : List Guest} {c : Columns} (k n : ℕ) → n ≤ k → ColumnsOf gs k c → ColumnsOf gs n c
 columns-done k n h f = record {
   ids = filled-done _ k n h (f .ids);

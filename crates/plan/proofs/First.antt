@@ -18,15 +18,16 @@ unfolding firstRefused orElse
 first-here f n k zero h e p = absurd (omega arith)
 first-here f n k (suc m) h e p = let q : n - k ≡ suc (n - (k + 1)) = omega arith in rw (q, ← e) refl
 
--- a loop's turn: it is not
-pub first-next : (f : ℕ → ℕ) (n k x : ℕ) → k < n → x ≡ f k → x ≤ 0 → firstRefused f (n - (k + 1)) (k + 1) ≡ firstRefused f (n - k) k
+-- a loop's turn: place k is not refused
+pub first-next : (f : ℕ → ℕ) (n k x : ℕ) → k < n → x ≡ f k → x ≤ 0
+    → firstRefused f (n - (k + 1)) (k + 1) ≡ firstRefused f (n - k) k
 unfolding firstRefused orElse
 first-next f n k x h e p =
     let q : n - k ≡ suc (n - (k + 1)) = omega arith in
     let z : f k ≡ 0 = omega arith in
     rw (q, z, add-one) refl
 
--- a loop's end
+-- a loop's end: no place is left
 pub first-end : (f : ℕ → ℕ) (n k : ℕ) → n ≤ k → fine ≡ firstRefused f (n - k) k
 unfolding firstRefused
 first-end f n k h = let q : n - k ≡ 0 = omega arith in rw q refl
@@ -37,25 +38,27 @@ unfolding orElse
 refused-here zero k after h = absurd (omega arith)
 refused-here (suc n) k after h = refl
 
--- no number here, so what comes after has none
+-- where there is no refusal there is none here and none after
 pub after-zero : (x k : ℕ) (r : Refusal) → orElse x k r .number ≡ 0 → (x ≡ 0) × (r .number ≡ 0)
 unfolding orElse
 after-zero zero k r e = (refl, e)
 after-zero (suc n) k r e = absurd (omega arith)
 
--- no refusal, so no place has a number
+-- where there is no refusal no place has a number
 pub none-refused : (f : ℕ → ℕ) (m k : ℕ) → firstRefused f m k .number ≡ 0 → (z : ℕ) → k ≤ z → z < k + m → f z ≡ 0
 unfolding firstRefused
 none-refused f zero k e z l h = absurd (omega arith)
 none-refused f (suc m) k e z l h =
     let p = after-zero (f k) k (firstRefused f m (suc k)) e in
-    ⊎-elim (λ q. rw (← q) (p .0)) (λ q. none-refused f m (suc k) (p .1) z q (omega arith)) (eq-or-lt-of-le {n = k} {m = z} l)
+    ⊎-elim (λ q. rw (← q) (p .0)) (λ q. none-refused f m (suc k) (p .1) z q (omega arith))
+    (eq-or-lt-of-le {n = k} {m = z} l)
 
--- no number anywhere, so nothing is refused
+-- where no place has a number nothing is refused
 pub first-fine : (f : ℕ → ℕ) (m k : ℕ) → ((z : ℕ) → k ≤ z → z < k + m → f z ≡ 0) → firstRefused f m k ≡ fine
 unfolding firstRefused orElse
 first-fine f zero k h = refl
-first-fine f (suc m) k h = rw (h k (omega arith) (omega arith)) (first-fine f m (suc k) (λ z l b. h z (omega arith) (omega arith)))
+first-fine f (suc m) k h =
+    rw (h k (omega arith) (omega arith)) (first-fine f m (suc k) (λ z l b. h z (omega arith) (omega arith)))
 
 -- an answer that is a refusal or else v
 module _ {A : Type 0} (refuse : ℕ → ℕ → A) where
@@ -65,7 +68,7 @@ module _ {A : Type 0} (refuse : ℕ → ℕ → A) where
   number-refuses zero place v h = absurd (omega arith)
   number-refuses (suc x) place v h = refl
 
-  -- a test fails
+  -- a test that fails refuses
   pub test-refuses :
       {b : Bool} (n : ℕ) (ts : List Test) (v : A)
       → 0 < n
@@ -75,20 +78,28 @@ module _ {A : Type 0} (refuse : ℕ → ℕ → A) where
   test-refuses zero ts v h e = absurd (omega arith)
   test-refuses (suc n) ts v h e = rw (stop (suc n) ts e) refl
 
-  -- a test passes
+  -- a test that passes leaves those after it
   pub test-passes :
       {b : Bool} (n : ℕ) (ts : List Test) (v : A)
       → b ≡ true
       → refusedBy refuse (refusal ts) 0 v ≡ refusedBy refuse (refusal (b orRefuse n ∷ ts)) 0 v
   test-passes n ts v e = rw (go-on n ts e) refl
 
-  -- no test is left
+  -- where no test is left the answer is given
   pub no-test : (v : A) → v ≡ refusedBy refuse (refusal []) 0 v
   unfolding refusedBy
   no-test v = rw none-left refl
 
   -- an answer that is no refusal has number 0, and is what was asked for
-  pub no-number : {a : A} → ((n k : ℕ) → refuse n k ≡ a → ⊥) → (n k : ℕ) (v : A) → refusedBy refuse n k v ≡ a → (n ≡ 0) × (v ≡ a)
+  pub no-number : {a : A} → ((n k : ℕ) → refuse n k ≡ a → ⊥) → (n k : ℕ) (v : A) → refusedBy refuse n k v ≡ a
+      → (n ≡ 0) × (v ≡ a)
   unfolding refusedBy
   no-number none zero k v e = (refl, e)
   no-number none (suc n) k v e = absurd (none (suc n) k e)
+
+-- what an answer tells is the refusal or else what it tells of the answer asked for
+pub refused-told : {A B : Type 0} (f : A → B) (refuse : ℕ → ℕ → A) (n k : ℕ) (v : A) (u : B) → f v ≡ u
+    → f (refusedBy refuse n k v) ≡ refusedBy (λ x place. f (refuse x place)) n k u
+unfolding refusedBy
+refused-told f refuse zero k v u e = e
+refused-told f refuse (suc n) k v u e = refl

@@ -2,7 +2,7 @@
 pub mod Filled
 pub mod Charge
 pub mod First
-pub mod Ranges
+pub mod RangesLaws
 pub mod Order
 pub mod Place
 pub mod LookUp

@@ -13,8 +13,9 @@ use Rattle.plan.specs.Filled.{Filled}
 use Rattle.plan.specs.Place.{placeOf}
 use Rattle.lists.proofs.Search.{first-ext}
 
--- the column's place is the plan's
-pub place-is : (p : Plan) (ids : List ℕ) (id : ℕ) → p .count ≤ 8 → Filled ids (λ j. guestAt (p .guests) j .id) mostGuests
+-- the place that is found in the column is the guest's in the plan
+pub place-is : (p : Plan) (ids : List ℕ) (id : ℕ) → p .count ≤ mostGuests
+    → Filled ids (λ j. guestAt (p .guests) j .id) mostGuests
     → firstFrom (λ k. eqb (nth ids k) id) (p .count) 0 ≡ placeOf p id
 unfolding placeOf
 place-is p ids id h f = first-ext _ _ (p .count) 0 (λ z l. rw (f .holds z (omega arith)) refl)

@@ -8,6 +8,6 @@ use Rattle.plan.specs.Promises.{Checks}
 pub one-outcome : {A : Type 0} {x r s : A} → r ≡ x → s ≡ x → r ≡ s
 one-outcome p q = p ∙ sym q
 
--- check
+-- check has one outcome
 pub checks-once : (p : Plan) (r s : Refusal) → Checks p r → Checks p s → r ≡ s
 checks-once p r s = one-outcome

@@ -7,6 +7,6 @@ use Rattle.plan.specs.Records.{runOf}
 unfoldable pub chargedRun : (run charge : ℕ) → ℕ
 chargedRun run charge = run + 2 * charge
 
--- of task i of a guest
+-- the charged run of task i of a guest
 abbrev pub charged : Guest → ℕ → ℕ
 charged g i = chargedRun (runOf g i) (g .charge)

@@ -1,4 +1,5 @@
--- Columns: one number of each guest, or of each task of a guest, in an array of 16. Inner: no promise of an entry names this.
+-- Columns: one number of each guest, or of each task of a guest, in an array of 16.
+-- Inner: no promise of an entry names this.
 use mathlib.Core.Path.{_≡_}
 use mathlib.Core.List.{List}
 use Prim.Native.Nat.{ℕ, _<_}

@@ -2,6 +2,7 @@ pub mod Records
 pub mod Ranges
 pub mod Charge
 pub mod First
+pub mod Told
 pub mod Order
 pub mod Place
 pub mod Filled

@@ -16,20 +16,20 @@ use Rattle.plan.specs.First.{refused, orElse, firstRefused}
 unfoldable pub newId : (ℕ → ℕ) → ℕ → Bool
 newId id k = allTo (λ j. not (eqb (id j) (id k))) k
 
--- the number that a guest is refused by, 0 for none; `fresh` says that its id is new
-unfoldable pub numberOf : Guest → Bool → ℕ
-numberOf g fresh = refusal ((guestOk g && fresh) orRefuse 4 ∷ tasksOk g orRefuse 6 ∷ [])
+-- the number that a guest is refused by, 0 for none; `new` says that its id stands at no earlier place
+unfoldable pub numberOf : Guest → (new : Bool) → ℕ
+numberOf g new = refusal ((guestOk g && new) orRefuse 4 ∷ tasksOk g orRefuse 6 ∷ [])
 
--- of the guest at place k
+-- the number that the guest at place k is refused by
 unfoldable pub guestNumber : List Guest → ℕ → ℕ
 guestNumber gs k = numberOf (guestAt gs k) (newId (λ j. guestAt gs j .id) k)
 
--- by whether the count is 1 to 8
+-- the records' refusal, by whether the count is 1 to 8
 unfoldable pub countedBy : Bool → Plan → Refusal
 countedBy false p = refused 1 0
 countedBy true p = firstRefused (guestNumber (p .guests)) (p .count) 0
 
--- the records' refusal
+-- the records' refusal: 1, then 4 and 6 guest by guest
 unfoldable pub planRefusal : Plan → Refusal
 planRefusal p = countedBy (within 1 mostGuests (p .count)) p
 

@@ -11,14 +11,14 @@ use Rattle.plan.specs.Ranges.{within}
 unfoldable pub placeOf : Plan → ℕ → ℕ
 placeOf p id = firstFrom (λ k. eqb (guestAt (p .guests) k .id) id) (p .count) 0
 
--- a guest of that id is in the plan
+-- whether the plan has a guest of that id
 unfoldable pub hasGuest : Plan → ℕ → Bool
 hasGuest p id = ltb (placeOf p id) (p .count)
 
--- a guest with so many tasks has one of that number, from 1
+-- whether a guest with so many tasks has one of that number, from 1
 abbrev pub hasNumber : (tasks number : ℕ) → Bool
 hasNumber tasks number = within 1 tasks number
 
--- the guest of that id has a task of that number
+-- whether the guest of that id has a task of that number
 unfoldable pub hasTask : Plan → (id number : ℕ) → Bool
 hasTask p id number = hasNumber (guestAt (p .guests) (placeOf p id) .tasks) number

@@ -1,4 +1,5 @@
--- The ranges of document 01's table. The same definitions serve the reader, the records' order, the writer and the dispatcher's state.
+-- The ranges of document 01's table. The same definitions serve the reader, the records' order, the writer and the
+-- dispatcher's state.
 use mathlib.Core.Bool.{Bool, _&&_}
 use Prim.Native.Nat.{ℕ}
 use lib.Dec.{leb}
@@ -18,22 +19,23 @@ mostTasks = 16
 abbrev pub longest : ℕ
 longest = 1000000
 
--- from low to high
+-- whether a number is from low to high
 abbrev pub within : ℕ → ℕ → ℕ → Bool
 within low high x = leb low x && leb x high
 
--- passes 4: id not 0, capacity 1 to the period, period 1 to 1,000,000, number of tasks 1 to 16
+-- whether refusal 4's test passes: id not 0, capacity 1 to the period, period 1 to 1,000,000, number of tasks 1 to 16
 unfoldable pub headOk : (id capacity period tasks : ℕ) → Bool
-headOk id capacity period tasks = leb 1 id && within 1 period capacity && within 1 longest period && within 1 mostTasks tasks
+headOk id capacity period tasks =
+    leb 1 id && within 1 period capacity && within 1 longest period && within 1 mostTasks tasks
 
--- of a guest
+-- whether a guest passes refusal 4's test, its id being new
 abbrev pub guestOk : Guest → Bool
 guestOk g = headOk (g .id) (g .capacity) (g .period) (g .tasks)
 
--- passes 6: run and period 1 to 1,000,000, deadline 1 to the task's period
+-- whether refusal 6's test passes: run and period 1 to 1,000,000, deadline 1 to the task's period
 unfoldable pub taskOk : (run every deadline : ℕ) → Bool
 taskOk run every deadline = within 1 longest run && within 1 longest every && within 1 every deadline
 
--- of each task of a guest
+-- whether each task of a guest passes refusal 6's test
 unfoldable pub tasksOk : Guest → Bool
 tasksOk g = allTo (λ i. taskOk (runOf g i) (everyOf g i) (deadlineOf g i)) (g .tasks)

@@ -6,7 +6,7 @@ use Rattle.lists.specs.Places.{nth}
 use Rattle.plan.specs.declared.Guest.{Guest}
 use Rattle.plan.specs.declared.Plan.{Plan}
 
--- what stands at no place of a plan
+-- the guest that is read past the end of a plan
 abbrev pub absent : Guest
 absent = record { id = 0; capacity = 0; period = 0; tasks = 0; charge = 0; run = []; every = []; deadline = [] }
 
@@ -14,21 +14,30 @@ absent = record { id = 0; capacity = 0; period = 0; tasks = 0; charge = 0; run =
 abbrev pub guestAt : List Guest → ℕ → Guest
 guestAt gs k = getD gs k absent
 
--- run of task i, from 0
+-- the run of task i, from 0
 abbrev pub runOf : Guest → ℕ → ℕ
 runOf g i = nth (g .run) i
 
--- period of task i
+-- the period of task i
 abbrev pub everyOf : Guest → ℕ → ℕ
 everyOf g i = nth (g .every) i
 
--- deadline of task i
+-- the deadline of task i
 abbrev pub deadlineOf : Guest → ℕ → ℕ
 deadlineOf g i = nth (g .deadline) i
 
 -- a record of zeros
 abbrev pub blank : Guest
-blank = record { id = 0; capacity = 0; period = 0; tasks = 0; charge = 0; run = replicate 16 0; every = replicate 16 0; deadline = replicate 16 0 }
+blank = record {
+  id = 0;
+  capacity = 0;
+  period = 0;
+  tasks = 0;
+  charge = 0;
+  run = replicate 16 0;
+  every = replicate 16 0;
+  deadline = replicate 16 0;
+}
 
 -- a plan of zeros
 abbrev pub blankPlan : Plan

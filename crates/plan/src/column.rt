@@ -4,6 +4,7 @@ ghost use Rattle.plan.specs.Filled.{ColumnsOf};
 use crate::Columns;
 use crate::Plan;
 
+// The ids, capacities, periods and numbers of tasks of all eight places.
 pub fn columns_of(plan: Plan) -> Columns
     ensures { λ r. ⌜ ColumnsOf (plan .guests) mostGuests r ⌝ }
 {

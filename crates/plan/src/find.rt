@@ -11,7 +11,7 @@ ghost use Rattle.plan.specs.declared.Plan.{Plan};
 use crate::LookedUp;
 use crate::Refusal;
 
-// The first of the first n ids that is `id`, or n.
+// The first place of the first n whose id is `id`, or n where there is none.
 pub fn place_of(ids: &[u32; 16], n: usize, id: u32) -> usize
     requires { ⌜ n ≤ 16 ⌝ }
     ensures { λ r. ⌜ r ≡ firstFrom (λ k. eqb (nth (now (ids .entry)) k) id) n 0 ⌝ }

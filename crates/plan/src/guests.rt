@@ -1,13 +1,30 @@
 // The number that one guest of a plan is refused by.
 ghost use mathlib.Core.Path.{_≡_};
-ghost use Rattle.plan.specs.Order.{numberOf};
+ghost use Prim.Native.Nat.{_<_};
+ghost use Rattle.lists.specs.Places.{nth};
+ghost use Rattle.plan.specs.Order.{newId, numberOf};
 use crate::Guest;
-use crate::tests::head_ok;
-use crate::tests::tasks_ok;
+use crate::ranges::head_ok;
+use crate::ranges::tasks_ok;
 
-// The number that a guest is refused by, 0 for none; `fresh` says that its id is new.
-pub fn guest_number(g: Guest, fresh: bool) -> u32
-    ensures { λ r. ⌜ r ≡ numberOf g fresh ⌝ }
+// Whether the id at place k stands at no earlier place.
+pub fn new_id(ids: &[u32; 16], k: usize) -> bool
+    requires { ⌜ k < 16 ⌝ }
+    ensures { λ r. ⌜ r ≡ newId (nth (now (ids .entry))) k ⌝ }
+{
+    let id = ids[k];
+    let mut ok = true;
+    let mut j: usize = 0;
+    while j < k {
+        ok = ok & !(ids[j] == id);
+        j += 1;
+    }
+    ok
+}
+
+// The number that a guest is refused by, 0 for none; `new` says that its id stands at no earlier place.
+pub fn guest_number(g: Guest, new: bool) -> u32
+    ensures { λ r. ⌜ r ≡ numberOf g new ⌝ }
 {
     let run = g.run;
     let every = g.every;
@@ -16,7 +33,7 @@ pub fn guest_number(g: Guest, fresh: bool) -> u32
     if !head_ok(g.id, g.capacity, g.period, tasks) {
         return 4;
     }
-    if !fresh {
+    if !new {
         return 4;
     }
     if !tasks_ok(&run, &every, &deadline, tasks as usize) {

@@ -1,23 +1,23 @@
-// A plan's records by value, and the one check on records handed over as a plan.
+// A plan's records by value, the charged run, and the one check on records handed over as a plan.
 ghost use mathlib.Core.Path.{_≡_};
 ghost use Rattle.plan.specs.Records.{blank, blankPlan};
+ghost use Rattle.plan.specs.Charge.{chargedRun};
 ghost use Rattle.plan.specs.Promises.{Checks};
 
 mod column;
 mod find;
 mod guests;
-mod tests;
+mod ranges;
 
 pub use column::columns_of;
 pub use find::has_task;
 pub use find::look_up;
 pub use find::place_of;
-pub use tests::charged_run;
-pub use tests::head_ok;
-pub use tests::new_id;
-pub use tests::tasks_ok;
+pub use guests::new_id;
+pub use ranges::head_ok;
+pub use ranges::tasks_ok;
 
-// A guest: its server, and its tasks' columns. `every` is each task's period.
+// A guest: its server, and a column for each number of its tasks. `every` is each task's period.
 #[repr(C)]
 pub struct Guest {
     pub id: u32,
@@ -44,7 +44,7 @@ pub struct Refusal {
     pub place: u32,
 }
 
-// Four numbers of each guest, a column each.
+// Four numbers of each guest of a plan, a column for each number.
 pub struct Columns {
     pub ids: [u32; 16],
     pub capacities: [u32; 16],
@@ -85,6 +85,13 @@ pub fn blank_plan() -> Plan
     }
 }
 
+// The charged run of a task: its run, and the charge for the switch into it and for the switch out of it.
+pub fn charged_run(run: u32, charge: u16) -> u64
+    ensures { λ r. ⌜ r ≡ chargedRun run charge ⌝ }
+{
+    (run as u64) + 2 * (charge as u64)
+}
+
 // The records' refusal: 1, then 4 and 6 guest by guest.
 pub fn check(plan: Plan) -> Refusal
     ensures { λ r. ⌜ Checks plan r ⌝ }
@@ -107,7 +114,7 @@ pub fn check(plan: Plan) -> Refusal
     let many = n as usize;
     let mut k: usize = 0;
     while k < many {
-        let number = guests::guest_number(plan.guests[k], tests::new_id(&ids, k));
+        let number = guests::guest_number(plan.guests[k], new_id(&ids, k));
         if 0 < number {
             return Refusal {
                 number,

@@ -12,7 +12,7 @@ use Rattle.block.specs.Layout.{blockSize}
 use Rattle.plan.specs.First.{refused, firstRefused}
 use Rattle.planfile.specs.File.{blockAt, blocksIn, mostBytes, sizeOk, numberAt, sizedBy, fileRefusal}
 use Rattle.lists.proofs.All.{and-left, and-right}
-use Rattle.plan.proofs.Ranges.{within-says}
+use Rattle.plan.proofs.RangesLaws.{within-says}
 use Rattle.plan.proofs.First.{none-refused}
 
 -- A right length.

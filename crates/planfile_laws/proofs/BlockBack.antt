@@ -27,7 +27,7 @@ use Rattle.lists.proofs.Sum.{sum-last, sum-same}
 use Rattle.lists.proofs.Table.{table-at, table-ext}
 use Rattle.words.proofs.Bytes.{word-bytesOf, length-bytesOf}
 use Rattle.words.proofs.Wrap.{complement-sum}
-use Rattle.plan.proofs.Ranges.{head-says}
+use Rattle.plan.proofs.RangesLaws.{head-says}
 use Rattle.block.proofs.Reading.{none}
 use Rattle.block.proofs.Writing.{words-length}
 use Rattle.planfile_laws.proofs.Words.{WordsAt, words-at, words-fit, check-other, check-at, check-fits}

@@ -22,7 +22,7 @@ use Rattle.planfile_laws.specs.File.{fileOf, clearedGuest, cleared}
 use Rattle.planfile_laws.specs.Fits.{PlanInTypes}
 use Rattle.lists.proofs.All.{and-true, all-by, all-ext}
 use Rattle.lists.proofs.Table.{table-ext}
-use Rattle.plan.proofs.Ranges.{TaskIn, HeadIn, GuestIn}
+use Rattle.plan.proofs.RangesLaws.{TaskIn, HeadIn, GuestIn}
 use Rattle.plan.proofs.First.{first-fine}
 use Rattle.plan.proofs.Order.{PlanIn, plan-in}
 use Rattle.block.proofs.Writing.{none, by-none}

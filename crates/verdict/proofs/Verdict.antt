@@ -1,4 +1,4 @@
--- How the code comes to a verdict: the records' order, the tests after it, then the equations. Assumes nothing.
+-- How the code comes to a verdict: the way in, the test of 8, then the equations. Assumes nothing.
 use mathlib.Core.Path.{_≡_, refl, _∙_, ap}
 use mathlib.Core.Bool.{Bool, true, false}
 use mathlib.Core.List.{[], _∷_}
@@ -36,23 +36,25 @@ use Rattle.verdict.specs.declared.GuestVerdict.the-variants as guest
 use Rattle.verdict.specs.declared.TaskVerdict.the-variants as task
 use Rattle.verdict.specs.declared.Acceptance.the-variants as plan
 
--- a guest or one above is unfit
+-- a task under an unfit guest is unjudged
 pub says-unjudged : {b : Bool} (deadline : ℕ) (f : Found) → b ≡ false → Unjudged ≡ taskSays b deadline f
 unfolding taskSays
 says-unjudged deadline f e = rw e refl
 
--- all are fitted
-pub says-judged : {b : Bool} (deadline : ℕ) {f a : Found} {v : TaskVerdict} → b ≡ true → v ≡ taskSays true deadline f → f ≡ a → v ≡ taskSays b deadline a
+-- a task under fitted guests has the verdict of its response
+pub says-judged : {b : Bool} (deadline : ℕ) {f a : Found} {v : TaskVerdict} → b ≡ true → v ≡ taskSays true deadline f
+    → f ≡ a → v ≡ taskSays b deadline a
 says-judged deadline e q t = rw (e, ← t) q
 
 -- a guest that the way in found
 module _ {p : Plan} {id : ℕ} {r : LookedUp} (l : LooksUp p id r) (h : r .refusal .number ≤ 0) where
   -- the test of 8 in the guest's record is the plan's
-  task-there : (number : ℕ) {b : Bool} → b ≡ hasNumber (guestAt (p .guests) (r .place) .tasks) number → hasTask p id number ≡ b
+  task-there : (number : ℕ) {b : Bool} → b ≡ hasNumber (guestAt (p .guests) (r .place) .tasks) number
+      → hasTask p id number ≡ b
   unfolding hasTask
   task-there number e = rw (e, ← l .place h) refl
 
-  -- no such task
+  -- a task that is not there is refused by 8
   pub task-missing : (number : ℕ) {b : Bool} → b ≡ hasNumber (guestAt (p .guests) (r .place) .tasks) number → b ≡ false
       → task.Refused 8 0 ≡ taskVerdict p id number
   unfolding taskVerdict
@@ -64,7 +66,8 @@ module _ {p : Plan} {id : ℕ} {r : LookedUp} (l : LooksUp p id r) (h : r .refus
   module _ {c : Columns} (f : ColumnsOf (p .guests) mostGuests c) where
     -- the verdict of the guest
     pub guest-judged : {x : Found} {v : GuestVerdict}
-        → x ≡ guestUnder (guestsTake (c .capacities) (c .periods) (r .place)) (nth (c .capacities) (r .place)) (nth (c .periods) (r .place))
+        → x ≡ guestUnder (guestsTake (c .capacities) (c .periods) (r .place)) (nth (c .capacities) (r .place))
+        (nth (c .periods) (r .place))
         → v ≡ guestSays x
         → v ≡ guestVerdict p id
     unfolding guestVerdict
@@ -75,10 +78,13 @@ module _ {p : Plan} {id : ℕ} {r : LookedUp} (l : LooksUp p id r) (h : r .refus
         ∙ look-goes-on l h guest.Refused [] _
 
     -- the verdict of the task
-    pub task-judged : (number : ℕ) {b : Bool} {v : TaskVerdict} → b ≡ hasNumber (guestAt (p .guests) (r .place) .tasks) number → b ≡ true
+    pub task-judged : (number : ℕ) {b : Bool} {v : TaskVerdict}
+        → b ≡ hasNumber (guestAt (p .guests) (r .place) .tasks) number → b ≡ true
         → v
-        ≡ taskSays (allTo (fittedAt (c .capacities) (c .periods)) (r .place + 1)) (deadlineOf (guestAt (p .guests) (r .place)) (number - 1))
-        (taskUnder (systemOf (guestsTake (c .capacities) (c .periods) (r .place)) (guestAt (p .guests) (r .place))) (number - 1) (limit (guestAt (p .guests) (r .place)) (number - 1)))
+        ≡ taskSays (allTo (fittedAt (c .capacities) (c .periods)) (r .place + 1))
+        (deadlineOf (guestAt (p .guests) (r .place)) (number - 1))
+        (taskUnder (systemOf (guestsTake (c .capacities) (c .periods) (r .place)) (guestAt (p .guests) (r .place)))
+        (number - 1) (limit (guestAt (p .guests) (r .place)) (number - 1)))
         → v ≡ taskVerdict p id number
     unfolding taskVerdict taskResponse responseTo
     task-judged number {b} {v} e t q =
@@ -86,22 +92,27 @@ module _ {p : Plan} {id : ℕ} {r : LookedUp} (l : LooksUp p id r) (h : r .refus
         let k = r .place in
         let g = guestAt (p .guests) k in
         q
-        ∙ ap (λ (b : Bool). taskSays b (deadlineOf g i) (taskUnder (systemOf (guestsTake (c .capacities) (c .periods) k) g) i (limit g i))) (columns-fit-to p c f k (look-few l h))
-        ∙ ap (λ (above : ℕ → ℕ). taskSays (fittedTo p k) (deadlineOf g i) (taskUnder (systemOf above g) i (limit g i))) (columns-take p c f k (omega (arith, look-few l h)))
+        ∙ ap (λ (b : Bool). taskSays b (deadlineOf g i)
+        (taskUnder (systemOf (guestsTake (c .capacities) (c .periods) k) g) i (limit g i)))
+        (columns-fit-to p c f k (look-few l h))
+        ∙ ap (λ (above : ℕ → ℕ). taskSays (fittedTo p k) (deadlineOf g i) (taskUnder (systemOf above g) i (limit g i)))
+        (columns-take p c f k (omega (arith, look-few l h)))
         ∙ ap (λ (j : ℕ). taskSays (fittedTo p j) (deadlineOf (guestAt (p .guests) j) i) (taskResponse p j i)) (l .place h)
         ∙ no-test task.Refused _
         ∙ test-passes task.Refused 8 [] _ (task-there number e ∙ t)
         ∙ look-goes-on l h task.Refused (hasTask p id number orRefuse 8 ∷ []) _
 
--- records in order: the plan's acceptance, by the test of all guests
-pub plan-accepted : (p : Plan) → planRefusal p .number ≡ 0 → {c : Columns} → ColumnsOf (p .guests) mostGuests c → {b b′ : Bool}
+-- the acceptance of records in order is that of the test of all guests
+pub plan-accepted : (p : Plan) → planRefusal p .number ≡ 0 → {c : Columns} → ColumnsOf (p .guests) mostGuests c
+    → {b b′ : Bool}
     → b ≡ allTo (λ k. acceptedUnder (guestsTake (c .capacities) (c .periods) k) (guestAt (p .guests) k)) (p .count)
     → b ≡ b′
     → acceptSays b′ ≡ acceptance p
 unfolding acceptance refusedBy
 plan-accepted p ok {c} f e q = rw (ok, ← columns-accept p c f (plan-in p ok .few), ← e, ← q) refl
 
--- refused by the records' order alone
-pub plan-refuses : (p : Plan) {r : Refusal} → r ≡ planRefusal p → 0 < r .number → plan.Refused (r .number) (r .place) ≡ acceptance p
+-- an acceptance is refused by the records' order alone
+pub plan-refuses : (p : Plan) {r : Refusal} → r ≡ planRefusal p → 0 < r .number
+    → plan.Refused (r .number) (r .place) ≡ acceptance p
 unfolding acceptance
 plan-refuses p {r} e h = rw (← e) (number-refuses plan.Refused (r .number) (r .place) _ h)

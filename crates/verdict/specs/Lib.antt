@@ -1,3 +1,4 @@
 pub mod Verdict
 pub mod Quoted
 pub mod Promises
+pub mod Told

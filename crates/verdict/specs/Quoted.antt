@@ -6,7 +6,7 @@ use Rattle.verdict.specs.declared.TaskVerdict.{TaskVerdict}
 use Rattle.verdict.specs.declared.TaskVerdict.the-variants.{Refused, Met, UnmetAt, Unmet, Unjudged}
 use Rattle.verdict.specs.Verdict.{taskVerdict}
 
--- the verdict quotes R: met R, or unmet R
+-- a verdict quotes R: it is met R, or unmet R
 abbrev pub Quotes : TaskVerdict → ℕ → Type 0
 Quotes (Refused number place) R = ⊥
 Quotes (Met r) R = r ≡ R

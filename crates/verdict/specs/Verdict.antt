@@ -24,7 +24,7 @@ use Rattle.verdict.specs.declared.GuestVerdict.the-variants as guest
 use Rattle.verdict.specs.declared.TaskVerdict.the-variants as task
 use Rattle.verdict.specs.declared.Acceptance.the-variants as plan
 
--- fitted with its response, or unfit
+-- a guest is fitted with its response, or unfit where it has none
 abbrev pub guestSays : Found → GuestVerdict
 guestSays (At x) = Fitted x
 guestSays Nothing = Unfit
@@ -39,7 +39,8 @@ unfoldable pub quotedBy : Bool → ℕ → TaskVerdict
 quotedBy true r = Met r
 quotedBy false r = UnmetAt r
 
--- met or unmet with its response, unmet where there is none up to the period; unjudged where its own guest or one above is unfit
+-- a task is met or unmet with its response, unmet where it has none up to its period, and unjudged where its own guest or
+-- one above is unfit
 unfoldable pub taskSays : Bool → (deadline : ℕ) → Found → TaskVerdict
 taskSays false deadline f = Unjudged
 taskSays true deadline (At r) = quotedBy (leb r deadline) r
@@ -49,9 +50,10 @@ taskSays true deadline Nothing = Unmet
 unfoldable pub taskVerdict : Plan → ℕ → ℕ → TaskVerdict
 taskVerdict p id number =
     refuseOr task.Refused (recordsThen p (hasGuest p id orRefuse 7 ∷ hasTask p id number orRefuse 8 ∷ []))
-    (taskSays (fittedTo p (placeOf p id)) (deadlineOf (guestAt (p .guests) (placeOf p id)) (number - 1)) (taskResponse p (placeOf p id) (number - 1)))
+    (taskSays (fittedTo p (placeOf p id)) (deadlineOf (guestAt (p .guests) (placeOf p id)) (number - 1))
+    (taskResponse p (placeOf p id) (number - 1)))
 
--- accepted or not
+-- a plan is accepted, or it is not
 unfoldable pub acceptSays : Bool → Acceptance
 acceptSays true = Accepted
 acceptSays false = NotAccepted

@@ -9,14 +9,15 @@ use response::response_at;
 
 mod judge;
 
-// Fitted with its response.
+// The verdict of a guest: a refusal's number and place; fitted with its response; unfit.
 pub enum GuestVerdict {
     Refused(u32, u32),
     Fitted(u32),
     Unfit,
 }
 
-// Met with its response; unmet with its response, or with none up to the task's period.
+// The verdict of a task: a refusal's number and place; met with its response; unmet with its response, or with none up to
+// the task's period; unjudged.
 pub enum TaskVerdict {
     Refused(u32, u32),
     Met(u32),
@@ -25,6 +26,7 @@ pub enum TaskVerdict {
     Unjudged,
 }
 
+// The acceptance of a plan: a refusal's number and place; accepted; not accepted.
 pub enum Acceptance {
     Refused(u32, u32),
     Accepted,

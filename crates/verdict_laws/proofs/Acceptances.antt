@@ -1,4 +1,5 @@
--- The acceptance of a plan has its meaning and is the only one that has it; and a plan is accepted exactly if the verdict of every task is met. Assumes nothing.
+-- The acceptance of a plan has its meaning and is the only one that has it. A plan is accepted exactly if the verdict of
+-- every task is met. Assumes nothing.
 use mathlib.Core.Path.{_≡_, refl, sym, _∙_}
 use mathlib.Core.Bool.{Bool, true, false, false≢true}
 use Prim.Native.Nat.{ℕ, suc, _≤_, _<_}
@@ -25,18 +26,19 @@ use Rattle.plan.proofs.Order.{plan-in}
 use Rattle.verdict.specs.declared.Acceptance.the-variants as plan
 use Rattle.verdict.specs.declared.TaskVerdict.the-variants as task
 
--- the plan's test has its meaning
+-- a plan that passes the test has all guests fitted and all tasks met
 pub accepted-good : (p : Plan) → accepted p ≡ true → AllGood p
 unfolding accepted fittedTo
 accepted-good p e =
     let fits = and-left (allTo (fitted p) (p .count)) _ e in
     let met = and-right (allTo (fitted p) (p .count)) _ e in
     record {
-      fitted = λ k h. fitted-all p k (all-by (fitted p) (suc k) (λ j l. all-at (fitted p) (p .count) j (omega arith) fits));
+      fitted = λ k h. fitted-all p k
+          (all-by (fitted p) (suc k) (λ j l. all-at (fitted p) (p .count) j (omega arith) fits));
       met = λ k h. met-in-time p k (all-at (allMet p) (p .count) k h met);
     }
 
--- and the other way round
+-- a plan with all guests fitted and all tasks met passes the test
 pub good-accepted : (p : Plan) → AllGood p → accepted p ≡ true
 unfolding accepted
 good-accepted p g =
@@ -53,7 +55,7 @@ acceptance-means p ok = rw ok (go (accepted p) refl)
     go true e = unfold acceptSays in accepted-good p e
     go false e = unfold acceptSays in λ g. false≢true (sym e ∙ good-accepted p g)
 
--- and no other has it
+-- no other acceptance has that meaning
 pub acceptance-only : (p : Plan) → planRefusal p .number ≡ 0 → (v : Acceptance) → AcceptMeans p v → v ≡ acceptance p
 acceptance-only p ok v a = go v (acceptance p) a (acceptance-means p ok)
   where
@@ -71,14 +73,18 @@ there-at : (p : Plan) → planRefusal p .number ≡ 0 → (k : ℕ) → k < p .c
 there-at p ok k h = record { order = ok; place = h; named = refl }
 
 -- a task that is in time is said to be met: a response at most the deadline is at most the period
-said-met : (p : Plan) → planRefusal p .number ≡ 0 → (k : ℕ) → k < p .count → AllFit p k → AllInTime p k → (i : ℕ) → i < guestAt (p .guests) k .tasks
+said-met : (p : Plan) → planRefusal p .number ≡ 0 → (k : ℕ) → k < p .count → AllFit p k → AllInTime p k → (i : ℕ)
+    → i < guestAt (p .guests) k .tasks
     → (r : ℕ) × (taskVerdict p (guestAt (p .guests) k .id) (suc i) ≡ Met r)
-said-met p ok k h all a i l = go (taskVerdict p (guestAt (p .guests) k .id) (suc i)) refl (task-verdict-means p (guestAt (p .guests) k .id) k i (there-at p ok k h) l)
+said-met p ok k h all a i l =
+    go (taskVerdict p (guestAt (p .guests) k .id) (suc i)) refl
+    (task-verdict-means p (guestAt (p .guests) k .id) k i (there-at p ok k h) l)
   where
     held : deadlineOf (guestAt (p .guests) k) i ≤ everyOf (guestAt (p .guests) k) i
     held = plan-in p ok .guests k h .tasks i l .in-time
 
-    go : (v : TaskVerdict) → taskVerdict p (guestAt (p .guests) k .id) (suc i) ≡ v → TaskMeans p k i v → (r : ℕ) × (taskVerdict p (guestAt (p .guests) k .id) (suc i) ≡ Met r)
+    go : (v : TaskVerdict) → taskVerdict p (guestAt (p .guests) k .id) (suc i) ≡ v → TaskMeans p k i v
+        → (r : ℕ) × (taskVerdict p (guestAt (p .guests) k .id) (suc i) ≡ Met r)
     go (task.Refused n m) e b = absurd b
     go (Met r) e b = (r, e)
     go (UnmetAt r) e b =
@@ -88,18 +94,19 @@ said-met p ok k h all a i l = go (taskVerdict p (guestAt (p .guests) k .id) (suc
     go Unmet e b = let (w, s, t) = a i l in absurd (b .none w s (omega (arith, held)))
     go Unjudged e b = absurd (judged-unjudged p k all b)
 
--- accepted, so the verdict of every task is met
+-- in a plan that is accepted the verdict of every task is met
 pub accepted-said : (p : Plan) → planRefusal p .number ≡ 0 → acceptance p ≡ Accepted → AllSaidMet p
 accepted-said p ok e k h =
     let g : AllGood p = rw e at (acceptance-means p ok) in
     said-met p ok k h (g .fitted k h) (g .met k h)
 
--- and the other way round, a guest having a task at least
+-- a plan is accepted where the verdict of every task is met, since each guest has a task
 pub said-accepted : (p : Plan) → planRefusal p .number ≡ 0 → AllSaidMet p → acceptance p ≡ Accepted
 said-accepted p ok a =
     sym (acceptance-only p ok Accepted record {
       fitted = λ k h. means k h 0 (omega (arith, plan-in p ok .guests k h .head .many)) .quoted .fitted;
-      met = λ k h i l. (let m = means k h i l in (m .quoted .w, m .quoted .solves, omega (arith, m .in-time, m .quoted .response)));
+      met = λ k h i l. (let m = means k h i l in
+          (m .quoted .w, m .quoted .solves, omega (arith, m .in-time, m .quoted .response)));
     })
   where
     means : (k : ℕ) (h : k < p .count) (i : ℕ) (l : i < guestAt (p .guests) k .tasks) → TaskMet p k i (a k h i l .0)

@@ -29,10 +29,11 @@ use Rattle.verdict_laws.proofs.Tasks.{met-in-time, in-time-met}
 pub capacity-answer-is : (p : Plan) (id k : ℕ) → There p id k → smallestCapacity p id ≡ capacitySays (smallest p k)
 unfolding smallestCapacity
 capacity-answer-is p id k t =
-    sym (no-test Refused _ ∙ test-passes Refused 7 [] _ (there-has p id k t) ∙ records-pass Refused p (hasGuest p id orRefuse 7 ∷ []) _ (t .order))
+    sym (no-test Refused _ ∙ test-passes Refused 7 [] _ (there-has p id k t)
+    ∙ records-pass Refused p (hasGuest p id orRefuse 7 ∷ []) _ (t .order))
     ∙ ap (λ (j : ℕ). capacitySays (smallest p j)) (there-place p id k t)
 
--- the test of a capacity, as solutions
+-- a capacity that passes the test works
 works-good : (p : Plan) (k c : ℕ) → 1 ≤ c → c ≤ guestAt (p .guests) k .period → works p k c ≡ true → CapacityWorks p k c
 unfolding works
 works-good p k c low high e = record {
@@ -42,13 +43,15 @@ works-good p k c low high e = record {
   met = met-in-time (withCapacity p k c) k (and-right (fittedTo (withCapacity p k c) k) _ e);
 }
 
--- solutions, as the test
+-- a capacity that works passes the test
 good-works : (p : Plan) (k c : ℕ) → CapacityWorks p k c → works p k c ≡ true
 unfolding works
-good-works p k c g = and-true (all-fitted (withCapacity p k c) k (g .fitted)) (in-time-met (withCapacity p k c) k (g .met))
+good-works p k c g =
+    and-true (all-fitted (withCapacity p k c) k (g .fitted)) (in-time-met (withCapacity p k c) k (g .met))
 
--- what the search says means it
-search-means : (p : Plan) (k : ℕ) (f : Found) → Says (works p k) (guestAt (p .guests) k .period) 1 f → CapacityMeans p k (capacitySays f)
+-- what the search says is what the answer means
+search-means : (p : Plan) (k : ℕ) (f : Found) → Says (works p k) (guestAt (p .guests) k .period) 1 f
+    → CapacityMeans p k (capacitySays f)
 search-means p k Nothing o = record {
   number = refl;
   nowhere = refl;
@@ -63,7 +66,8 @@ search-means p k (At c) o = record {
 pub capacity-answer-means : (p : Plan) (id k : ℕ) → There p id k → CapacityMeans p k (smallestCapacity p id)
 unfolding smallest
 capacity-answer-means p id k t =
-    rw (capacity-answer-is p id k t) (search-means p k (smallest p k) (least-says (works p k) (guestAt (p .guests) k .period) 1))
+    rw (capacity-answer-is p id k t)
+    (search-means p k (smallest p k) (least-says (works p k) (guestAt (p .guests) k .period) 1))
 
 -- two answers that mean the same are one
 capacity-means-one : (p : Plan) (k : ℕ) (v u : CapacityAnswer) → CapacityMeans p k v → CapacityMeans p k u → v ≡ u
@@ -75,6 +79,7 @@ capacity-means-one p k (Smallest c) (Smallest d) a b =
     let g : ¬ (d < c) = λ l. a .least d l (b .works) in
     ap Smallest (let e : c ≡ d = omega arith in e)
 
--- no other answer has it
-pub capacity-answer-only : (p : Plan) (id k : ℕ) → There p id k → (v : CapacityAnswer) → CapacityMeans p k v → v ≡ smallestCapacity p id
+-- no other answer has that meaning
+pub capacity-answer-only : (p : Plan) (id k : ℕ) → There p id k → (v : CapacityAnswer) → CapacityMeans p k v
+    → v ≡ smallestCapacity p id
 capacity-answer-only p id k t v a = capacity-means-one p k v (smallestCapacity p id) a (capacity-answer-means p id k t)

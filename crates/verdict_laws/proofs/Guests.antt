@@ -1,4 +1,5 @@
--- A guest's verdict has its meaning and is the only one that has it: the search's answer is the least solution. Assumes nothing.
+-- A guest's verdict has its meaning and is the only one that has it: the search's answer is the least solution.
+-- Assumes nothing.
 use mathlib.Core.Path.{_≡_, refl, sym, _∙_, ap}
 use mathlib.Core.Bool.{true, false≢true}
 use mathlib.Core.List.{[], _∷_}
@@ -31,16 +32,19 @@ use Rattle.verdict_laws.proofs.Ids.{idOf, found-id, id-one}
 pub there-place : (p : Plan) (id k : ℕ) → There p id k → placeOf p id ≡ k
 unfolding placeOf
 there-place p id k t =
-    let passed : ¬ (k < placeOf p id) = λ l. false≢true (sym (first-before (λ j. eqb (idOf p j) id) (p .count) 0 k (omega arith) l) ∙ eq-eqb _ _ (t .named)) in
+    let passed : ¬ (k < placeOf p id) =
+    λ l. false≢true (sym (first-before (λ j. eqb (idOf p j) id) (p .count) 0 k (omega arith) l)
+    ∙ eq-eqb _ _ (t .named)) in
     let found : placeOf p id < p .count = omega (arith, t .place) in
-    id-one p (plan-in p (t .order)) (placeOf p id) k found (t .place) (found-id p id (placeOf p id) refl found ∙ sym (t .named))
+    id-one p (plan-in p (t .order)) (placeOf p id) k found (t .place)
+    (found-id p id (placeOf p id) refl found ∙ sym (t .named))
 
--- so 7 is not given
+-- a guest that is there is not refused by 7
 pub there-has : (p : Plan) (id k : ℕ) → There p id k → hasGuest p id ≡ true
 unfolding hasGuest
 there-has p id k t = lt-ltb (placeOf p id) (p .count) (omega (arith, there-place p id k t, t .place))
 
--- a guest that 7 is not given for is there
+-- a guest that is not refused by 7 is there
 pub has-there : (p : Plan) (id : ℕ) → planRefusal p .number ≡ 0 → hasGuest p id ≡ true → There p id (placeOf p id)
 unfolding hasGuest
 has-there p id ok h =
@@ -51,11 +55,13 @@ has-there p id ok h =
 pub guest-verdict-is : (p : Plan) (id k : ℕ) → There p id k → guestVerdict p id ≡ guestSays (guestResponse p k)
 unfolding guestVerdict
 guest-verdict-is p id k t =
-    sym (no-test Refused _ ∙ test-passes Refused 7 [] _ (there-has p id k t) ∙ records-pass Refused p (hasGuest p id orRefuse 7 ∷ []) _ (t .order))
+    sym (no-test Refused _ ∙ test-passes Refused 7 [] _ (there-has p id k t)
+    ∙ records-pass Refused p (hasGuest p id orRefuse 7 ∷ []) _ (t .order))
     ∙ ap (λ (j : ℕ). guestSays (guestResponse p j)) (there-place p id k t)
 
 -- a response means the least solution, none that there is no solution
-response-means : (p : Plan) (k : ℕ) (f : Found) → Answers (guestRight p k) (guestAt (p .guests) k .period) f → GuestMeans p k (guestSays f)
+response-means : (p : Plan) (k : ℕ) (f : Found) → Answers (guestRight p k) (guestAt (p .guests) k .period) f
+    → GuestMeans p k (guestSays f)
 response-means p k Nothing a = λ x s. a x (s .low) (s .high) (s .solves)
 response-means p k (At x) a = record {
   fits = record { low = a .low; high = a .high; solves = a .sol };
@@ -66,7 +72,8 @@ response-means p k (At x) a = record {
 pub guest-verdict-means : (p : Plan) (id k : ℕ) → There p id k → GuestMeans p k (guestVerdict p id)
 unfolding guestResponse guestUnder guestRight
 guest-verdict-means p id k t =
-    rw (guest-verdict-is p id k t) (response-means p k (guestResponse p k) (solve-answers (guestRight p k) (guestAt (p .guests) k .period)))
+    rw (guest-verdict-is p id k t)
+    (response-means p k (guestResponse p k) (solve-answers (guestRight p k) (guestAt (p .guests) k .period)))
 
 -- two least solutions are one
 responds-one : (p : Plan) (k x y : ℕ) → Responds p k x → Responds p k y → x ≡ y
@@ -85,36 +92,42 @@ guest-means-one p k Unfit (Refused n m) a b = absurd b
 guest-means-one p k Unfit (Fitted y) a b = absurd (a y (b .fits))
 guest-means-one p k Unfit Unfit a b = refl
 
--- no other verdict has it
-pub guest-verdict-only : (p : Plan) (id k : ℕ) → There p id k → (v : GuestVerdict) → GuestMeans p k v → v ≡ guestVerdict p id
+-- no other verdict has that meaning
+pub guest-verdict-only : (p : Plan) (id k : ℕ) → There p id k → (v : GuestVerdict) → GuestMeans p k v
+    → v ≡ guestVerdict p id
 guest-verdict-only p id k t v a = guest-means-one p k v (guestVerdict p id) a (guest-verdict-means p id k t)
 
--- the test of a guest, as a solution
+-- a guest that is fitted has a solution
 pub fitted-fits : (p : Plan) (j : ℕ) → fitted p j ≡ true → (x : ℕ) × GuestSolves p j x
 unfolding fitted guestResponse guestUnder guestRight
 fitted-fits p j e =
     let x = at-of (guestResponse p j) e in
-    let s : Solved (guestRight p j) (guestAt (p .guests) j .period) (x .0) = rw (x .1) at (solve-answers (guestRight p j) (guestAt (p .guests) j .period)) in
+    let s : Solved (guestRight p j) (guestAt (p .guests) j .period) (x .0) =
+    rw (x .1) at (solve-answers (guestRight p j) (guestAt (p .guests) j .period)) in
     (x .0, record { low = s .low; high = s .high; solves = s .sol })
 
--- a solution, as the test
+-- a guest that has a solution is fitted
 pub fits-fitted : (p : Plan) (j x : ℕ) → GuestSolves p j x → fitted p j ≡ true
 unfolding fitted guestResponse guestUnder guestRight
-fits-fitted p j x s = is-at (solve-by (guestRight p j) (guestAt (p .guests) j .period) x (s .low) (s .high) (s .solves) .1)
+fits-fitted p j x s =
+    is-at (solve-by (guestRight p j) (guestAt (p .guests) j .period) x (s .low) (s .high) (s .solves) .1)
 
--- so for all guests down to place k
+-- where the guests down to place k are fitted each has a solution
 pub fitted-all : (p : Plan) (k : ℕ) → fittedTo p k ≡ true → AllFit p k
 unfolding fittedTo
 fitted-all p k e j l = fitted-fits p j (all-at (fitted p) (suc k) j (omega arith) e)
 
+-- where the guests down to place k have solutions all are fitted
 pub all-fitted : (p : Plan) (k : ℕ) → AllFit p k → fittedTo p k ≡ true
 unfolding fittedTo
 all-fitted p k a = all-by (fitted p) (suc k) (λ j l. (let x = a j (omega arith) in fits-fitted p j (x .0) (x .1)))
 
 -- fitted x is no refusal: the guest is there, and x its response
-pub fitted-means : (p : Plan) (id x : ℕ) → guestVerdict p id ≡ Fitted x → There p id (placeOf p id) × Responds p (placeOf p id) x
+pub fitted-means : (p : Plan) (id x : ℕ) → guestVerdict p id ≡ Fitted x
+    → There p id (placeOf p id) × Responds p (placeOf p id) x
 unfolding guestVerdict
 fitted-means p id x e =
-    let r = by-records Refused {a = Fitted x} (λ n m q. (let z : _≡_ {A = ℕ} 0 1 = cc in omega arith)) p (hasGuest p id orRefuse 7 ∷ []) _ e in
+    let r = by-records Refused {a = Fitted x} (λ n m q. (let z : _≡_ {A = ℕ} 0 1 = cc in omega arith)) p
+    (hasGuest p id orRefuse 7 ∷ []) _ e in
     let t = has-there p id (r .0) (passed (hasGuest p id) 7 [] (omega arith) (r .1 .0) .0) in
     (t, rw e at (guest-verdict-means p id (placeOf p id) t))

@@ -14,7 +14,7 @@ use Rattle.lists.proofs.All.{all-at}
 use Rattle.lists.proofs.Search.{first-found}
 use Rattle.plan.proofs.Order.{PlanIn}
 
--- id of guest k
+-- the id of guest k
 abbrev pub idOf : Plan → ℕ → ℕ
 idOf p k = guestAt (p .guests) k .id
 

@@ -4,3 +4,5 @@ pub mod Guests
 pub mod Tasks
 pub mod Acceptances
 pub mod Capacities
+pub mod LongRuns
+pub mod StoredCapacity

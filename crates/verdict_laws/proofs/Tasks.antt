@@ -29,7 +29,7 @@ use Rattle.lists.proofs.All.{all-at, all-by, all-false}
 use Rattle.lists.proofs.Search.{is-at}
 use Rattle.equation.proofs.Solve.{Answers, solve-answers, solve-by}
 use Rattle.lists.proofs.Refusals.{passed}
-use Rattle.plan.proofs.Ranges.{within-says, within-right}
+use Rattle.plan.proofs.RangesLaws.{within-says, within-right}
 use Rattle.plan.proofs.First.{test-passes, no-test}
 use Rattle.plan.proofs.Order.{records-pass, by-records}
 use Rattle.verdict_laws.proofs.Guests.{there-place, there-has, has-there, fits-fitted, fitted-all}
@@ -44,13 +44,16 @@ pub task-verdict-is :
 unfolding taskVerdict hasTask
 task-verdict-is p id k i t h =
     let place = there-place p id k t in
-    let has : within 1 (guestAt (p .guests) (placeOf p id) .tasks) (suc i) ≡ true = rw place (within-right (guestAt (p .guests) k .tasks) (suc i) (omega arith) (omega arith)) in
+    let has : within 1 (guestAt (p .guests) (placeOf p id) .tasks) (suc i) ≡ true =
+    rw place (within-right (guestAt (p .guests) k .tasks) (suc i) (omega arith) (omega arith)) in
     let number : suc i - 1 ≡ i = omega arith in
-    sym (no-test task.Refused _ ∙ test-passes task.Refused 8 [] _ has ∙ test-passes task.Refused 7 (hasTask p id (suc i) orRefuse 8 ∷ []) _ (there-has p id k t)
+    sym (no-test task.Refused _ ∙ test-passes task.Refused 8 [] _ has
+    ∙ test-passes task.Refused 7 (hasTask p id (suc i) orRefuse 8 ∷ []) _ (there-has p id k t)
     ∙ records-pass task.Refused p (hasGuest p id orRefuse 7 ∷ hasTask p id (suc i) orRefuse 8 ∷ []) _ (t .order))
     ∙ rw (place, number) refl
 
--- a response under fitted guests means the least solution, met or unmet by the deadline; none that there is no solution up to the period
+-- under fitted guests a response means the least solution, met or unmet by the deadline, and none means that there is no
+-- solution up to the period
 response-means : (p : Plan) (k i : ℕ) → AllFit p k → (f : Found)
     → Answers (taskRight p k i) (limit (guestAt (p .guests) k) i - gap (guestAt (p .guests) k) i) f
     → TaskMeans p k i (taskSays true (deadlineOf (guestAt (p .guests) k) i) (later (gap (guestAt (p .guests) k) i) f))
@@ -78,27 +81,32 @@ response-means p k i all (At w) a = by (leb r deadline) refl
     by true e = unfold quotedBy in record { quoted = quoted; in-time = omega (arith, leb-true r deadline e) }
     by false e = unfold quotedBy in record { quoted = quoted; late = omega (arith, leb-false r deadline e) }
 
--- under an unfit guest the verdict means that
-unjudged-means : (p : Plan) (k i deadline : ℕ) (f : Found) → fittedTo p k ≡ false → TaskMeans p k i (taskSays false deadline f)
+-- under an unfit guest unjudged has its meaning
+unjudged-means : (p : Plan) (k i deadline : ℕ) (f : Found) → fittedTo p k ≡ false
+    → TaskMeans p k i (taskSays false deadline f)
 unfolding taskSays fittedTo
 unjudged-means p k i deadline f e =
     let x = all-false (fitted p) (suc k) e in
     record { j = x .0; above = omega (arith, x .1); unfit = λ y s. false≢true (sym (x .2) ∙ fits-fitted p (x .0) y s) }
 
 -- the verdict has its meaning
-pub task-verdict-means : (p : Plan) (id k i : ℕ) → There p id k → i < guestAt (p .guests) k .tasks → TaskMeans p k i (taskVerdict p id (suc i))
+pub task-verdict-means : (p : Plan) (id k i : ℕ) → There p id k → i < guestAt (p .guests) k .tasks
+    → TaskMeans p k i (taskVerdict p id (suc i))
 unfolding taskResponse responseTo taskUnder taskRight
 task-verdict-means p id k i t h = rw (task-verdict-is p id k i t h) (go (fittedTo p k) refl)
   where
     room : ℕ
     room = limit (guestAt (p .guests) k) i - gap (guestAt (p .guests) k) i
 
-    go : (b : Bool) → fittedTo p k ≡ b → TaskMeans p k i (taskSays b (deadlineOf (guestAt (p .guests) k) i) (taskResponse p k i))
+    go : (b : Bool) → fittedTo p k ≡ b
+        → TaskMeans p k i (taskSays b (deadlineOf (guestAt (p .guests) k) i) (taskResponse p k i))
     go false e = unjudged-means p k i _ (taskResponse p k i) e
-    go true e = response-means p k i (fitted-all p k e) (solve (taskRight p k i) room) (solve-answers (taskRight p k i) room)
+    go true e = response-means p k i (fitted-all p k e) (solve (taskRight p k i) room)
+        (solve-answers (taskRight p k i) room)
 
--- a verdict that is no refusal is of such a task, and has its meaning
-pub judged-means : (p : Plan) (id number : ℕ) {v : TaskVerdict} → ((n m : ℕ) → task.Refused n m ≡ v → ⊥) → taskVerdict p id number ≡ v
+-- a verdict that is no refusal is of a task that is there, and has its meaning
+pub judged-means : (p : Plan) (id number : ℕ) {v : TaskVerdict} → ((n m : ℕ) → task.Refused n m ≡ v → ⊥)
+    → taskVerdict p id number ≡ v
     → TaskThere p id number × TaskMeans p (placeOf p id) (number - 1) v
 unfolding taskVerdict hasTask
 judged-means p id number {v} none e =
@@ -109,8 +117,10 @@ judged-means p id number {v} none e =
     let t = has-there p id (r .0) (seven .0) in
     let from-1 : number ≡ suc (number - 1) = omega (arith, n .0) in
     let in-guest : number - 1 < guestAt (p .guests) (placeOf p id) .tasks = omega (arith, n .0, n .1) in
-    let is : taskVerdict p id (suc (number - 1)) ≡ v = subst (λ (m : ℕ). taskVerdict p id m ≡ v) from-1 e in
-    (record { there = t; from-1 = from-1; in-guest = in-guest }, rw is at (task-verdict-means p id (placeOf p id) (number - 1) t in-guest))
+    let is : taskVerdict p id (suc (number - 1)) ≡ v = subst (λ (m : ℕ). taskVerdict p id m ≡ v) from-1 e in (
+      record { there = t; from-1 = from-1; in-guest = in-guest },
+      rw is at (task-verdict-means p id (placeOf p id) (number - 1) t in-guest),
+    )
 
 -- a verdict that quotes R means that R is quoted
 pub quotes-mean : (p : Plan) (k i R : ℕ) (v : TaskVerdict) → Quotes v R → TaskMeans p k i v → TaskQuoted p k i R
@@ -120,8 +130,9 @@ quotes-mean p k i R (UnmetAt r) q a = rw (← q) (a .quoted)
 quotes-mean p k i R Unmet q a = absurd q
 quotes-mean p k i R Unjudged q a = absurd q
 
--- so of the task with that number
-pub quoted-means : (p : Plan) (id number R : ℕ) → Quoted p id number R → TaskThere p id number × TaskQuoted p (placeOf p id) (number - 1) R
+-- a response that is quoted is that of a task that is there, under fitted guests
+pub quoted-means : (p : Plan) (id number R : ℕ) → Quoted p id number R
+    → TaskThere p id number × TaskQuoted p (placeOf p id) (number - 1) R
 quoted-means p id number R q =
     let (t, a) = judged-means p id number {v = taskVerdict p id number} (λ n m e. rw (← e) at q) refl in
     (t, quotes-mean p (placeOf p id) (number - 1) R (taskVerdict p id number) q a)
@@ -137,11 +148,11 @@ quoted-one p k i r s a b =
 met-late : (p : Plan) (k i r s : ℕ) → TaskMet p k i r → TaskUnmetAt p k i s → ⊥
 met-late p k i r s a b = omega (arith, quoted-one p k i r s (a .quoted) (b .quoted), a .in-time, b .late)
 
--- so do quoted and not
+-- quoted and not quoted exclude each other
 quoted-unmet : (p : Plan) (k i r : ℕ) → TaskQuoted p k i r → TaskUnmet p k i → ⊥
 quoted-unmet p k i r a b = b .none (a .w) (a .solves) (omega (arith, a .response, a .in-period))
 
--- and judged and unjudged
+-- judged and unjudged exclude each other
 pub judged-unjudged : (p : Plan) (k : ℕ) → AllFit p k → TaskUnjudged p k → ⊥
 judged-unjudged p k all b = let x = all (b .j) (b .above) in b .unfit (x .0) (x .1)
 
@@ -169,12 +180,14 @@ task-means-one p k i Unjudged (UnmetAt s) a b = absurd (judged-unjudged p k (b .
 task-means-one p k i Unjudged Unmet a b = absurd (judged-unjudged p k (b .fitted) a)
 task-means-one p k i Unjudged Unjudged a b = refl
 
--- no other verdict has it
-pub task-verdict-only : (p : Plan) (id k i : ℕ) → There p id k → i < guestAt (p .guests) k .tasks → (v : TaskVerdict) → TaskMeans p k i v → v ≡ taskVerdict p id (suc i)
+-- no other verdict has that meaning
+pub task-verdict-only : (p : Plan) (id k i : ℕ) → There p id k → i < guestAt (p .guests) k .tasks → (v : TaskVerdict)
+    → TaskMeans p k i v → v ≡ taskVerdict p id (suc i)
 task-verdict-only p id k i t h v a = task-means-one p k i v (taskVerdict p id (suc i)) a (task-verdict-means p id k i t h)
 
--- the guest and all above fitted, and a solution up to the period: a response is quoted
-pub quoted-where : (p : Plan) (id k i : ℕ) → There p id k → i < guestAt (p .guests) k .tasks → AllFit p k → (w : ℕ) → TaskSolves p k i w → InPeriod p k i w
+-- under fitted guests a solution up to the period has a response that is quoted
+pub quoted-where : (p : Plan) (id k i : ℕ) → There p id k → i < guestAt (p .guests) k .tasks → AllFit p k → (w : ℕ)
+    → TaskSolves p k i w → InPeriod p k i w
     → (R : ℕ) × Quoted p id (suc i) R
 quoted-where p id k i t h all w s l = go (taskVerdict p id (suc i)) (task-verdict-means p id k i t h)
   where
@@ -185,23 +198,28 @@ quoted-where p id k i t h all w s l = go (taskVerdict p id (suc i)) (task-verdic
     go Unmet a = absurd (a .none w s l)
     go Unjudged a = absurd (judged-unjudged p k all a)
 
--- the test of a guest's tasks, as solutions
+-- the tasks of a guest that passes the test have solutions in time
 pub met-in-time : (p : Plan) (k : ℕ) → allMet p k ≡ true → AllInTime p k
 unfolding allMet
-met-in-time p k e i h = go (solve (taskRight p k i) room) refl (solve-answers (taskRight p k i) room) (all-at (met p k) (guestAt (p .guests) k .tasks) i h e)
+met-in-time p k e i h =
+    go (solve (taskRight p k i) room) refl (solve-answers (taskRight p k i) room)
+    (all-at (met p k) (guestAt (p .guests) k .tasks) i h e)
   where
     room : ℕ
     room = deadlineOf (guestAt (p .guests) k) i - gap (guestAt (p .guests) k) i
 
-    go : (f : Found) → solve (taskRight p k i) room ≡ f → Answers (taskRight p k i) room f → met p k i ≡ true → (w : ℕ) × TaskSolves p k i w × InTime p k i w
-    go Nothing q a m = unfold met responseTo taskUnder taskRight in absurd (false≢true (sym (ap (λ (f : Found). isAt (later (gap (guestAt (p .guests) k) i) f)) q) ∙ m))
+    go : (f : Found) → solve (taskRight p k i) room ≡ f → Answers (taskRight p k i) room f → met p k i ≡ true
+        → (w : ℕ) × TaskSolves p k i w × InTime p k i w
+    go Nothing q a m = unfold met responseTo taskUnder taskRight in
+        absurd (false≢true (sym (ap (λ (f : Found). isAt (later (gap (guestAt (p .guests) k) i) f)) q) ∙ m))
     go (At w) q a m = (w, record { low = a .low; solves = a .sol }, omega (arith, a .low, a .high))
 
--- solutions, as the test
+-- a guest whose tasks have solutions in time passes the test
 pub in-time-met : (p : Plan) (k : ℕ) → AllInTime p k → allMet p k ≡ true
 unfolding allMet met responseTo taskUnder taskRight
 in-time-met p k a = all-by (met p k) (guestAt (p .guests) k .tasks) (λ i h. (
     let s = a i h in
     let g = guestAt (p .guests) k in
-    let f = solve-by (taskRight p k i) (deadlineOf g i - gap g i) (s .0) (s .1 .low) (omega (arith, s .2)) (s .1 .solves) in
+    let f = solve-by (taskRight p k i) (deadlineOf g i - gap g i) (s .0) (s .1 .low) (omega (arith, s .2))
+    (s .1 .solves) in
     is-at (ap (later (gap g i)) (f .1))))

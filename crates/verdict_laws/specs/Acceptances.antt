@@ -11,7 +11,7 @@ use Rattle.verdict_laws.specs.Guests.{AllFit}
 use Rattle.verdict_laws.specs.Tasks.{AllInTime}
 use Rattle.verdict.specs.declared.Acceptance.the-variants as plan
 
--- all guests are fitted and all tasks met
+-- all guests of a plan are fitted and all their tasks are met
 pub record AllGood (p : Plan) : Type 0 where
   pub fitted : (k : ℕ) → k < p .count → AllFit p k
   pub met : (k : ℕ) → k < p .count → AllInTime p k
@@ -24,4 +24,5 @@ AcceptMeans p NotAccepted = ¬ AllGood p
 
 -- the verdict of each task of each guest is met
 abbrev pub AllSaidMet : Plan → Type 0
-AllSaidMet p = (k : ℕ) → k < p .count → (i : ℕ) → i < guestAt (p .guests) k .tasks → (r : ℕ) × (taskVerdict p (guestAt (p .guests) k .id) (suc i) ≡ Met r)
+AllSaidMet p = (k : ℕ) → k < p .count → (i : ℕ) → i < guestAt (p .guests) k .tasks
+    → (r : ℕ) × (taskVerdict p (guestAt (p .guests) k .id) (suc i) ≡ Met r)

@@ -16,12 +16,12 @@ pub record CapacityWorks (p : Plan) (k c : ℕ) : Type 0 where
   pub fitted : AllFit (withCapacity p k c) k
   pub met : AllInTime (withCapacity p k c) k
 
--- and no smaller one does
+-- c is the smallest capacity that works
 pub record CapacitySmallest (p : Plan) (k c : ℕ) : Type 0 where
   pub works : CapacityWorks p k c
   pub least : (z : ℕ) → z < c → ¬ CapacityWorks p k z
 
--- none does, which is refusal 11 with place 0
+-- no capacity works, which is refusal 11 with place 0
 pub record NoCapacity (p : Plan) (k n place : ℕ) : Type 0 where
   pub number : n ≡ 11
   pub nowhere : place ≡ 0

@@ -20,12 +20,12 @@ pub record GuestSolves (p : Plan) (k x : ℕ) : Type 0 where
   pub high : x ≤ guestAt (p .guests) k .period
   pub solves : x ≡ guestRight p k x
 
--- and no smaller number does
+-- x is the least number from 1 to the period that solves the guest's equation
 pub record Responds (p : Plan) (k x : ℕ) : Type 0 where
   pub fits : GuestSolves p k x
   pub least : (z : ℕ) → z < x → ¬ GuestSolves p k z
 
--- no number does
+-- no number from 1 to the period solves the guest's equation
 abbrev pub NoneFits : Plan → ℕ → Type 0
 NoneFits p k = (x : ℕ) → ¬ GuestSolves p k x
 

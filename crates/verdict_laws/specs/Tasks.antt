@@ -1,5 +1,6 @@
 -- What a task's verdict says of its equation.
 use mathlib.Core.Path.{_≡_}
+use mathlib.Core.Logic.{_⊎_}
 use Prim.Native.Nat.{ℕ, suc, _+_, _-_, _≤_, _<_}
 use Rattle.plan.specs.Place.{placeOf}
 use Rattle.plan.specs.Records.{guestAt, everyOf, deadlineOf}
@@ -48,7 +49,7 @@ pub record TaskUnmetAt (p : Plan) (k i r : ℕ) : Type 0 where
   pub quoted : TaskQuoted p k i r
   pub late : deadlineOf (guestAt (p .guests) k) i < r
 
--- unmet: they are fitted, and no solution w has w + J at most the period
+-- unmet: its guest and all above are fitted, and no solution w has w + J at most the period
 pub record TaskUnmet (p : Plan) (k i : ℕ) : Type 0 where
   pub fitted : AllFit p k
   pub none : (w : ℕ) → TaskSolves p k i w → ¬ InPeriod p k i w
@@ -66,6 +67,14 @@ TaskMeans p k i (Met r) = TaskMet p k i r
 TaskMeans p k i (UnmetAt r) = TaskUnmetAt p k i r
 TaskMeans p k i Unmet = TaskUnmet p k i
 TaskMeans p k i Unjudged = TaskUnjudged p k
+
+-- a verdict says unmet, with the task's response or with none
+abbrev pub SaysUnmet : TaskVerdict → Type 0
+SaysUnmet v = ((r : ℕ) × (v ≡ UnmetAt r)) ⊎ (v ≡ Unmet)
+
+-- a verdict says that the task is not met: unmet or unjudged
+abbrev pub SaysNotMet : TaskVerdict → Type 0
+SaysNotMet v = SaysUnmet v ⊎ (v ≡ Unjudged)
 
 -- each task of the guest at place k has a solution in time
 abbrev pub AllInTime : Plan → ℕ → Type 0

@@ -6,7 +6,7 @@ use lib.ListN.{length}
 use borrow.Author.Needs.{needs}
 use Rattle.block.specs.Writing.{withPlace, writeNumber, blockOf}
 use Rattle.block.proofs.Writing.{by-refused, by-none, WriteIn, write-in}
-use Rattle.plan.proofs.Ranges.{head-says}
+use Rattle.plan.proofs.RangesLaws.{head-says}
 use Rattle.block.proofs.write.Statement.{statement}
 use Rattle.block.proofs.write.Tie as tie
 

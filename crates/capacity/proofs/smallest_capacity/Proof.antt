@@ -49,8 +49,10 @@ smallest-at-requires c κs =
     let columns = look .before .before .before .before .before in
     let l = look .look-up .ensures _ (lent (columns .before .check .ensures) (columns .columns-of .ensures)) in
     let h = found .if1 .left in
-    let order = look-order l h in
-    (seated-at _ _ (columns .columns-of .ensures) order _ (look-here l h), omega (arith, order .guests _ (look-here l h) .head .short))
+    let order = look-order l h in (
+      seated-at _ _ (columns .columns-of .ensures) order _ (look-here l h),
+      omega (arith, order .guests _ (look-here l h) .head .short),
+    )
 
 capacity-says-requires : tie.Need-capacity-says-requires
 capacity-says-requires c κs = search needs
@@ -61,7 +63,8 @@ returns-2 c =
     let look = found .before .before .before in
     let columns = look .before .before .before .before .before in
     let l = look .look-up .ensures _ (lent (columns .before .check .ensures) (columns .columns-of .ensures)) in
-    capacity-judged l (found .if1 .left) (columns .columns-of .ensures) (c .before .smallest-at .ensures) (c .capacity-says .ensures)
+    capacity-judged l (found .if1 .left) (columns .columns-of .ensures) (c .before .smallest-at .ensures)
+    (c .capacity-says .ensures)
 
 pub smallest-capacity-spec : {M : Type 1} → statement M
 smallest-capacity-spec =

@@ -1,4 +1,5 @@
--- `plan::check` meets its promise: the count first; then the guests in order, of which those that are left have the same first refusal. Assumes nothing.
+-- `plan::check` meets its promise: the count first; then the guests in order, of which those that are left have the
+-- same first refusal. Assumes nothing.
 use mathlib.Core.Path.{_≡_, _∙_}
 use Prim.Native.Nat.{_≤_, _-_}
 use native.Mathlib.Omega.{arith}
@@ -15,7 +16,9 @@ use Rattle.plan.proofs.check.Tie as tie
 
 abbrev Inv-loop : tie.InvT-loop
 Inv-loop plan n ids many k₀ k =
-    ((k ≤ many) × (many ≤ 8)) × (Filled ids (λ j. guestAt (plan .guests) j .id) mostGuests × (firstRefused (guestNumber (plan .guests)) (many - k) k ≡ planRefusal plan))
+    ((k ≤ many) × (many ≤ mostGuests))
+    × (Filled ids (λ j. guestAt (plan .guests) j .id) mostGuests
+    × (firstRefused (guestNumber (plan .guests)) (many - k) k ≡ planRefusal plan))
 
 abbrev μ-loop : tie.MeasureT-loop
 μ-loop plan n ids many k₀ k = many - k
@@ -35,8 +38,13 @@ cast-many c = search needs
 loop-holds : tie.Need-loop-holds Inv-loop μ-loop
 loop-holds c =
     let p = c .before .before .before .before .args .t1 in
-    let e : p .count - 0 ≡ p .count = omega arith in
-    ((search needs, search needs), (c .before .columns-of .ensures .ids, rw e (counted p (c .before .before .before .if1 .left) (c .before .before .if2 .left))))
+    let e : p .count - 0 ≡ p .count = omega arith in (
+      (search needs, search needs),
+      (
+        c .before .columns-of .ensures .ids,
+        rw e (counted p (c .before .before .before .if1 .left) (c .before .before .if2 .left)),
+      ),
+    )
 
 mul-guest-number : tie.Need-mul-guest-number Inv-loop μ-loop
 mul-guest-number c = search needs
@@ -57,7 +65,9 @@ returns-3 : tie.Need-returns-3 Inv-loop μ-loop
 returns-3 c =
     let b = c .before .before in
     let l = b .before .before .before .before .loop in
-    first-here _ _ _ _ (b .before .before .before .loop-test .taken) (number-is _ _ _ (omega arith) (l .inv .1 .0) (b .new-id .ensures) (c .before .guest-number .ensures)) (c .if3 .taken)
+    first-here _ _ _ _ (b .before .before .before .loop-test .taken)
+    (number-is _ _ _ (omega arith) (l .inv .1 .0) (b .new-id .ensures) (c .before .guest-number .ensures))
+    (c .if3 .taken)
     ∙ l .inv .1 .1
 
 add-k : tie.Need-add-k Inv-loop μ-loop
@@ -71,7 +81,12 @@ loop-again c =
     let b = c .before .before in
     let l = b .before .before .before .before .loop in (
       (search needs, l .inv .0 .1),
-      (l .inv .1 .0, first-next _ _ _ _ (b .before .before .before .loop-test .taken) (number-is _ _ _ (omega arith) (l .inv .1 .0) (b .new-id .ensures) (c .before .guest-number .ensures)) (c .if3 .left) ∙ l .inv .1 .1),
+      (
+        l .inv .1 .0,
+        first-next _ _ _ _ (b .before .before .before .loop-test .taken)
+            (number-is _ _ _ (omega arith) (l .inv .1 .0) (b .new-id .ensures) (c .before .guest-number .ensures))
+            (c .if3 .left) ∙ l .inv .1 .1,
+      ),
     )
 
 returns-4 : tie.Need-returns-4 Inv-loop μ-loop

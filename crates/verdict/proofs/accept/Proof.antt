@@ -1,4 +1,5 @@
--- `verdict::accept` meets its promise: the records' refusal, else one pass over the guests off the columns. Assumes nothing.
+-- `verdict::accept` meets its promise: the records' refusal, else one pass over the guests off the columns. Assumes
+-- nothing.
 use borrow.Author.Needs.{needs}
 use Rattle.verdict.specs.Verdict.{acceptSays}
 use Rattle.plan.proofs.LookUp.{check-passes}
@@ -29,14 +30,16 @@ unfolding acceptSays
 returns-2 c =
     let columns = c .before .before .before .before .before .before in
     let passed = columns .before in
-    plan-accepted _ (check-passes _ (passed .before .before .check .ensures) (passed .if1 .left)) (columns .columns-of .ensures) (c .before .all-accepted .ensures) (c .if2 .taken)
+    plan-accepted _ (check-passes _ (passed .before .before .check .ensures) (passed .if1 .left))
+    (columns .columns-of .ensures) (c .before .all-accepted .ensures) (c .if2 .taken)
 
 returns-3 : tie.Need-returns-3
 unfolding acceptSays
 returns-3 c =
     let columns = c .before .before .before .before .before .before in
     let passed = columns .before in
-    plan-accepted _ (check-passes _ (passed .before .before .check .ensures) (passed .if1 .left)) (columns .columns-of .ensures) (c .before .all-accepted .ensures) (c .if2 .left)
+    plan-accepted _ (check-passes _ (passed .before .before .check .ensures) (passed .if1 .left))
+    (columns .columns-of .ensures) (c .before .all-accepted .ensures) (c .if2 .left)
 
 pub accept-spec : {M : Type 1} → statement M
 accept-spec =

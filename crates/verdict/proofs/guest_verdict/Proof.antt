@@ -45,7 +45,8 @@ returns-2 c =
     let look = found .before .before .before in
     let columns = look .before .before .before .before .before in
     let l = look .look-up .ensures _ (lent (columns .before .check .ensures) (columns .columns-of .ensures)) in
-    guest-judged l (found .if1 .left) (columns .columns-of .ensures) (c .before .response-at .ensures) (c .guest-says .ensures)
+    guest-judged l (found .if1 .left) (columns .columns-of .ensures) (c .before .response-at .ensures)
+    (c .guest-says .ensures)
 
 pub guest-verdict-spec : {M : Type 1} → statement M
 guest-verdict-spec =

@@ -1,4 +1,5 @@
--- `verdict::task_verdict` meets its promise: the way in, then 8, then the task's response off the columns. Assumes nothing.
+-- `verdict::task_verdict` meets its promise: the way in, then 8, then the task's response off the columns. Assumes
+-- nothing.
 use mathlib.Core.Path.{sym, _∙_}
 use native.Mathlib.Omega.{arith}
 use borrow.Author.Needs.{needs}
@@ -7,7 +8,7 @@ use Rattle.plan.specs.Records.{guestAt}
 use Rattle.verdict.specs.Verdict.{taskVerdict}
 use Rattle.verdict.specs.declared.TaskVerdict.the-variants.{Refused}
 use Rattle.plan.proofs.LookUp.{lent, lent-few, look-refuses, look-order, look-here, look-few}
-use Rattle.plan.proofs.Ranges.{within-says}
+use Rattle.plan.proofs.RangesLaws.{within-says}
 use Rattle.response.proofs.ReadyLaws.{seated-at}
 use Rattle.verdict.proofs.Verdict.{task-missing, task-judged}
 use Rattle.verdict.proofs.task_verdict.Statement.{statement}
@@ -75,7 +76,8 @@ judge-task-requires c κs =
     let h = found .if1 .left in
     let start = columns .before .before in
     let g = guestAt (start .args .plan .guests) (look .look-up .result .place) in
-    let number = within-says 1 (g .tasks) (start .args .task) (sym (test .before .has-task .ensures) ∙ not-false _ (test .if2 .left)) in
+    let number = within-says 1 (g .tasks) (start .args .task)
+    (sym (test .before .has-task .ensures) ∙ not-false _ (test .if2 .left)) in
     (seated-at _ _ (columns .columns-of .ensures) (look-order l h) _ (look-here l h), omega (arith, number .0, number .1))
 
 returns-3 : tie.Need-returns-3
@@ -85,7 +87,8 @@ returns-3 c =
     let look = found .before .before .before in
     let columns = look .before .before .before .before .before in
     let l = look .look-up .ensures _ (lent (columns .before .check .ensures) (columns .columns-of .ensures)) in
-    task-judged l (found .if1 .left) (columns .columns-of .ensures) _ (test .before .has-task .ensures) (not-false _ (test .if2 .left)) (c .judge-task .ensures)
+    task-judged l (found .if1 .left) (columns .columns-of .ensures) _ (test .before .has-task .ensures)
+    (not-false _ (test .if2 .left)) (c .judge-task .ensures)
 
 pub task-verdict-spec : {M : Type 1} → statement M
 task-verdict-spec =

@@ -3,7 +3,7 @@ use mathlib.Core.Path.{sym, _∙_}
 use borrow.Author.Needs.{needs}
 use borrow.Author.Tests.{not-true, not-false}
 use Rattle.plan.specs.Ranges.{tasksOk}
-use Rattle.plan.proofs.Ranges.{head-says}
+use Rattle.plan.proofs.RangesLaws.{head-says}
 use Rattle.arrays.proofs.Rows.{head-fails, tasks-fail, numbers-decide, runs-small}
 use Rattle.arrays.proofs.ranges.guest_ok.Statement.{statement}
 use Rattle.arrays.proofs.ranges.guest_ok.Tie as tie

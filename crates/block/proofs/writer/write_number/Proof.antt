@@ -5,7 +5,7 @@ use Prim.Native.Nat.{_≤_}
 use borrow.Author.Needs.{needs}
 use borrow.Author.Tests.{not-true, not-false}
 use Rattle.plan.specs.Ranges.{mostTasks, guestOk, tasksOk}
-use Rattle.plan.proofs.Ranges.{head-says}
+use Rattle.plan.proofs.RangesLaws.{head-says}
 use Rattle.block.proofs.Writing.{twelve, three, four, six, none}
 use Rattle.block.proofs.writer.write_number.Statement.{statement}
 use Rattle.block.proofs.writer.write_number.Tie as tie

@@ -2,6 +2,7 @@
 use Prim.Native.Nat.{_≤_, _-_}
 use native.Mathlib.Omega.{arith}
 use borrow.Author.Needs.{needs}
+use Rattle.plan.specs.Ranges.{mostGuests}
 use Rattle.plan.specs.Filled.{ColumnsOf}
 use Rattle.plan.proofs.Filled.{columns-none, columns-next, columns-done}
 use Rattle.plan.proofs.column.columns_of.Statement.{statement}
@@ -9,10 +10,11 @@ use Rattle.plan.proofs.column.columns_of.Tie as tie
 
 abbrev Inv-loop : tie.InvT-loop
 Inv-loop guests ids₀ capacities₀ periods₀ tasks₀ k₀ ids capacities periods tasks k =
-    (k ≤ 8) × ColumnsOf guests k (record { ids = ids; capacities = capacities; periods = periods; tasks = tasks })
+    (k ≤ mostGuests) × ColumnsOf guests k
+    (record { ids = ids; capacities = capacities; periods = periods; tasks = tasks })
 
 abbrev μ-loop : tie.MeasureT-loop
-μ-loop guests ids₀ capacities₀ periods₀ tasks₀ k₀ ids capacities periods tasks k = 8 - k
+μ-loop guests ids₀ capacities₀ periods₀ tasks₀ k₀ ids capacities periods tasks k = mostGuests - k
 
 loop-holds : tie.Need-loop-holds Inv-loop μ-loop
 loop-holds c = (search needs, columns-none _)

@@ -11,7 +11,8 @@ use Rattle.plan.proofs.find.place_of.Statement.{statement}
 use Rattle.plan.proofs.find.place_of.Tie as tie
 
 abbrev Inv-loop : tie.InvT-loop
-Inv-loop ids n id k₀ k = (k ≤ n) × (firstFrom (λ j. eqb (nth ids j) id) (n - k) k ≡ firstFrom (λ j. eqb (nth ids j) id) n 0)
+Inv-loop ids n id k₀ k =
+    (k ≤ n) × (firstFrom (λ j. eqb (nth ids j) id) (n - k) k ≡ firstFrom (λ j. eqb (nth ids j) id) n 0)
 
 abbrev μ-loop : tie.MeasureT-loop
 μ-loop ids n id k₀ k = n - k
@@ -29,7 +30,8 @@ returns : tie.Need-returns Inv-loop μ-loop
 returns c =
     let l = c .before .before .before in
     sym
-    (first-hit (λ j. eqb (nth (l .before .args .ids .now) j) (l .before .args .id)) _ _ (c .before .before .loop-test .taken) (eq-eqb _ _ (c .if1 .taken)))
+    (first-hit (λ j. eqb (nth (l .before .args .ids .now) j) (l .before .args .id)) _ _
+    (c .before .before .loop-test .taken) (eq-eqb _ _ (c .if1 .taken)))
     ∙ l .loop .inv .1
 
 add-k : tie.Need-add-k Inv-loop μ-loop
@@ -43,13 +45,16 @@ loop-again c =
     let l = c .before .before .before in (
       search needs,
       sym
-          (first-skip (λ j. eqb (nth (l .before .args .ids .now) j) (l .before .args .id)) _ _ (c .before .before .loop-test .taken)
+          (first-skip (λ j. eqb (nth (l .before .args .ids .now) j) (l .before .args .id)) _ _
+          (c .before .before .loop-test .taken)
           (ne-eqb _ _ (c .if1 .left)))
           ∙ l .loop .inv .1,
     )
 
 returns-2 : tie.Need-returns-2 Inv-loop μ-loop
-returns-2 c = let l = c .before in sym (first-none (λ j. eqb (nth (l .before .args .ids .now) j) (l .before .args .id)) _ _ (c .loop-test .left)) ∙ l .loop .inv .1
+returns-2 c = let l =
+    c .before in sym (first-none (λ j. eqb (nth (l .before .args .ids .now) j) (l .before .args .id)) _ _
+    (c .loop-test .left)) ∙ l .loop .inv .1
 
 pub place-of-spec : {M : Type 1} → statement M
 place-of-spec =

@@ -3,7 +3,7 @@ use mathlib.Core.Path.{sym, _∙_}
 use borrow.Author.Needs.{needs}
 use borrow.Author.Tests.{not-true, not-false}
 use Rattle.plan.specs.Ranges.{tasksOk}
-use Rattle.plan.proofs.Ranges.{head-says}
+use Rattle.plan.proofs.RangesLaws.{head-says}
 use Rattle.plan.proofs.Order.{four-head, four-id, six, none}
 use Rattle.plan.proofs.guests.guest_number.Statement.{statement}
 use Rattle.plan.proofs.guests.guest_number.Tie as tie
@@ -21,21 +21,26 @@ cast-tasks-ok : tie.Need-cast-tasks-ok
 cast-tasks-ok c = search needs
 
 tasks-ok-requires : tie.Need-tasks-ok-requires
-tasks-ok-requires c κs = let l = c .before .before .before .before in head-says _ _ _ _ (sym (l .before .head-ok .ensures) ∙ not-false _ (l .if1 .left)) .few
+tasks-ok-requires c κs =
+    let l = c .before .before .before .before in
+    head-says _ _ _ _ (sym (l .before .head-ok .ensures) ∙ not-false _ (l .if1 .left)) .few
 
 returns-3 : tie.Need-returns-3
 unfolding tasksOk
 returns-3 c =
     let m = c .before .before .before .before .before in
     let l = m .before in
-    six _ _ (sym (l .before .head-ok .ensures) ∙ not-false _ (l .if1 .left)) (not-false _ (m .if2 .left)) (sym (c .before .tasks-ok .ensures) ∙ not-true _ (c .if3 .taken))
+    six _ _ (sym (l .before .head-ok .ensures) ∙ not-false _ (l .if1 .left)) (not-false _ (m .if2 .left))
+    (sym (c .before .tasks-ok .ensures) ∙ not-true _ (c .if3 .taken))
 
 returns-4 : tie.Need-returns-4
 unfolding tasksOk
 returns-4 c =
     let m = c .before .before .before .before .before in
     let l = m .before in
-    none _ _ (sym (l .before .head-ok .ensures) ∙ not-false _ (l .if1 .left)) (not-false _ (m .if2 .left)) (sym (c .before .tasks-ok .ensures) ∙ not-false _ (c .if3 .left))
+    none _ _ (sym (l .before .head-ok .ensures) ∙ not-false _ (l .if1 .left)) (not-false _ (m .if2 .left))
+    (sym (c .before .tasks-ok .ensures) ∙ not-false _ (c .if3 .left))
 
 pub guest-number-spec : {M : Type 1} → statement M
-guest-number-spec = tie.close (tie.spec head-ok-requires returns returns-2 cast-tasks-ok tasks-ok-requires returns-3 returns-4)
+guest-number-spec = tie.close
+    (tie.spec head-ok-requires returns returns-2 cast-tasks-ok tasks-ok-requires returns-3 returns-4)

@@ -7,11 +7,12 @@ use Rattle.lists.specs.Places.{nth}
 use Rattle.lists.specs.All.{allTo}
 use Rattle.plan.specs.Ranges.{taskOk}
 use Rattle.lists.proofs.All.{all-none, all-turn}
-use Rattle.plan.proofs.tests.tasks_ok.Statement.{statement}
-use Rattle.plan.proofs.tests.tasks_ok.Tie as tie
+use Rattle.plan.proofs.ranges.tasks_ok.Statement.{statement}
+use Rattle.plan.proofs.ranges.tasks_ok.Tie as tie
 
 abbrev Inv-loop : tie.InvT-loop
-Inv-loop run every deadline n ok₀ i₀ ok i = (i ≤ n) × (ok ≡ allTo (λ j. taskOk (nth run j) (nth every j) (nth deadline j)) i)
+Inv-loop run every deadline n ok₀ i₀ ok i =
+    (i ≤ n) × (ok ≡ allTo (λ j. taskOk (nth run j) (nth every j) (nth deadline j)) i)
 
 abbrev μ-loop : tie.MeasureT-loop
 μ-loop run every deadline n ok₀ i₀ ok i = n - i
@@ -47,7 +48,10 @@ loop-less : tie.Need-loop-less Inv-loop μ-loop
 loop-less c = search needs
 
 loop-again : tie.Need-loop-again Inv-loop μ-loop
-loop-again c = (omega arith, all-turn _ _ _ _ (c .before .before .before .before .before .loop .inv .1) (c .task-ok .ensures))
+loop-again c = (
+  omega arith,
+  all-turn _ _ _ _ (c .before .before .before .before .before .loop .inv .1) (c .task-ok .ensures),
+)
 
 returns : tie.Need-returns Inv-loop μ-loop
 returns c = let e : c .before .loop .i ≡ c .before .before .args .n = omega arith in rw (← e) (c .before .loop .inv .1)

@@ -1,8 +1,8 @@
 -- `plan::task_ok` meets its contract: the same tests in the same order. Assumes nothing.
 use borrow.Author.Needs.{needs}
 use Rattle.plan.specs.Ranges.{taskOk}
-use Rattle.plan.proofs.tests.task_ok.Statement.{statement}
-use Rattle.plan.proofs.tests.task_ok.Tie as tie
+use Rattle.plan.proofs.ranges.task_ok.Statement.{statement}
+use Rattle.plan.proofs.ranges.task_ok.Tie as tie
 
 returns : tie.Need-returns
 unfolding taskOk

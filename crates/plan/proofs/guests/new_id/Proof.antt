@@ -10,8 +10,8 @@ use Rattle.lists.specs.All.{allTo}
 use Rattle.plan.specs.Order.{newId}
 use Rattle.lists.proofs.All.{all-none}
 use Rattle.plan.proofs.Order.{new-turn}
-use Rattle.plan.proofs.tests.new_id.Statement.{statement}
-use Rattle.plan.proofs.tests.new_id.Tie as tie
+use Rattle.plan.proofs.guests.new_id.Statement.{statement}
+use Rattle.plan.proofs.guests.new_id.Tie as tie
 
 abbrev Inv-loop : tie.InvT-loop
 Inv-loop ids k id ok₀ j₀ ok j = (j ≤ k) × ((id ≡ nth ids k) × (ok ≡ allTo (λ i. not (eqb (nth ids i) (nth ids k))) j))
@@ -42,8 +42,14 @@ loop-less c = search needs
 
 loop-again : tie.Need-loop-again Inv-loop μ-loop
 loop-again c =
-    let l = c .before .before in
-    (omega arith, (l .loop .inv .1 .0, new-turn (l .before .before .args .ids .now) (l .before .before .args .k) (l .loop .j) _ _ (l .loop .inv .1 .0) (l .loop .inv .1 .1)))
+    let l = c .before .before in (
+      omega arith,
+      (
+        l .loop .inv .1 .0,
+        new-turn (l .before .before .args .ids .now) (l .before .before .args .k) (l .loop .j) _ _ (l .loop .inv .1 .0)
+            (l .loop .inv .1 .1),
+      ),
+    )
 
 returns : tie.Need-returns Inv-loop μ-loop
 unfolding newId

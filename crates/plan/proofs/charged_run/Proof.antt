@@ -1,8 +1,8 @@
 -- `plan::charged_run` meets its contract: 64 bits hold the sum. Assumes nothing.
 use borrow.Author.Needs.{needs}
 use Rattle.plan.specs.Charge.{chargedRun}
-use Rattle.plan.proofs.tests.charged_run.Statement.{statement}
-use Rattle.plan.proofs.tests.charged_run.Tie as tie
+use Rattle.plan.proofs.charged_run.Statement.{statement}
+use Rattle.plan.proofs.charged_run.Tie as tie
 
 mul-result : tie.Need-mul-result
 mul-result c = search needs
