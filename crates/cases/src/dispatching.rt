@@ -1,5 +1,6 @@
 // The dispatcher's calls, on states that its own calls gave and on states with a number out of place.
 use crate::say;
+use crate::sheets;
 use dispatcher::Answer;
 use dispatcher::Dispatcher;
 use draft::text::Row;
@@ -102,14 +103,15 @@ fn with_job(d: Dispatcher, first: u8, k: usize, value: u32) -> Dispatcher {
     d
 }
 
-// `Start` from the plan; `Release` a guest's task; `Tick`; `Go` on for so many ticks; `Left`, `Position`, `Job`,
-// `Wait` or `Age` at a place set to a number.
+// `Start` from the plan; `Release` a guest's task; `Hand` in a sheet of releases; `Tick`; `Go` on for so many ticks;
+// `Left`, `Position`, `Job`, `Wait` or `Age` at a place set to a number.
 pub fn call(p: Plan, d: Dispatcher, row: Row) -> Dispatcher {
     let x = row.numbers;
     let first = row.first;
     match first {
         b'S' => start(p),
         b'R' => release(d, x[0], x[1]),
+        b'H' => sheets::hand_in(d, row),
         b'T' => tick(d),
         b'G' => run(d, x[0]),
         b'L' | b'P' => with_server(d, first, x[0] as usize, x[1]),

@@ -13,6 +13,7 @@ mod dispatching;
 mod files;
 mod judging;
 mod say;
+mod sheets;
 
 // The plan after a line: `new` empties it, `count` says how many of its guests count.
 fn planned(p: Plan, row: Row) -> Plan {

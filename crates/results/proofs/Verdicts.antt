@@ -2,10 +2,12 @@
 -- are in order, and the guest with that id stands at place k. Each verdict has its meaning, and is the only one that
 -- has it.
 use mathlib.Core.Path.{_≡_}
-use Prim.Native.Nat.{ℕ, suc, _-_, _<_}
+use Prim.Native.Nat.{ℕ, suc, _-_, _≤_, _<_}
 use Rattle.plan.specs.Order.{planRefusal}
 use Rattle.plan.specs.Place.{placeOf}
-use Rattle.plan.specs.Records.{guestAt}
+use Rattle.plan.specs.Charge.{charged}
+use Rattle.plan.specs.Records.{guestAt, runOf, deadlineOf}
+use Rattle.plan.specs.declared.Guest.{Guest}
 use Rattle.plan.specs.declared.Plan.{Plan}
 use Rattle.verdict.specs.declared.Acceptance.{Acceptance}
 use Rattle.verdict.specs.declared.Acceptance.the-variants.{Accepted}
@@ -15,13 +17,16 @@ use Rattle.verdict.specs.Verdict.{guestVerdict, taskVerdict, acceptance}
 use Rattle.verdict.specs.Quoted.{Quoted}
 use Rattle.capacity.specs.declared.CapacityAnswer.{CapacityAnswer}
 use Rattle.capacity.specs.Answer.{smallestCapacity}
+use Rattle.capacity.specs.Capacity.{withCapacity}
 use Rattle.verdict_laws.specs.Capacities.{CapacityMeans}
 use Rattle.verdict_laws.specs.Guests.{There, AllFit, GuestMeans}
-use Rattle.verdict_laws.specs.Tasks.{TaskThere, TaskSolves, InPeriod, TaskQuoted, TaskMeans}
+use Rattle.verdict_laws.specs.Tasks.{TaskThere, TaskSolves, InPeriod, TaskQuoted, TaskMeans, SaysUnmet, SaysNotMet}
 use Rattle.verdict_laws.specs.Acceptances.{AcceptMeans, AllSaidMet}
 use Rattle.verdict_laws.proofs.Acceptances as acceptances
 use Rattle.verdict_laws.proofs.Capacities as capacities
 use Rattle.verdict_laws.proofs.Guests as guests
+use Rattle.verdict_laws.proofs.LongRuns as runs
+use Rattle.verdict_laws.proofs.StoredCapacity as stored
 use Rattle.verdict_laws.proofs.Tasks as tasks
 
 module _ (p : Plan) (id k : ℕ) (there : There p id k) where
@@ -63,6 +68,35 @@ module _ (p : Plan) (id k : ℕ) (there : There p id k) where
   -- No other capacity answer means what holds.
   pub capacity-only : (v : CapacityAnswer) → CapacityMeans p k v → v ≡ smallestCapacity p id
   capacity-only = capacities.capacity-answer-only p id k there
+
+  -- A run longer than the deadline is well formed and unmet: where the charged run is past the deadline, the task is not
+  -- met, and under fitted guests it is unmet. The run being past the deadline is such a case (`long-run`).
+  pub long-run-not-met :
+      (i : ℕ)
+      → i < guestAt (p .guests) k .tasks
+      → deadlineOf (guestAt (p .guests) k) i < charged (guestAt (p .guests) k) i
+      → SaysNotMet (taskVerdict p id (suc i))
+  long-run-not-met i = runs.long-run-not-met p id k i there
+
+  pub long-run-unmet :
+      (i : ℕ)
+      → i < guestAt (p .guests) k .tasks
+      → deadlineOf (guestAt (p .guests) k) i < charged (guestAt (p .guests) k) i
+      → AllFit p k
+      → SaysUnmet (taskVerdict p id (suc i))
+  long-run-unmet i = runs.long-run-unmet p id k i there
+
+  -- The stored capacity plays no part in the smallest.
+  pub stored-no-part :
+      (c : ℕ)
+      → 1 ≤ c
+      → c ≤ guestAt (p .guests) k .period
+      → smallestCapacity (withCapacity p k c) id ≡ smallestCapacity p id
+  stored-no-part c = stored.stored-no-part p id k c there
+
+-- A run past the deadline makes the charged run so.
+pub long-run : (g : Guest) (i : ℕ) → deadlineOf g i < runOf g i → deadlineOf g i < charged g i
+long-run = runs.long-run
 
 -- A response that is quoted, by met R or unmet R, is that of a task that is there, under fitted guests: the least
 -- solution's, and at most the period.

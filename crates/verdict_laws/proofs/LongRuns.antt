@@ -8,7 +8,8 @@ use Rattle.plan.specs.Charge.{charged}
 use Rattle.plan.specs.Records.{guestAt, runOf, deadlineOf}
 use Rattle.plan.specs.declared.Guest.{Guest}
 use Rattle.plan.specs.declared.Plan.{Plan}
-use Rattle.response.specs.Task.{load, taskRight}
+use Rattle.equation.specs.System.{System, load, rightAt, right}
+use Rattle.response.specs.Task.{systemIn, taskRight}
 use Rattle.verdict.specs.Verdict.{taskVerdict}
 use Rattle.verdict.specs.declared.TaskVerdict.{TaskVerdict}
 use Rattle.verdict.specs.declared.TaskVerdict.the-variants.{Met, UnmetAt, Unmet, Unjudged}
@@ -18,15 +19,15 @@ use Rattle.plan.proofs.Charge.{charged-least}
 use Rattle.verdict_laws.proofs.Tasks.{task-verdict-means, judged-unjudged}
 use Rattle.verdict.specs.declared.TaskVerdict.the-variants as task
 
--- the load of a window holds the charged run
-run-in-load : (g : Guest) (i w : ℕ) → charged g i ≤ load g i w
+-- the load of a window holds the task's own run
+run-in-load : (S : System) (i w : ℕ) → S .run i ≤ load S i w
 unfolding load
-run-in-load g i w = omega arith
+run-in-load S i w = omega arith
 
 -- the right side of the equation holds the charged run
 run-in-right : (p : Plan) (k i w : ℕ) → charged (guestAt (p .guests) k) i ≤ taskRight p k i w
-unfolding taskRight
-run-in-right p k i w = omega (arith, run-in-load (guestAt (p .guests) k) i w)
+unfolding taskRight right rightAt
+run-in-right p k i w = omega (arith, run-in-load (systemIn p k) i w)
 
 -- a response that is quoted is no shorter than the charged run
 pub quoted-run : (p : Plan) (k i r : ℕ) → TaskQuoted p k i r → charged (guestAt (p .guests) k) i ≤ r
