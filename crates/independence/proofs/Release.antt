@@ -20,7 +20,7 @@ use Rattle.dispatcher.specs.State.{guestIn, restAt, waitAt}
 use Rattle.dispatcher.specs.Release.{taken, releaseNumber, release}
 use Rattle.independence.specs.SameFor.{SameFor}
 use Rattle.lists.proofs.Refusals.{go-on, stop}
-use Rattle.plan.proofs.Ranges.{within-says}
+use Rattle.plan.proofs.RangesLaws.{within-says}
 use Rattle.verdict_laws.proofs.Ids.{found-id}
 use Rattle.verdict_laws.proofs.Guests.{there-place}
 use Rattle.dispatcher_laws.proofs.Sound.{Sound, sound-taken}
