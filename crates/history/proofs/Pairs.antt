@@ -8,7 +8,7 @@ use Rattle.lists.specs.Places.{nth}
 use Rattle.plan.specs.declared.Plan.{Plan}
 use Rattle.dispatcher.specs.declared.Dispatcher.{Dispatcher}
 use Rattle.dispatcher.specs.Release.{release}
-use Rattle.sheet.specs.Sheet.{guestOf, taskOf, answerTo, sheet}
+use Rattle.sheet.specs.Sheet.{pairGuest, pairTask, answerTo, sheet}
 use Rattle.verdict.specs.Quoted.{Quoted}
 use Rattle.history.specs.Calls.{Call, releasing, sheeting, start, after, play, released, ticksIn, NoneTaken}
 use Rattle.history.specs.Finished.{FinishedBy}
@@ -32,7 +32,7 @@ module _ (p : Plan) (cs : List Call) (pairs : List ℕ) (room i : ℕ) {id numbe
   rest-done =
       sheet-is-releases (play cs (start p)) pairs room (Q .whole)
       ∙ ap (λ (l : List Call). play l (play cs (start p))) (around pairs i (Q .there))
-      ∙ play-append (releases (take i pairs)) (releasing (guestOf (nth pairs i)) (taskOf (nth pairs i)) ∷ releases (drop (suc i) pairs)) (play cs (start p))
+      ∙ play-append (releases (take i pairs)) (releasing (pairGuest (nth pairs i)) (pairTask (nth pairs i)) ∷ releases (drop (suc i) pairs)) (play cs (start p))
       ∙ rw (Q .names-guest, Q .names-task, play-append cs (releases (take i pairs)) (start p)) refl
 
 module _ (p : Plan) (id number R : ℕ) (quoted : Quoted p id number R) (cs : List Call) (pairs : List ℕ) (room i : ℕ)

@@ -14,7 +14,7 @@ use Rattle.dispatcher.specs.Answer.{answer}
 use Rattle.dispatcher.specs.Run.{ticks}
 use Rattle.dispatcher.specs.Release.{taken, release}
 use Rattle.lists.specs.Places.{nth}
-use Rattle.sheet.specs.Sheet.{guestOf, taskOf, stateAfter, sheet}
+use Rattle.sheet.specs.Sheet.{pairGuest, pairTask, stateAfter, sheet}
 use Rattle.sheet.proofs.Entry.{Sheeted, whole, each, sheet-sheeted}
 use Rattle.history.specs.Calls.{Call, releasing, ticking, running, sheeting, after, play, singles, ticksOf, ticksIn, answers, EachRelease, Throughout}
 use Rattle.history.proofs.Ticks.{tick-one, singles-next, singles-none, singles-length, run-state}
@@ -79,7 +79,7 @@ module _ (p : Plan) (I : List Answer → Dispatcher → Type 0) (Allowed : (id t
   -- It stands over the first n pairs of a sheet.
   pairs-keep :
       (pairs : List ℕ) (L : List Answer) (d : Dispatcher)
-      → ((i : ℕ) → i < length pairs → Allowed (guestOf (nth pairs i)) (taskOf (nth pairs i)) (stateAfter d pairs i))
+      → ((i : ℕ) → i < length pairs → Allowed (pairGuest (nth pairs i)) (pairTask (nth pairs i)) (stateAfter d pairs i))
       → Stands L d
       → (n : ℕ)
       → n ≤ length pairs
@@ -87,8 +87,8 @@ module _ (p : Plan) (I : List Answer → Dispatcher → Type 0) (Allowed : (id t
   unfolding stateAfter
   pairs-keep pairs L d a S zero h = S
   pairs-keep pairs L d a S (suc n) h =
-      took-keeps (guestOf (nth pairs n)) (taskOf (nth pairs n)) L (stateAfter d pairs n) (a n (omega arith)) (pairs-keep pairs L d a S n (omega arith))
-      (release-took (stateAfter d pairs n) (guestOf (nth pairs n)) (taskOf (nth pairs n)))
+      took-keeps (pairGuest (nth pairs n)) (pairTask (nth pairs n)) L (stateAfter d pairs n) (a n (omega arith)) (pairs-keep pairs L d a S n (omega arith))
+      (release-took (stateAfter d pairs n) (pairGuest (nth pairs n)) (pairTask (nth pairs n)))
 
   -- It stands over a sheet.
   sheet-keeps :

@@ -10,7 +10,7 @@ use Rattle.lists.specs.Places.{nth}
 use Rattle.dispatcher.specs.declared.Dispatcher.{Dispatcher}
 use Rattle.dispatcher.specs.declared.Answer.the-variants.{Silent, Finished}
 use Rattle.dispatcher.specs.Release.{release}
-use Rattle.sheet.specs.Sheet.{guestOf, taskOf, pairReleased, stateAfter, answerTo, sheet}
+use Rattle.sheet.specs.Sheet.{pairGuest, pairTask, pairReleased, stateAfter, answerTo, sheet}
 use Rattle.sheet.proofs.Entry.{Sheeted, whole, each, sheet-sheeted}
 use Rattle.history.specs.Calls.{Call, releasing, sheeting, after, play, ticksOf, ticksIn, EachRelease, answerOf, Throughout, Takes, NoneTaken}
 use Rattle.history.specs.Sheets.{releases, upToPair, NotBefore}
@@ -62,7 +62,7 @@ sheet-is-releases d pairs room z = by (sheet-sheeted d pairs room)
 pub pair-is-release :
     (d : Dispatcher) (cs : List Call) (pairs : List ℕ) (i : ℕ)
     → i ≤ length pairs
-    → answerTo (play cs d) pairs i ≡ release (play (upToPair cs pairs i) d) (guestOf (nth pairs i)) (taskOf (nth pairs i)) .refusal .number
+    → answerTo (play cs d) pairs i ≡ release (play (upToPair cs pairs i) d) (pairGuest (nth pairs i)) (pairTask (nth pairs i)) .refusal .number
 unfolding answerTo
 pair-is-release d cs pairs i h =
     ap (λ (e : Dispatcher). pairReleased e (nth pairs i) .refusal .number)
@@ -72,11 +72,11 @@ pair-is-release d cs pairs i h =
 pub around :
     (pairs : List ℕ) (i : ℕ)
     → i < length pairs
-    → releases pairs ≡ releases (take i pairs) ++ (releasing (guestOf (nth pairs i)) (taskOf (nth pairs i)) ∷ releases (drop (suc i) pairs))
+    → releases pairs ≡ releases (take i pairs) ++ (releasing (pairGuest (nth pairs i)) (pairTask (nth pairs i)) ∷ releases (drop (suc i) pairs))
 unfolding releases
 around [] i h = absurd (omega arith)
 around (pair ∷ pairs) zero h = refl
-around (pair ∷ pairs) (suc i) h = ap (λ (l : List Call). releasing (guestOf pair) (taskOf pair) ∷ l) (around pairs i (omega arith))
+around (pair ∷ pairs) (suc i) h = ap (λ (l : List Call). releasing (pairGuest pair) (pairTask pair) ∷ l) (around pairs i (omega arith))
 
 -- Ticks of histories one after the other.
 pub ticks-append : (cs ds : List Call) (d : Dispatcher) → ticksIn (cs ++ ds) d ≡ ticksIn cs d + ticksIn ds (play cs d)
@@ -88,13 +88,13 @@ ticks-append (c ∷ cs) ds d = omega (arith, ticks-append cs ds (after c d))
 pub releases-none : (pairs : List ℕ) (d : Dispatcher) → ticksIn (releases pairs) d ≡ 0
 unfolding releases ticksIn ticksOf
 releases-none [] d = refl
-releases-none (pair ∷ pairs) d = omega (arith, releases-none pairs (after (releasing (guestOf pair) (taskOf pair)) d))
+releases-none (pair ∷ pairs) d = omega (arith, releases-none pairs (after (releasing (pairGuest pair) (pairTask pair)) d))
 
 -- What holds of each of the first n pairs holds throughout their releases.
 pub throughout-pairs :
     (P : (guest task : ℕ) → Dispatcher → Type 0) (pairs : List ℕ) (n : ℕ) (d : Dispatcher)
     → n ≤ length pairs
-    → ((j : ℕ) → j < n → P (guestOf (nth pairs j)) (taskOf (nth pairs j)) (stateAfter d pairs j))
+    → ((j : ℕ) → j < n → P (pairGuest (nth pairs j)) (pairTask (nth pairs j)) (stateAfter d pairs j))
     → Throughout P (releases (take n pairs)) d
 unfolding Throughout EachRelease releases stateAfter after
 throughout-pairs P pairs zero d h f = tt
@@ -154,8 +154,8 @@ told-later :
 unfolding releases play
 told-later [] ds d n guest task age margin T = T
 told-later (pair ∷ pairs) ds d n guest task age margin T =
-    told-later pairs ds (after (releasing (guestOf pair) (taskOf pair)) d) n guest task age margin
-    (told-next (guestOf pair) (taskOf pair) (releases pairs ++ ds) d n guest task age margin (T .before) (T .call) (T .later) (T .split) (T .done) (T .says))
+    told-later pairs ds (after (releasing (pairGuest pair) (pairTask pair)) d) n guest task age margin
+    (told-next (pairGuest pair) (pairTask pair) (releases pairs ++ ds) d n guest task age margin (T .before) (T .call) (T .later) (T .split) (T .done) (T .says))
 
 -- The same of a task finished by R.
 pub finished-later :

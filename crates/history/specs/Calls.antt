@@ -11,7 +11,7 @@ use Rattle.dispatcher.specs.Fresh.{fresh}
 use Rattle.dispatcher.specs.Release.{release}
 use Rattle.dispatcher.specs.Entries.{tick, run}
 use Rattle.lists.specs.Places.{nth}
-use Rattle.sheet.specs.Sheet.{guestOf, taskOf, stateAfter, sheet}
+use Rattle.sheet.specs.Sheet.{pairGuest, pairTask, stateAfter, sheet}
 
 -- the fresh dispatcher of a plan's records
 abbrev pub start : Plan → Dispatcher
@@ -99,7 +99,7 @@ EachRelease P (sheeting pairs room) d =
     sheet d pairs room .refusal .number ≡ 0
     → (i : ℕ)
     → i < length pairs
-    → P (guestOf (nth pairs i)) (taskOf (nth pairs i)) (stateAfter d pairs i)
+    → P (pairGuest (nth pairs i)) (pairTask (nth pairs i)) (stateAfter d pairs i)
 
 -- Something holds of each release of a history and the state that it meets.
 unfoldable pub Throughout : ((guest task : ℕ) → Dispatcher → Type 0) → List Call → Dispatcher → Type 0

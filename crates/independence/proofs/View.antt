@@ -9,7 +9,7 @@ use borrow.Author.Tests.{eqb-true, eq-eqb}
 use Rattle.plan.specs.declared.Plan.{Plan}
 use Rattle.dispatcher.specs.declared.Dispatcher.{Dispatcher}
 use Rattle.dispatcher.specs.Release.{release}
-use Rattle.sheet.specs.Sheet.{guestOf, taskOf, pairReleased}
+use Rattle.sheet.specs.Sheet.{pairGuest, pairTask, pairReleased}
 use Rattle.history.specs.Calls.{Call, releasing, ticking, running, sheeting, after, play}
 use Rattle.history.specs.Sheets.{releases}
 use Rattle.independence.specs.Event.{answered}
@@ -97,10 +97,10 @@ pairs-followed :
 unfolding seesPairs asksPairs releases play sees asks after
 pairs-followed S [] d e A = none-followed A
 pairs-followed {id} S (pair ∷ pairs) d e A =
-    let F = release-followed S A (guestOf pair) (taskOf pair) (eqb (guestOf pair) id) refl in
+    let F = release-followed S A (pairGuest pair) (pairTask pair) (eqb (pairGuest pair) id) refl in
     then-followed F
     (pairs-followed S pairs (pairReleased d pair .state)
-    (play (asCalls id (asks id (releasing (guestOf pair) (taskOf pair)))) e) (F .stays))
+    (play (asCalls id (asks id (releasing (pairGuest pair) (pairTask pair)))) e) (F .stays))
 
 module _ {id k : ℕ} {p q : Plan} (S : SameFor id k p q) {d e : Dispatcher} (A : Alike k (tasksOf p k) p q d e) where
   -- A sheet, by whether it fits: its pairs one by one, or nothing.

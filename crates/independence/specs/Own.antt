@@ -5,7 +5,7 @@ use mathlib.Core.List.{List, [], _∷_, _++_}
 use Prim.Native.Nat.{ℕ}
 use lib.Dec.{eqb, leb}
 use lib.ListN.{length}
-use Rattle.sheet.specs.Sheet.{mostPairs, guestOf, taskOf}
+use Rattle.sheet.specs.Sheet.{mostPairs, pairGuest, pairTask}
 use Rattle.history.specs.Calls.{Call, releasing, ticking, running, sheeting}
 
 -- One thing asked for, as it concerns the guest.
@@ -25,7 +25,7 @@ ownIf false task = []
 -- What the pairs of a sheet ask for: the releases of the guest's own tasks, in order.
 unfoldable pub asksPairs : (id : ℕ) → (pairs : List ℕ) → List Ask
 asksPairs id [] = []
-asksPairs id (pair ∷ pairs) = ownIf (eqb (guestOf pair) id) (taskOf pair) ++ asksPairs id pairs
+asksPairs id (pair ∷ pairs) = ownIf (eqb (pairGuest pair) id) (pairTask pair) ++ asksPairs id pairs
 
 -- Whether a sheet is called with at most 256 pairs and a place for each answer. Otherwise it is refused whole, whatever
 -- the state.

@@ -9,7 +9,7 @@ use Rattle.dispatcher.specs.declared.Answer.{Answer}
 use Rattle.dispatcher.specs.declared.Answer.the-variants.{Silent, Nobody, Idled, Worked, Finished}
 use Rattle.dispatcher.specs.Release.{release}
 use Rattle.dispatcher.specs.Entries.{tick, run}
-use Rattle.sheet.specs.Sheet.{guestOf, taskOf, pairReleased, sheet}
+use Rattle.sheet.specs.Sheet.{pairGuest, pairTask, pairReleased, sheet}
 use Rattle.history.specs.Calls.{Call, releasing, ticking, running, sheeting, after, singles}
 use Rattle.independence.specs.Event.{Event, answered, elsewhere, idled, worked, finished}
 
@@ -36,7 +36,7 @@ answeredIf false task number = []
 unfoldable pub seesPairs : (id : ℕ) → (pairs : List ℕ) → Dispatcher → List Event
 seesPairs id [] d = []
 seesPairs id (pair ∷ pairs) d =
-    answeredIf (eqb (guestOf pair) id) (taskOf pair) (pairReleased d pair .refusal .number)
+    answeredIf (eqb (pairGuest pair) id) (pairTask pair) (pairReleased d pair .refusal .number)
     ++ seesPairs id pairs (pairReleased d pair .state)
 
 -- What it can tell of a sheet, by the number of the whole refusal, 0 for none. A sheet that is refused whole counts as

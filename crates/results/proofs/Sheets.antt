@@ -12,7 +12,7 @@ use Rattle.verdict.specs.Quoted.{Quoted}
 use Rattle.dispatcher.specs.declared.Dispatcher.{Dispatcher}
 use Rattle.dispatcher.specs.Release.{release}
 use Rattle.dispatcher.specs.Valid.{stateOk}
-use Rattle.sheet.specs.Sheet.{mostPairs, guestOf, taskOf, answerTo, sheet, answered}
+use Rattle.sheet.specs.Sheet.{mostPairs, pairGuest, pairTask, answerTo, sheet, answered}
 use Rattle.history.specs.Calls.{Call, sheeting, start, after, play, released, ticksIn, NoneTaken}
 use Rattle.history.specs.Finished.{FinishedBy}
 use Rattle.history.specs.Named.{everyBy, deadlineBy}
@@ -33,7 +33,7 @@ sheet-is-releases = sheets.sheet-is-releases
 pub answer-is-release :
     (d : Dispatcher) (cs : List Call) (pairs : List ℕ) (i : ℕ)
     → i ≤ length pairs
-    → answerTo (play cs d) pairs i ≡ release (play (upToPair cs pairs i) d) (guestOf (nth pairs i)) (taskOf (nth pairs i)) .refusal .number
+    → answerTo (play cs d) pairs i ≡ release (play (upToPair cs pairs i) d) (pairGuest (nth pairs i)) (pairTask (nth pairs i)) .refusal .number
 answer-is-release = sheets.pair-is-release
 
 module _ (d : Dispatcher) (pairs before : List ℕ) where

@@ -10,7 +10,7 @@ use Rattle.lists.specs.Places.{nth}
 use Rattle.dispatcher.specs.declared.Dispatcher.{Dispatcher}
 use Rattle.dispatcher.specs.declared.Released.{Released}
 use Rattle.dispatcher.specs.Valid.{stateOk}
-use Rattle.sheet.specs.Sheet.{mostPairs, guestOf, taskOf, stateAfter, answerTo, sheetNumber, sheetBy, sheet}
+use Rattle.sheet.specs.Sheet.{mostPairs, pairGuest, pairTask, stateAfter, answerTo, sheetNumber, sheetBy, sheet}
 use Rattle.lists.proofs.Refusals.{none-left, go-on, stop}
 use Rattle.dispatcher_laws.specs.Usage.{SameButUsage}
 use Rattle.dispatcher_laws.proofs.Release.{other-number}
@@ -76,7 +76,7 @@ module _ (d e : Dispatcher) (S : SameButUsage d e) (pairs : List ℕ) where
   after-one : (n : ℕ) → SameButUsage (stateAfter d pairs n) (stateAfter e pairs n)
   unfolding stateAfter
   after-one zero = S
-  after-one (suc n) = release-one _ _ (after-one n) (guestOf (nth pairs n)) (taskOf (nth pairs n)) .state-same
+  after-one (suc n) = release-one _ _ (after-one n) (pairGuest (nth pairs n)) (pairTask (nth pairs n)) .state-same
 
   by-same : (n : ℕ) → SameButUsage (sheetBy n d pairs .state) (sheetBy n e pairs .state)
   unfolding sheetBy
@@ -99,4 +99,4 @@ module _ (d e : Dispatcher) (S : SameButUsage d e) (pairs : List ℕ) where
   -- The answers do not depend on them either.
   pub answers-one : (n : ℕ) → answerTo d pairs n ≡ answerTo e pairs n
   unfolding answerTo
-  answers-one n = ap (λ r. r .number) (release-one _ _ (after-one n) (guestOf (nth pairs n)) (taskOf (nth pairs n)) .refusal-same)
+  answers-one n = ap (λ r. r .number) (release-one _ _ (after-one n) (pairGuest (nth pairs n)) (pairTask (nth pairs n)) .refusal-same)

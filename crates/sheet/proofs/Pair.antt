@@ -19,7 +19,7 @@ use Rattle.dispatcher.specs.Valid.{stateOk}
 use Rattle.dispatcher.specs.Release.{release}
 use Rattle.dispatcher.specs.Lent.{stateOf, Small}
 use Rattle.dispatcher.specs.LentRelease.{AimsAt, Aims}
-use Rattle.sheet.specs.Sheet.{guestOf, taskOf}
+use Rattle.sheet.specs.Sheet.{pairGuest, pairTask}
 use Rattle.sheet.specs.Lent.{SheetColumns, PairTaken}
 use Rattle.lists.proofs.Search.{first-ext}
 use Rattle.dispatcher.proofs.Release.{release-refused, release-taken, no-task, past-tasks, too-soon, unfinished, takes-it, aims-none, aims-on}
@@ -38,7 +38,7 @@ pub record ReleaseTold (d after : Dispatcher) (id task number : ℕ) : Type 0 wh
   pub state : after ≡ release d id task .state
 
 -- A pair's outcome is that of the release which it asks for.
-pub of-pair : {d after : Dispatcher} {pair id task number : ℕ} → id ≡ guestOf pair → task ≡ taskOf pair → ReleaseTold d after id task number → PairTaken d after pair number
+pub of-pair : {d after : Dispatcher} {pair id task number : ℕ} → id ≡ pairGuest pair → task ≡ pairTask pair → ReleaseTold d after id task number → PairTaken d after pair number
 of-pair e f T = record { answer = rw (← e, ← f) (T .answer); state = rw (← e, ← f) (T .state) }
 
 -- A refused release is told by its number, and the state is as it was.

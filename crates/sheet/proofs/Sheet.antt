@@ -10,7 +10,7 @@ use Rattle.lists.specs.Places.{nth}
 use Rattle.lists.specs.Table.{table}
 use Rattle.dispatcher.specs.declared.Dispatcher.{Dispatcher}
 use Rattle.dispatcher.specs.Valid.{stateOk}
-use Rattle.sheet.specs.Sheet.{guestOf, taskOf, pairReleased, stateAfter, answerTo}
+use Rattle.sheet.specs.Sheet.{pairGuest, pairTask, pairReleased, stateAfter, answerTo}
 use Rattle.sheet.specs.Lent.{PairTaken, AllTaken}
 use Rattle.lists.proofs.Table.{table-turn}
 use Rattle.dispatcher_laws.proofs.Release.{release-took, ok-took}
@@ -21,7 +21,7 @@ unfolding stateAfter
 ok-after d pairs zero ok = ok
 ok-after d pairs (suc n) ok =
     let e = stateAfter d pairs n in
-    ok-took e (guestOf (nth pairs n)) (taskOf (nth pairs n)) _ (ok-after d pairs n ok) (release-took e (guestOf (nth pairs n)) (taskOf (nth pairs n)))
+    ok-took e (pairGuest (nth pairs n)) (pairTask (nth pairs n)) _ (ok-after d pairs n ok) (release-took e (pairGuest (nth pairs n)) (pairTask (nth pairs n)))
 
 -- The first i pairs are released and answered.
 pub record TakenTo (i : ℕ) (d after : Dispatcher) (pairs before answers : List ℕ) : Type 0 where

@@ -26,16 +26,16 @@ abbrev pub idBound : ℕ
 idBound = 4294967296
 
 -- The guest id that a pair names; a part beyond 32 bits names no guest, as id 0 does.
-abbrev pub guestOf : (pair : ℕ) → ℕ
-guestOf pair = pick (ltb (pair / pairBase) idBound) (pair / pairBase) 0
+abbrev pub pairGuest : (pair : ℕ) → ℕ
+pairGuest pair = pick (ltb (pair / pairBase) idBound) (pair / pairBase) 0
 
 -- The task number that a pair names.
-abbrev pub taskOf : (pair : ℕ) → ℕ
-taskOf pair = pair % pairBase
+abbrev pub pairTask : (pair : ℕ) → ℕ
+pairTask pair = pair % pairBase
 
 -- A pair released.
 abbrev pub pairReleased : Dispatcher → (pair : ℕ) → Released
-pairReleased d pair = release d (guestOf pair) (taskOf pair)
+pairReleased d pair = release d (pairGuest pair) (pairTask pair)
 
 -- The state after the first n pairs.
 unfoldable pub stateAfter : Dispatcher → (pairs : List ℕ) → ℕ → Dispatcher

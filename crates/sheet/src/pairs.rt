@@ -7,12 +7,12 @@ ghost use lib.ListN.{length};
 ghost use Rattle.plan.specs.declared.Plan.{Plan};
 ghost use Rattle.dispatcher.specs.Valid.{stateOk};
 ghost use Rattle.dispatcher.specs.Lent.{stateOf, Small};
-ghost use Rattle.sheet.specs.Sheet.{guestOf, taskOf};
+ghost use Rattle.sheet.specs.Sheet.{pairGuest, pairTask};
 ghost use Rattle.sheet.specs.Lent.{SheetColumns, PairTaken, AllTaken};
 
 // The guest id that a pair names: a part beyond 32 bits names no guest, as id 0 does.
 fn guest_of(pair: u64) -> u32
-    ensures { λ r. ⌜ r ≡ guestOf pair ⌝ }
+    ensures { λ r. ⌜ r ≡ pairGuest pair ⌝ }
 {
     let guest = pair / 65536;
     if guest < 4294967296 { guest as u32 } else { 0 }
@@ -20,7 +20,7 @@ fn guest_of(pair: u64) -> u32
 
 // The task number that a pair names.
 fn task_of(pair: u64) -> u32
-    ensures { λ r. ⌜ r ≡ taskOf pair ⌝ }
+    ensures { λ r. ⌜ r ≡ pairTask pair ⌝ }
 {
     (pair % 65536) as u32
 }
