@@ -54,7 +54,10 @@ module _ (p : Plan) (id number R : ℕ) (quoted : Quoted p id number R) (cs : Li
       (omega (arith, ticks-append later ds e, releases-none (drop (suc i) pairs) e))))
 
   -- A pair is taken if no release of the task was taken before, in the history or in the sheet.
-  pub pair-first-taken : NoneTaken id number cs (start p) → NotBefore (play cs (start p)) pairs i id number → answerTo (play cs (start p)) pairs i ≡ 0
+  pub pair-first-taken :
+      NoneTaken id number cs (start p)
+      → NotBefore (play cs (start p)) pairs i id number
+      → answerTo (play cs (start p)) pairs i ≡ 0
   pair-first-taken none not =
       as-release (start p) cs pairs room i Q
       ∙ turned.first-taken p id number R quoted (upToPair cs pairs i) (none-up-to cs pairs i (start p) (omega (arith, Q .there)) none not)

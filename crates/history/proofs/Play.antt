@@ -116,7 +116,11 @@ module _ (p : Plan) (I : List Answer → Dispatcher → Type 0) (Allowed : (id t
       rw (sheeting-none pairs room d, append-nil L) (sheet-keeps pairs room L d a S (sheet-sheeted d pairs room))
 
   -- It stands over any history.
-  pub play-keeps : (cs : List Call) (L : List Answer) (d : Dispatcher) → Throughout Allowed cs d → Stands L d → Stands (L ++ answers cs d) (play cs d)
+  pub play-keeps :
+      (cs : List Call) (L : List Answer) (d : Dispatcher)
+      → Throughout Allowed cs d
+      → Stands L d
+      → Stands (L ++ answers cs d) (play cs d)
   unfolding play answers Throughout
   play-keeps [] L d a S = rw (append-nil L) S
   play-keeps (c ∷ cs) L d a S =

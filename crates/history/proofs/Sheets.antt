@@ -33,13 +33,18 @@ throughout-append P [] ds d a b = b
 throughout-append P (c ∷ cs) ds d a b = (a .0, throughout-append P cs ds (after c d) (a .1) b)
 
 -- The first pair, and then the others.
-after-first : (pair : ℕ) (pairs : List ℕ) (d : Dispatcher) (n : ℕ) → stateAfter d (pair ∷ pairs) (suc n) ≡ stateAfter (pairReleased d pair .state) pairs n
+after-first :
+    (pair : ℕ) (pairs : List ℕ) (d : Dispatcher) (n : ℕ)
+    → stateAfter d (pair ∷ pairs) (suc n) ≡ stateAfter (pairReleased d pair .state) pairs n
 unfolding stateAfter
 after-first pair pairs d zero = refl
 after-first pair pairs d (suc n) = ap (λ (e : Dispatcher). pairReleased e (nth pairs n) .state) (after-first pair pairs d n)
 
 -- The state after the first n pairs is that after their releases.
-pub after-pairs : (pairs : List ℕ) (d : Dispatcher) (n : ℕ) → n ≤ length pairs → stateAfter d pairs n ≡ play (releases (take n pairs)) d
+pub after-pairs :
+    (pairs : List ℕ) (d : Dispatcher) (n : ℕ)
+    → n ≤ length pairs
+    → stateAfter d pairs n ≡ play (releases (take n pairs)) d
 unfolding stateAfter releases play after
 after-pairs pairs d zero h = refl
 after-pairs [] d (suc n) h = absurd (omega arith)

@@ -19,7 +19,11 @@ module _ (d : Dispatcher) (pairs before : List ℕ) where
   each-by (suc n) i e h = absurd (omega arith)
 
   -- Each pair of a sheet that is not refused whole is answered in its place.
-  pub answered-each : sheet d pairs (length before) .refusal .number ≡ 0 → (i : ℕ) → i < length pairs → nth (answered d pairs before) i ≡ answerTo d pairs i
+  pub answered-each :
+      sheet d pairs (length before) .refusal .number ≡ 0
+      → (i : ℕ)
+      → i < length pairs
+      → nth (answered d pairs before) i ≡ answerTo d pairs i
   unfolding answered
   answered-each z i h = each-by (sheetNumber d pairs (length before)) i (sym (sheet-number d pairs (length before)) ∙ z) h
 

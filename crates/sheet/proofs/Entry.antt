@@ -24,7 +24,9 @@ number-by zero d pairs = refl
 number-by (suc n) d pairs = refl
 
 -- A sheet's number is that of its first whole refusal.
-pub sheet-number : (d : Dispatcher) (pairs : List ℕ) (room : ℕ) → sheet d pairs room .refusal .number ≡ sheetNumber d pairs room
+pub sheet-number :
+    (d : Dispatcher) (pairs : List ℕ) (room : ℕ)
+    → sheet d pairs room .refusal .number ≡ sheetNumber d pairs room
 unfolding sheet
 sheet-number d pairs room = number-by (sheetNumber d pairs room) d pairs
 
@@ -44,7 +46,10 @@ unfolding sheet
 sheet-sheeted d pairs room = sheeted-by (sheetNumber d pairs room) d pairs
 
 -- A sheet that is refused whole hands the state back as it was.
-pub sheet-same : (d : Dispatcher) (pairs : List ℕ) (room : ℕ) → 0 < sheet d pairs room .refusal .number → sheet d pairs room .state ≡ d
+pub sheet-same :
+    (d : Dispatcher) (pairs : List ℕ) (room : ℕ)
+    → 0 < sheet d pairs room .refusal .number
+    → sheet d pairs room .state ≡ d
 sheet-same d pairs room h = by (sheet-sheeted d pairs room)
   where
     by : Sheeted d pairs (sheet d pairs room) → sheet d pairs room .state ≡ d
@@ -52,19 +57,29 @@ sheet-same d pairs room h = by (sheet-sheeted d pairs room)
     by (each n e) = absurd (omega arith)
 
 -- A sheet of a state outside its ranges has 14.
-pub sheet-14 : (d : Dispatcher) (pairs : List ℕ) (room : ℕ) → stateOk d ≡ false → sheet d pairs room .refusal .number ≡ 14
+pub sheet-14 :
+    (d : Dispatcher) (pairs : List ℕ) (room : ℕ)
+    → stateOk d ≡ false
+    → sheet d pairs room .refusal .number ≡ 14
 unfolding sheetNumber
 sheet-14 d pairs room e = sheet-number d pairs room ∙ stop 14 _ e
 
 -- A sheet of a state in its ranges has another number.
-pub sheet-not-14 : (d : Dispatcher) (pairs : List ℕ) (room : ℕ) → stateOk d ≡ true → sheet d pairs room .refusal .number ≡ 14 → ⊥
+pub sheet-not-14 :
+    (d : Dispatcher) (pairs : List ℕ) (room : ℕ)
+    → stateOk d ≡ true
+    → sheet d pairs room .refusal .number ≡ 14
+    → ⊥
 unfolding sheetNumber
 sheet-not-14 d pairs room ok e =
     other-number _ 15 _ 14 (λ q. omega arith) (other-number _ 12 [] 14 (λ q. omega arith) (λ q. omega (arith, none-left)))
     (sym (go-on 14 _ ok) ∙ sym (sheet-number d pairs room) ∙ e)
 
 -- A state in its ranges stays there over a sheet.
-pub sheet-ok : (d : Dispatcher) (pairs : List ℕ) (room : ℕ) → stateOk d ≡ true → stateOk (sheet d pairs room .state) ≡ true
+pub sheet-ok :
+    (d : Dispatcher) (pairs : List ℕ) (room : ℕ)
+    → stateOk d ≡ true
+    → stateOk (sheet d pairs room .state) ≡ true
 sheet-ok d pairs room ok = by (sheet-sheeted d pairs room)
   where
     by : Sheeted d pairs (sheet d pairs room) → stateOk (sheet d pairs room .state) ≡ true

@@ -29,7 +29,13 @@ abbrev missed : ℕ → Aim
 missed x = record { number = x; at = 0; run = 0; every = 0 }
 
 -- A task's place is one of the 128.
-pub place-inside : {n k task : ℕ} {tasks : List ℕ} → Small n tasks → k < n → 1 ≤ task → task ≤ nth tasks k → placeAt k (task - 1) < 128
+pub place-inside :
+    {n k task : ℕ} {tasks : List ℕ}
+    → Small n tasks
+    → k < n
+    → 1 ≤ task
+    → task ≤ nth tasks k
+    → placeAt k (task - 1) < 128
 place-inside {n} {k} {task} {tasks} S h o l = omega (arith, S .guests, S .each k h)
 
 -- A release told: its number, and the state after it.
@@ -38,7 +44,12 @@ pub record ReleaseTold (d after : Dispatcher) (id task number : ℕ) : Type 0 wh
   pub state : after ≡ release d id task .state
 
 -- A pair's outcome is that of the release which it asks for.
-pub of-pair : {d after : Dispatcher} {pair id task number : ℕ} → id ≡ pairGuest pair → task ≡ pairTask pair → ReleaseTold d after id task number → PairTaken d after pair number
+pub of-pair :
+    {d after : Dispatcher} {pair id task number : ℕ}
+    → id ≡ pairGuest pair
+    → task ≡ pairTask pair
+    → ReleaseTold d after id task number
+    → PairTaken d after pair number
 of-pair e f T = record { answer = rw (← e, ← f) (T .answer); state = rw (← e, ← f) (T .state) }
 
 -- A refused release is told by its number, and the state is as it was.
@@ -57,7 +68,9 @@ module _ (p : Plan) (left position rest wait age usage : List ℕ) {n : ℕ} {id
   place-here = found ∙ rw (S .count) (first-ext _ _ n 0 (λ z l. rw (S .id z (omega arith)) refl))
 
   -- No such guest.
-  pub told-7 : n ≤ k → ReleaseTold (stateOf p left position rest wait age usage) (stateOf p left position rest wait age usage) id task 7
+  pub told-7 :
+      n ≤ k
+      → ReleaseTold (stateOf p left position rest wait age usage) (stateOf p left position rest wait age usage) id task 7
   told-7 h =
       refused-told _ id task 7 (omega arith)
       (aims-none _ id task (missed 7) ok place-here refl (omega (arith, S .count)))
@@ -70,11 +83,15 @@ module _ (p : Plan) (left position rest wait age usage : List ℕ) {n : ℕ} {id
         refused-told _ id task x l (aims-on _ id task (missed x) ok place-here (omega (arith, S .count)) a)
 
     -- No task has number 0.
-    pub told-8 : task < 1 → ReleaseTold (stateOf p left position rest wait age usage) (stateOf p left position rest wait age usage) id task 8
+    pub told-8 :
+        task < 1
+        → ReleaseTold (stateOf p left position rest wait age usage) (stateOf p left position rest wait age usage) id task 8
     told-8 l = own (omega arith) (no-task _ k task rest wait (missed 8) refl l)
 
     -- The guest has fewer tasks.
-    pub told-8-past : nth tasks k < task → ReleaseTold (stateOf p left position rest wait age usage) (stateOf p left position rest wait age usage) id task 8
+    pub told-8-past :
+        nth tasks k < task
+        → ReleaseTold (stateOf p left position rest wait age usage) (stateOf p left position rest wait age usage) id task 8
     told-8-past l = own (omega arith) (past-tasks _ k task rest wait (missed 8) refl (omega (arith, S .many k h)))
 
     module _ (one : 1 ≤ task) (most : task ≤ nth tasks k) where
@@ -82,12 +99,16 @@ module _ (p : Plan) (left position rest wait age usage : List ℕ) {n : ℕ} {id
       inside = omega (arith, S .many k h)
 
       -- The task's period has not passed.
-      pub told-9 : 0 < nth wait (placeAt k (task - 1)) → ReleaseTold (stateOf p left position rest wait age usage) (stateOf p left position rest wait age usage) id task 9
+      pub told-9 :
+          0 < nth wait (placeAt k (task - 1))
+          → ReleaseTold (stateOf p left position rest wait age usage) (stateOf p left position rest wait age usage) id task 9
       told-9 w = own (omega arith) (too-soon _ k task rest wait (missed 9) one inside refl w)
 
       module _ (due : nth wait (placeAt k (task - 1)) ≤ 0) where
         -- Its last job is unfinished.
-        pub told-10 : 0 < nth rest (placeAt k (task - 1)) → ReleaseTold (stateOf p left position rest wait age usage) (stateOf p left position rest wait age usage) id task 10
+        pub told-10 :
+            0 < nth rest (placeAt k (task - 1))
+            → ReleaseTold (stateOf p left position rest wait age usage) (stateOf p left position rest wait age usage) id task 10
         told-10 u = own (omega arith) (unfinished _ k task rest wait (missed 10) one inside due refl u)
 
         -- It is taken.

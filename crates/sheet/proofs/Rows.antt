@@ -27,7 +27,11 @@ module _ (run every : List ℕ) (charge k : ℕ) (runs₀ periods₀ : List ℕ)
   }
 
   -- One number more in a column of the row: places up to it.
-  grown : (f : ℕ → ℕ) (l : List ℕ) (n v : ℕ) → placeAt k n < length l → v ≡ f n → ((t : ℕ) → t < n → nth l (placeAt k t) ≡ f t)
+  grown :
+      (f : ℕ → ℕ) (l : List ℕ) (n v : ℕ)
+      → placeAt k n < length l
+      → v ≡ f n
+      → ((t : ℕ) → t < n → nth l (placeAt k t) ≡ f t)
       → (t : ℕ) → t < n + 1 → nth (set l (placeAt k n) v) (placeAt k t) ≡ f t
   grown f l n v inside e H t h =
       elim (ℕ-discrete t n) [
@@ -70,8 +74,16 @@ module _ (run every : List ℕ) (charge k : ℕ) (runs₀ periods₀ : List ℕ)
 -- The rows of the first n guests are there.
 pub record RowsTo (p : Plan) (n : ℕ) (runs periods : List ℕ) : Type 0 where
   pub long : Long runs periods
-  pub run : (k t : ℕ) → k < n → t < guestAt (p .guests) k .tasks → nth runs (placeAt k t) ≡ charged (guestAt (p .guests) k) t
-  pub period : (k t : ℕ) → k < n → t < guestAt (p .guests) k .tasks → nth periods (placeAt k t) ≡ everyOf (guestAt (p .guests) k) t
+  pub run :
+      (k t : ℕ)
+      → k < n
+      → t < guestAt (p .guests) k .tasks
+      → nth runs (placeAt k t) ≡ charged (guestAt (p .guests) k) t
+  pub period :
+      (k t : ℕ)
+      → k < n
+      → t < guestAt (p .guests) k .tasks
+      → nth periods (placeAt k t) ≡ everyOf (guestAt (p .guests) k) t
 
 -- One row more: the rows before it stand, since a guest has at most 16 tasks.
 pub rows-next :
@@ -100,7 +112,11 @@ pub rows-none : (p : Plan) (runs periods : List ℕ) → Long runs periods → R
 rows-none p runs periods L = record { long = L; run = λ k t h l. absurd (omega arith); period = λ k t h l. absurd (omega arith) }
 
 -- All rows are there.
-pub rows-done : (p : Plan) (n : ℕ) {runs periods : List ℕ} → p .count ≤ n → RowsTo p n runs periods → JobsOf p runs periods
+pub rows-done :
+    (p : Plan) (n : ℕ) {runs periods : List ℕ}
+    → p .count ≤ n
+    → RowsTo p n runs periods
+    → JobsOf p runs periods
 rows-done p n h R = record { run = λ k t l m. R .run k t (omega arith) m; period = λ k t l m. R .period k t (omega arith) m }
 
 -- A guest of a plan in order has few tasks, with runs in their range.

@@ -34,7 +34,11 @@ unfolding stateAfter table
 taken-none d pairs before = record { state = refl; answer = refl }
 
 -- The state meanwhile is in its ranges.
-pub ok-meanwhile : {i : ℕ} {d e : Dispatcher} {pairs before answers : List ℕ} → stateOk d ≡ true → TakenTo i d e pairs before answers → stateOk e ≡ true
+pub ok-meanwhile :
+    {i : ℕ} {d e : Dispatcher} {pairs before answers : List ℕ}
+    → stateOk d ≡ true
+    → TakenTo i d e pairs before answers
+    → stateOk e ≡ true
 ok-meanwhile {i} {d} {e} {pairs} ok T = rw (T .state) (ok-after d pairs i ok)
 
 -- One pair more.

@@ -26,7 +26,10 @@ use Rattle.plan.proofs.Order.{plan-in}
 use Rattle.dispatcher.proofs.Valid.{ok-plan}
 
 -- By the number.
-by-some : (x : ℕ) (d : Dispatcher) (pairs : List ℕ) → 0 < x → _≡_ {A = Released} (record { refusal = refused x 0; state = d }) (sheetBy x d pairs)
+by-some :
+    (x : ℕ) (d : Dispatcher) (pairs : List ℕ)
+    → 0 < x
+    → _≡_ {A = Released} (record { refusal = refused x 0; state = d }) (sheetBy x d pairs)
 unfolding sheetBy
 by-some zero d pairs h = absurd (omega arith)
 by-some (suc n) d pairs h = refl
@@ -58,7 +61,11 @@ module _ (d : Dispatcher) (pairs before : List ℕ) {x : ℕ} {found : Checked} 
   whole-refused h = rw (← number-is) (by-some x d pairs h, some-answered x d pairs before h)
 
   -- A sheet that is not is its pairs.
-  pub whole-taken : {after : Dispatcher} {answers : List ℕ} → x ≤ 0 → AllTaken d after pairs before answers → Sheets d pairs before (record { refusal = refused x 0; state = after }) answers
+  pub whole-taken :
+      {after : Dispatcher} {answers : List ℕ}
+      → x ≤ 0
+      → AllTaken d after pairs before answers
+      → Sheets d pairs before (record { refusal = refused x 0; state = after }) answers
   unfolding sheet answered
   whole-taken {after} {answers} h A = rw (← number-is) (by-none x d after pairs before answers h A)
 
@@ -89,5 +96,8 @@ module _ (d : Dispatcher) (pairs before : List ℕ) {x : ℕ} {found : Checked} 
         record { guests = P .few; each = λ k l. omega (arith, columns .tasks .holds k l, P .guests k l .head .few) }
 
     -- and the columns that were read are the plan's.
-    pub sheet-columns : {runs periods : List ℕ} → JobsOf (d .plan) runs periods → SheetColumns (d .plan) (d .plan .count) (found .columns .ids) (found .columns .tasks) runs periods
+    pub sheet-columns :
+        {runs periods : List ℕ}
+        → JobsOf (d .plan) runs periods
+        → SheetColumns (d .plan) (d .plan .count) (found .columns .ids) (found .columns .tasks) runs periods
     sheet-columns J = record { count = refl; id = columns .ids .holds; many = columns .tasks .holds; jobs = J }

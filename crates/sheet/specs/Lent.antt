@@ -37,8 +37,16 @@ pub record RowTo (run every : List ℕ) (charge k n : ℕ) (runs₀ periods₀ r
 
 -- What a taken release sets, at each task's place: its charged run and its period.
 pub record JobsOf (p : Plan) (runs periods : List ℕ) : Type 0 where
-  pub run : (k t : ℕ) → k < p .count → t < guestAt (p .guests) k .tasks → nth runs (placeAt k t) ≡ charged (guestAt (p .guests) k) t
-  pub period : (k t : ℕ) → k < p .count → t < guestAt (p .guests) k .tasks → nth periods (placeAt k t) ≡ everyOf (guestAt (p .guests) k) t
+  pub run :
+      (k t : ℕ)
+      → k < p .count
+      → t < guestAt (p .guests) k .tasks
+      → nth runs (placeAt k t) ≡ charged (guestAt (p .guests) k) t
+  pub period :
+      (k t : ℕ)
+      → k < p .count
+      → t < guestAt (p .guests) k .tasks
+      → nth periods (placeAt k t) ≡ everyOf (guestAt (p .guests) k) t
 
 -- The columns of a plan's n guests that a sheet looks at: ids, numbers of tasks, and what a taken release sets.
 pub record SheetColumns (p : Plan) (n : ℕ) (ids tasks runs periods : List ℕ) : Type 0 where
