@@ -22,6 +22,8 @@ static uint8_t buffer[CS_BLOCK];
 static CsPlan plan;         /* full, all guests fitted, all tasks met */
 static CsPlan wide;         /* the last guest's period is the longest, so that the search for its capacity is deepest */
 static CsDispatcher states; /* of the full plan, with a job of every task released */
+static uint64_t pairs[CS_MOST_PAIRS]; /* each task of the full plan, and once more */
+static uint32_t answers[CS_MOST_PAIRS];
 
 static _Alignas(4096) uint8_t stack[1 << 20];
 static uint8_t *at_call;   /* where the stack ends just before the call, arguments included */
@@ -52,6 +54,8 @@ EXPORT(cs_smallest_capacity, CsVerdict, (CsPlan p, uint32_t id), (wide, GUESTS))
 EXPORT(cs_fresh, CsStart, (CsPlan p), (plan))
 EXPORT(cs_release, CsReleased, (CsDispatcher d, uint32_t id, uint32_t task), (states, GUESTS, TASKS))
 EXPORT(cs_tick, CsTicked, (CsDispatcher d), (states))
+EXPORT(cs_sheet, CsReleased, (CsDispatcher d, const uint64_t *p, size_t n, uint32_t *a, size_t room),
+       (states, pairs, CS_MOST_PAIRS, answers, CS_MOST_PAIRS))
 EXPORT(cs_run, CsRun, (CsDispatcher d, uint32_t ticks), (states, 1000000))
 
 static const struct {
@@ -69,6 +73,7 @@ static const struct {
     {"cs_smallest_capacity", call_cs_smallest_capacity, sizeof(CsPlan)},
     {"cs_fresh", call_cs_fresh, sizeof(CsPlan)},
     {"cs_release", call_cs_release, sizeof(CsDispatcher)},
+    {"cs_sheet", call_cs_sheet, sizeof(CsDispatcher)},
     {"cs_tick", call_cs_tick, sizeof(CsDispatcher)},
     {"cs_run", call_cs_run, sizeof(CsDispatcher)},
 };
@@ -112,6 +117,12 @@ static void make_state(void) {
     }
 }
 
+static void make_sheet(void) {
+    for (uint32_t i = 0; i < CS_MOST_PAIRS; i++) {
+        pairs[i] = CS_PAIR(i / TASKS % GUESTS + 1, i % TASKS + 1);
+    }
+}
+
 static void *on_thread(void *call) {
     (*(void (**)(int))call)(at_call == NULL);
     return NULL;
@@ -150,6 +161,7 @@ int main(int count, char **words) {
     int failed = 0;
     make_plan();
     make_state();
+    make_sheet();
     printf("%-22s %10s %10s %10s\n", "export", "arguments", "below", "together");
     for (size_t at = 0; at < sizeof exports / sizeof exports[0]; at++) {
         size_t taken = below(exports[at].call);
