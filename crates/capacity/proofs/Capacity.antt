@@ -59,7 +59,7 @@ module _ (p : Plan) (k : ℕ) (here : k < length (p .guests)) (c : ℕ) where
       fun-ext (λ v. asked-same _ _ _ _ _ _ j v (λ i m. ap (λ (g : Guest). g .capacity) (guest-above i (omega arith)))
       (λ i m. ap (λ (g : Guest). g .period) (guest-above i (omega arith))) (λ i m. ap jitter (guest-above i (omega arith))))
 
-  -- and are fitted where they were
+  -- The guests above are fitted where they were.
   fitted-above : (j : ℕ) → j < k → fitted (withCapacity p k c) j ≡ fitted p j
   unfolding fitted guestResponse
   fitted-above j l = rw (same-above j (omega arith), guest-above j l) refl
@@ -69,7 +69,7 @@ module _ (p : Plan) (k : ℕ) (here : k < length (p .guests)) (c : ℕ) where
   unfolding fitted guestResponse fitsAt
   fitted-there = rw (same-above k (omega arith), guest-there) refl
 
-  -- its tasks respond by theirs
+  -- The tasks of the guest respond by that.
   pub task-there : (i most : ℕ) → responseTo (withCapacity p k c) k i most ≡ taskUnder (systemOf (interference p k) (atCapacity (guestAt (p .guests) k) c)) i most
   unfolding responseTo
   task-there i most = rw (same-above k (omega arith), guest-there) refl

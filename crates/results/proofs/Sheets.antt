@@ -37,7 +37,7 @@ pub answer-is-release :
 answer-is-release = sheets.pair-is-release
 
 module _ (d : Dispatcher) (pairs before : List ℕ) where
-  -- Each pair of a sheet that is not refused whole is answered in its place,
+  -- Each pair of a sheet that is not refused whole is answered in its place.
   pub answered-each :
       sheet d pairs (length before) .refusal .number ≡ 0
       → (i : ℕ)
@@ -45,7 +45,7 @@ module _ (d : Dispatcher) (pairs before : List ℕ) where
       → nth (answered d pairs before) i ≡ answerTo d pairs i
   answered-each = places.answered-each d pairs before
 
-  -- and places past the pairs stay as they were.
+  -- Places past the pairs stay as they were.
   pub answered-past : (i : ℕ) → length pairs ≤ i → nth (answered d pairs before) i ≡ nth before i
   answered-past = places.answered-past d pairs before
 

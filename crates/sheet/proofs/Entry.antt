@@ -102,11 +102,11 @@ module _ (d e : Dispatcher) (S : SameButUsage d e) (pairs : List ℕ) where
   unfolding sheetNumber
   number-same room = rw (ok-one d e S) refl
 
-  -- A sheet's number does not depend on them,
+  -- A sheet's number does not depend on them.
   pub sheet-number-same : (room : ℕ) → sheet d pairs room .refusal .number ≡ sheet e pairs room .refusal .number
   sheet-number-same room = sheet-number d pairs room ∙ number-same room ∙ sym (sheet-number e pairs room)
 
-  -- nor does anything else of the state after it.
+  -- Nothing else of the state after a sheet depends on them.
   pub sheet-one : (room : ℕ) → SameButUsage (sheet d pairs room .state) (sheet e pairs room .state)
   unfolding sheet
   sheet-one room = rw (number-same room) (by-same (sheetNumber e pairs room))

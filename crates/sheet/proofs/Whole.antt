@@ -82,20 +82,20 @@ module _ (d : Dispatcher) (pairs before : List ℕ) {x : ℕ} {found : Checked} 
         let b = passed (leb (length pairs) mostPairs) 15 _ (omega arith) (a .1) in
         leb-true (length pairs) (length before) (passed (leb (length pairs) (length before)) 12 [] (omega arith) (b .1) .0)
 
-    -- Its plan is in order,
+    -- Its plan is in order.
     pub plan-fine : planRefusal (d .plan) .number ≡ 0
     plan-fine = ok-plan d state-in
 
     columns : ColumnsOf (d .plan .guests) (d .plan .count) (found .columns)
     columns = E .columns state-in
 
-    -- so its guests and their tasks are few,
+    -- Its guests and their tasks are few.
     pub small : Small (d .plan .count) (found .columns .tasks)
     small =
         let P = plan-in (d .plan) plan-fine in
         record { guests = P .few; each = λ k l. omega (arith, columns .tasks .holds k l, P .guests k l .head .few) }
 
-    -- and the columns that were read are the plan's.
+    -- The columns that were read are the plan's.
     pub sheet-columns :
         {runs periods : List ℕ}
         → JobsOf (d .plan) runs periods
