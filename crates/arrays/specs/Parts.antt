@@ -1,4 +1,5 @@
--- The parts of a tick, place by place, over lists. Inner: the rule of a tick (`dispatcher/specs/Tick`) does not name this.
+-- The parts of a tick, place by place, over lists. Inner: the rule of a tick (`dispatcher/specs/Tick`) does not name
+-- this.
 use mathlib.Core.Bool.{Bool}
 use mathlib.Core.List.{List}
 use Prim.Native.Nat.{ℕ, _+_, _-_, min}

@@ -1,4 +1,5 @@
--- A guest's row: its record, its two numbers and the three of each of its 16 places. Inner: no promise of an entry names this.
+-- A guest's row: its record, its two numbers and the three of each of its 16 places. Inner: no promise of an entry
+-- names this.
 use mathlib.Core.Bool.{Bool, _&&_}
 use mathlib.Core.List.{List}
 use Prim.Native.Nat.{ℕ}

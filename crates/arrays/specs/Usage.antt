@@ -1,5 +1,5 @@
--- Where the ticks went, in an array of 17: places 0 to 7 count each guest's ticks, 8 to 15 those of them that it idled away,
--- 16 those that no guest had.
+-- Where the ticks went, in an array of 17: places 0 to 7 count each guest's ticks, 8 to 15 those of them that it
+-- idled away, 16 those that no guest had.
 use mathlib.Core.Bool.{Bool, true, false}
 use mathlib.Core.List.{List}
 use Prim.Native.Nat.{ℕ, _+_, _%_}

@@ -11,7 +11,8 @@ ghost use Rattle.arrays.specs.Ranges.{jobOk, noJob};
 ghost use Rattle.arrays.specs.Rows.{jobIn, guestIsOk, rowIsBlank};
 use plan::Guest;
 
-// A task's bound, or 0 at a place past the tasks: a select and no branch, so that the loop below takes several places at a time.
+// A task's bound, or 0 at a place past the tasks: a select and no branch, so that the loop below takes several places
+// at a time.
 fn bound(used: bool, x: u32) -> u32
     ensures { λ r. ⌜ r ≡ pick used x 0 ⌝ }
 {

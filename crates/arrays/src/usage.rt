@@ -12,7 +12,8 @@ fn more(usage: &mut [u64; 17], k: usize)
     usage[k] = std::num::wrapping_add_u64(usage[k], 1);
 }
 
-// A tick of guest k, whose task had `had` of its run left, or which idled where that is 0; nobody's where k is past the n guests.
+// A tick of guest k, whose task had `had` of its run left, or which idled where that is 0; nobody's where k is past
+// the n guests.
 pub fn tally(usage: &mut [u64; 17], n: usize, k: usize, had: u32)
     requires { ⌜ n ≤ 8 ⌝ }
     ensures { λ r. ⌜ now (usage .exit) ≡ tallied (ltb k n) (ltb 0 had) k (now (usage .entry)) ⌝ }

@@ -1,4 +1,5 @@
--- The plan with another capacity is the plan itself above its place; so capacities are fitted downward and met upward in every plan that passes the check. Assumes nothing.
+-- The plan with another capacity is the plan itself above its place; so capacities are fitted downward and met upward
+-- in every plan that passes the check. Assumes nothing.
 use mathlib.Core.Path.{_≡_, refl, sym, _∙_, ap, fun-ext}
 use mathlib.Core.Bool.{Bool, true, _&&_}
 use Prim.Native.Nat.{ℕ, _≤_, _<_}

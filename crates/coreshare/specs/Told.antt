@@ -33,8 +33,8 @@ guestTold (guest.Refused number place) = refusing number place
 guestTold (guest.Fitted x) = saying 1 x
 guestTold guest.Unfit = saying 2 0
 
--- A task's verdict is 1 for met, with its response; 2 for unmet, with its response or with 0 where none is quoted, since
--- a response is at least 1; 3 for unjudged.
+-- A task's verdict is 1 for met, with its response; 2 for unmet, with its response or with 0 where none is quoted,
+-- since a response is at least 1; 3 for unjudged.
 unfoldable pub taskTold : TaskVerdict → Verdict
 taskTold (task.Refused number place) = refusing number place
 taskTold (task.Met r) = saying 1 r
@@ -53,8 +53,8 @@ unfoldable pub capacityTold : CapacityAnswer → Verdict
 capacityTold (capacity.Refused number place) = refusing number place
 capacityTold (capacity.Smallest c) = saying 1 c
 
--- A tick's answer is 0 for no answer, 1 if nobody had the tick, 2 if a guest idled it away, 3 if a task worked, and 4 if
--- a job finished, with its age and margin.
+-- A tick's answer is 0 for no answer, 1 if nobody had the tick, 2 if a guest idled it away, 3 if a task worked, and 4
+-- if a job finished, with its age and margin.
 unfoldable pub told : Answer → Told
 told Silent = record { kind = 0; guest = 0; task = 0; age = 0; margin = pos 0 }
 told Nobody = record { kind = 1; guest = 0; task = 0; age = 0; margin = pos 0 }

@@ -1,4 +1,5 @@
--- The margin as the code computes it in 32 bits: deadline and age are at most 1,000,000, so nothing wraps. Assumes nothing.
+-- The margin as the code computes it in 32 bits: deadline and age are at most 1,000,000, so nothing wraps. Assumes
+-- nothing.
 use mathlib.Core.Path.{_≡_, refl, _∙_}
 use mathlib.Core.Bool.{Bool, true, false, cond}
 use Prim.Native.Nat.{ℕ, zero, suc, _≤_, _<_, _^_}

@@ -32,7 +32,8 @@ pub record Quiet (n : ℕ) (rest wait : List ℕ) : Type 0 where
   pub runs : (k : ℕ) → n * 16 ≤ k → k < 128 → nth rest k ≡ 0
   pub waits : (k : ℕ) → n * 16 ≤ k → k < 128 → nth wait k ≡ 0
 
--- who has a tick, by whether a guest has it: its place, its task's place, and the run left that the task had; 0 where no task works
+-- who has a tick, by whether a guest has it: its place, its task's place, and the run left that the task had; 0 where
+-- no task works
 unfoldable pub turnBy : Bool → Dispatcher → Turn
 turnBy true d = record { guest = holder d; task = worker d; had = pick (isWorked d) (restAt d (holder d) (worker d)) 0 }
 turnBy false d = record { guest = holder d; task = 0; had = 0 }

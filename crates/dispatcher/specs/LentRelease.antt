@@ -16,7 +16,8 @@ use Rattle.arrays.specs.Place.{placeAt}
 use Rattle.dispatcher.specs.State.{guestIn}
 use Rattle.dispatcher.specs.Release.{releaseNumber}
 
--- what a release that no number refuses sets: the place of task i of guest g, at place k, its charged run and its period
+-- what a release that no number refuses sets: the place of task i of guest g, at place k, its charged run and its
+-- period
 pub record Taking (g : Guest) (k i : ℕ) (r : Aim) : Type 0 where
   pub place : r .at ≡ placeAt k i
   pub inside : r .at < 128

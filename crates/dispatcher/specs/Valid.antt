@@ -1,5 +1,5 @@
--- Refusal 14: a state whose plan fails the records' order, or with a number outside its range, or with anything but 0 past
--- its guests and tasks. Where the ticks went is not looked at.
+-- Refusal 14: a state whose plan fails the records' order, or with a number outside its range, or with anything but 0
+-- past its guests and tasks. Where the ticks went is not looked at.
 use mathlib.Core.Bool.{Bool, _&&_}
 use Prim.Native.Nat.{ℕ}
 use lib.Dec.{ltb, eqb}

@@ -67,7 +67,8 @@ pub struct Went {
     pub turn: Turn,
 }
 
-// The number that a release is refused by, or 0, and then the place that it is for, with the run and the wait that it sets there.
+// The number that a release is refused by, or 0, and then the place that it is for, with the run and the wait that it
+// sets there.
 pub struct Aim {
     pub number: u32,
     pub at: usize,

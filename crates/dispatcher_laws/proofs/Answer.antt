@@ -1,4 +1,5 @@
--- Laws of a tick's answer: what it is by who had the tick, and that the older a job, the less its margin. Assumes nothing.
+-- Laws of a tick's answer: what it is by who had the tick, and that the older a job, the less its margin. Assumes
+-- nothing.
 use mathlib.Core.Path.{_≡_, ap, refl}
 use mathlib.Core.Bool.{Bool, cond}
 use Prim.Native.Nat.{ℕ, zero, suc, _+_, _-_, _≤_, _<_}

@@ -1,4 +1,5 @@
--- The first place that holds something loses one: what the guest part and the task part of the windows go by. Assumes nothing.
+-- The first place that holds something loses one: what the guest part and the task part of the windows go by. Assumes
+-- nothing.
 use mathlib.Core.Path.{_≡_, refl}
 use mathlib.Core.List.{List}
 use Prim.Native.Nat.{ℕ, _-_, _≤_, _<_}
@@ -13,7 +14,8 @@ use Rattle.lists.specs.Search.{firstFrom}
 use Rattle.windows.specs.Served.{ServedFirst}
 use Rattle.lists.proofs.Search.{first-found, first-before}
 
--- Among the n places `at 0`, `at 1`, … of a list, the first that holds something loses one, or there is none and the list stands.
+-- Among the n places `at 0`, `at 1`, … of a list, the first that holds something loses one, or there is none and the
+-- list stands.
 pub first-served :
     (l l' : List ℕ) (at : ℕ → ℕ) (n t i : ℕ)
     → i < n

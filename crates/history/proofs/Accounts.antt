@@ -1,4 +1,5 @@
--- What one tick more does to the numbers that count ticks: its answer says where one is added, modulo 2 to the 64. Assumes nothing.
+-- What one tick more does to the numbers that count ticks: its answer says where one is added, modulo 2 to the 64.
+-- Assumes nothing.
 use mathlib.Core.Path.{_≡_, refl, ap, sym, subst, _∙_}
 use mathlib.Core.List.{List, [], _∷_, _++_}
 use Prim.Native.Nat.{ℕ, suc, _+_, _%_, _≤_, _<_}

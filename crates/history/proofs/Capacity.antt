@@ -1,6 +1,6 @@
 -- Sure of its capacity: in each of its periods that has ended, a fitted guest has had exactly its capacity of ticks.
--- Strategy: since its period began, the ticks that the guest had and what it still holds make up its capacity; at the period's end it holds
--- nothing, by the guest part of the windows. Assumes nothing.
+-- Strategy: since its period began, the ticks that the guest had and what it still holds make up its capacity; at the
+-- period's end it holds nothing, by the guest part of the windows. Assumes nothing.
 use mathlib.Core.Path.{_≡_, sym, ap, subst, _∙_}
 use mathlib.Core.Logic.{⊎-elim}
 use mathlib.Core.List.{List, [], _∷_, _++_}
@@ -30,7 +30,8 @@ use Rattle.dispatcher_laws.proofs.GuestTick.{guest-tick}
 use Rattle.dispatcher_laws.proofs.Seen.{capOf, perOf, posAt, leftAt, heldAt}
 use Rattle.dispatcher_laws.proofs.Sound.{Sound}
 
--- After the answers L: q periods have ended, each with the whole capacity; in the one under way, what was had and what is held make it up.
+-- After the answers L: q periods have ended, each with the whole capacity; in the one under way, what was had and
+-- what is held make it up.
 pub record Shares (p : Plan) (g x : ℕ) (L : List Answer) (d : Dispatcher) : Type 0 where
   pub supply : Supply (capOf p) (perOf p) g x (heldAt d) (posAt d)
   pub q : ℕ

@@ -1,4 +1,5 @@
--- Waits and ages over histories from a fresh start, of any task of any plan whose records are in order. Assumes nothing.
+-- Waits and ages over histories from a fresh start, of any task of any plan whose records are in order. Assumes
+-- nothing.
 use mathlib.Core.Path.{_≡_, refl, sym, ap, subst, _∙_}
 use mathlib.Core.List.{List}
 use Prim.Native.Nat.{ℕ, suc, _-_, _<_, min}

@@ -1,5 +1,5 @@
--- A job of a quoted task: until it is finished its age is the number of ticks since its release, and the tick that finishes it says so.
--- Assumes nothing.
+-- A job of a quoted task: until it is finished its age is the number of ticks since its release, and the tick that
+-- finishes it says so. Assumes nothing.
 use mathlib.Core.Path.{_≡_, refl, sym, ap, _∙_}
 use mathlib.Core.List.{List, [], _∷_, _++_}
 use Prim.Native.Nat.{ℕ, suc, _≤_, _<_}
@@ -65,7 +65,8 @@ module _ (d : Dispatcher) (H : Shaped d) (g i : ℕ) (inside : g < d .plan .coun
       said : (h t : ℕ) → h ≡ g → t ≡ i → finishedBy d h t ≡ finishedAt (d .plan) g i (ageAt (next d) g i)
       said h t a b = rw (a, b, add-one i) refl
 
--- After the answers L since its release a job of task i of guest g is unfinished, and its age is their number; or one of them says it is finished.
+-- After the answers L since its release a job of task i of guest g is unfinished, and its age is their number; or one
+-- of them says it is finished.
 pub data Job (p : Plan) (g i R : ℕ) (L : List Answer) (d : Dispatcher) : Type 0 where
   pending : 0 < restAt d g i → ageAt d g i ≡ length L → Job p g i R L d
   ended : (m : ℕ) → m < length L → m < R → answerAt L m ≡ finishedAt p g i (suc m) → Job p g i R L d

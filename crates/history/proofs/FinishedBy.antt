@@ -1,4 +1,5 @@
--- Demand 3 for tasks: a quoted task's jobs are finished by R, and its due releases are taken, whatever is called. Assumes nothing.
+-- Demand 3 for tasks: a quoted task's jobs are finished by R, and its due releases are taken, whatever is called.
+-- Assumes nothing.
 use mathlib.Core.Path.{_≡_, refl, ap, subst, _∙_}
 use mathlib.Core.List.{List, []}
 use Prim.Native.Nat.{ℕ, suc, _-_, _≤_, _<_}
@@ -115,8 +116,9 @@ module _ (p : Plan) (id number R : ℕ) (quoted : Quoted p id number R) where
           ≡ Finished id number (suc m) (marginOf (deadlineBy p id number) (suc m))
       said = rw (J .task .there .named, ← J .task .from-1) refl
 
-  -- Finished by R: after a taken release and calls that do at least R ticks, one of them hands back that the task is finished, at an
-  -- age of at most R; the age counts the ticks since the release, and the margin is the deadline less it.
+  -- Finished by R: after a taken release and calls that do at least R ticks, one of them hands back that the task is
+  -- finished, at an age of at most R; the age counts the ticks since the release, and the margin is the deadline less
+  -- it.
   pub finished-by-R :
       (cs : List Call)
       → release (play cs (start p)) id number .refusal .number ≡ 0

@@ -27,7 +27,8 @@ use Rattle.dispatcher_laws.proofs.Seen.{capOf, perOf}
 use Rattle.dispatcher_laws.proofs.Sound.{Sound}
 use Rattle.dispatcher_laws.proofs.TaskTick.{task-served, task-tick}
 
--- An answer that names task i of guest g finished says of its age and margin: the age is at most R, the margin the deadline less the age.
+-- An answer that names task i of guest g finished says of its age and margin: the age is at most R, the margin the
+-- deadline less the age.
 abbrev pub Timely : Plan → (g i R : ℕ) → Answer → Type 0
 Timely p g i R a =
     (age : ℕ) (margin : ℤ) → a ≡ Finished (idOf p g) (suc i) age margin → (age ≤ R) × (margin ≡ marginOf (deadlineOf (guestAt (p .guests) g) i) age)

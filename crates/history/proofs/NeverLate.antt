@@ -71,7 +71,8 @@ module _ (p : Plan) (id number R : ℕ) (quoted : Quoted p id number R) (cs : Li
       named : Finished id number age margin ≡ Finished (idOf p (placeOf p id)) (suc (number - 1)) age margin
       named = rw (J .task .there .named, ← J .task .from-1) refl
 
--- A met task is never late: every answer that says it is finished has an age within the deadline, and what is left of it as the margin.
+-- A met task is never late: every answer that says it is finished has an age within the deadline, and what is left of
+-- it as the margin.
 pub met-not-late :
     (p : Plan) (id number R : ℕ)
     → taskVerdict p id number ≡ Met R

@@ -1,5 +1,5 @@
--- Demand 3 for releases: one of a quoted task is taken whenever its period has passed since the last one taken, and 10 is never given for it.
--- Assumes nothing.
+-- Demand 3 for releases: one of a quoted task is taken whenever its period has passed since the last one taken, and
+-- 10 is never given for it. Assumes nothing.
 use mathlib.Core.Path.{_≡_, refl, sym, ap, subst, _∙_}
 use mathlib.Core.List.{List}
 use Prim.Native.Nat.{ℕ, _-_, _≤_, _<_}

@@ -67,7 +67,8 @@ module _ (p : Plan) (id number R : ℕ) (quoted : Quoted p id number R) (cs : Li
   pair-never-10 e = turned.never-10 p id number R quoted (upToPair cs pairs i) (sym (as-release (start p) cs pairs room i Q) ∙ e)
 
 module _ (p : Plan) (id number R : ℕ) (quoted : Quoted p id number R) where
-  -- A pair is taken if at least the task's period of ticks was done since the last release of it that was taken, and none was taken earlier in the sheet.
+  -- A pair is taken if at least the task's period of ticks was done since the last release of it that was taken, and
+  -- none was taken earlier in the sheet.
   pub pair-next-taken :
       (cs : List Call)
       → release (play cs (start p)) id number .refusal .number ≡ 0

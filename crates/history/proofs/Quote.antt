@@ -43,7 +43,8 @@ fitted-of p P {g} {x} in-plan G = record {
   periods = λ k h. (let H = P .guests k (omega (arith, in-plan)) .head in omega (arith, H .some, H .fits));
 }
 
--- Guest g of the plan is fitted with x, and w solves the equation of its task i, from 0, with a response at most the task's period.
+-- Guest g of the plan is fitted with x, and w solves the equation of its task i, from 0, with a response at most the
+-- task's period.
 pub record TaskFits (p : Plan) (g x i w : ℕ) : Type 0 where
   pub in-plan : g < p .count
   pub in-guest : i < guestAt (p .guests) g .tasks

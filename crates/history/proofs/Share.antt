@@ -1,4 +1,5 @@
--- Laws of a count: later answers do not change it, and one tick more adds what that tick's answer says. Assumes nothing.
+-- Laws of a count: later answers do not change it, and one tick more adds what that tick's answer says. Assumes
+-- nothing.
 use mathlib.Core.Path.{_≡_, ap}
 use mathlib.Core.List.{List, [], _∷_, _++_}
 use Prim.Native.Nat.{ℕ, suc, _+_, _≤_, _<_}

@@ -1,5 +1,5 @@
--- Waits and ages of any task, over histories: the wait is what is left of the period since the last taken release, and the age of an
--- unfinished job counts the ticks since, capped. Assumes nothing.
+-- Waits and ages of any task, over histories: the wait is what is left of the period since the last taken release,
+-- and the age of an unfinished job counts the ticks since, capped. Assumes nothing.
 use mathlib.Core.Path.{_≡_, sym, ap, subst, _∙_}
 use mathlib.Core.List.{List, [], _∷_, _++_}
 use Prim.Native.Nat.{ℕ, suc, _+_, _-_, _≤_, _<_, min}

@@ -1,4 +1,5 @@
--- A state in its ranges stays so over every call, and from a fresh start of records in order 14 is never given. Assumes nothing.
+-- A state in its ranges stays so over every call, and from a fresh start of records in order 14 is never given.
+-- Assumes nothing.
 use mathlib.Core.Path.{_≡_, refl, sym, ap, _∙_}
 use mathlib.Core.Bool.{true}
 use mathlib.Core.List.{List, [], _∷_}

@@ -1,4 +1,5 @@
--- Demand 3 for guests: in each of its periods that has ended, a fitted guest has had exactly its capacity of ticks. Assumes nothing.
+-- Demand 3 for guests: in each of its periods that has ended, a fitted guest has had exactly its capacity of ticks.
+-- Assumes nothing.
 use mathlib.Core.Path.{_≡_, sym, ap, subst, _∙_}
 use mathlib.Core.List.{List, [], _∷_, _++_}
 use Prim.Native.Nat.{ℕ, suc, _+_, _*_, _≤_, _<_}
@@ -74,7 +75,8 @@ module _ (p : Plan) (order : planRefusal p .number ≡ 0) (g x : ℕ) (in-plan :
             )))
       ]
 
--- Sure of its capacity: of the ticks of its k-th period, from 0, a fitted guest has had exactly its capacity, whatever was called.
+-- Sure of its capacity: of the ticks of its k-th period, from 0, a fitted guest has had exactly its capacity,
+-- whatever was called.
 pub sure-of-capacity :
     (p : Plan) (id x : ℕ)
     → guestVerdict p id ≡ Fitted x

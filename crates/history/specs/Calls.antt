@@ -89,8 +89,8 @@ callNumber ticking d = tick d .refusal .number
 callNumber (running n) d = run d n .refusal .number
 callNumber (sheeting pairs room) d = sheet d pairs room .refusal .number
 
--- Something holds of each release of a call and the state that it meets: of the release, or of each pair of a sheet, in order. A sheet that is refused
--- whole holds none.
+-- Something holds of each release of a call and the state that it meets: of the release, or of each pair of a sheet,
+-- in order. A sheet that is refused whole holds none.
 unfoldable pub EachRelease : ((guest task : ℕ) → Dispatcher → Type 0) → Call → Dispatcher → Type 0
 EachRelease P (releasing guest task) d = P guest task d
 EachRelease P ticking d = Unit {0}

@@ -19,8 +19,8 @@ pub record Told (ds : List Call) (d : Dispatcher) (n : ℕ) (a : Answer) : Type 
   pub done : ticksIn before d + ticksOf call (play before d) ≡ n
   pub says : answerOf call (play before d) ≡ a
 
--- In the history ds from the state d the task is told finished within R ticks: its age counts the ticks, and its margin is the deadline less the
--- age, so at least the deadline less R.
+-- In the history ds from the state d the task is told finished within R ticks: its age counts the ticks, and its
+-- margin is the deadline less the age, so at least the deadline less R.
 pub record FinishedBy (R deadline : ℕ) (guest task : ℕ) (ds : List Call) (d : Dispatcher) : Type 0 where
   pub age : ℕ
   pub margin : ℤ

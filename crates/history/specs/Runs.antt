@@ -1,4 +1,5 @@
--- A run is that many single ticks: it stops after the first that finishes a job, never before, or when the number is used up.
+-- A run is that many single ticks: it stops after the first that finishes a job, never before, or when the number is
+-- used up.
 use mathlib.Core.Path.{_≡_}
 use mathlib.Core.Bool.{true, false}
 use Prim.Native.Nat.{ℕ, suc, _≤_, _<_}

@@ -33,7 +33,8 @@ unhad (Finished guest task age margin) = 0
 abbrev pub inAll : (Answer → ℕ) → List Answer → ℕ
 inAll f l = countOf f l 0 (length l)
 
--- Each number is the count of such ticks, and all guests' ticks and nobody's are the ticks done; all modulo 2 to the 64.
+-- Each number is the count of such ticks, and all guests' ticks and nobody's are the ticks done; all modulo 2 to the
+-- 64.
 pub record Accounts (p : Plan) (l : List Answer) (usage : List ℕ) : Type 0 where
   pub ticks : (k : ℕ) → k < p .count → nth usage k ≡ inAll (names (guestAt (p .guests) k .id)) l % wrap
   pub idled : (k : ℕ) → k < p .count → nth usage (idledAt k) ≡ inAll (idles (guestAt (p .guests) k .id)) l % wrap

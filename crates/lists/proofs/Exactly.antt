@@ -1,4 +1,5 @@
--- Laws of an order of refusals: a number is given exactly when its cause holds and none of those before it does. Assumes nothing.
+-- Laws of an order of refusals: a number is given exactly when its cause holds and none of those before it does.
+-- Assumes nothing.
 use mathlib.Core.Path.{_≡_, refl, sym, _∙_}
 use mathlib.Core.Bool.{Bool, true, false, false≢true}
 use mathlib.Core.List.{List, [], _∷_}

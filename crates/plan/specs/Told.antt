@@ -1,4 +1,5 @@
--- What an answer of several cases tells, in document 01's terms: the refusal's number and place, and the values in ticks.
+-- What an answer of several cases tells, in document 01's terms: the refusal's number and place, and the values in
+-- ticks.
 use mathlib.Core.List.{List, [], _∷_}
 use Prim.Native.Nat.{ℕ}
 use Rattle.lists.specs.declared.Found.{Found}

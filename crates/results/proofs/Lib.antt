@@ -1,6 +1,6 @@
 -- The theorems behind the promises, a file for each subject: statements, each with a line that cites its proof.
--- Numbers, Instances, PlanA and PlanAViews show them at document 01's plans, and Computed and ComputedViews hold what is
--- shown by computing there.
+-- Numbers, Instances, PlanA and PlanAViews show them at document 01's plans, and Computed and ComputedViews hold what
+-- is shown by computing there.
 pub mod Refusals
 pub mod Causes
 pub mod PlanFiles

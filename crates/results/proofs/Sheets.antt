@@ -1,5 +1,6 @@
--- P5, a sheet of releases: it is its releases one by one, and what is promised to a release is promised to each of its pairs. `sheeting pairs room` calls a
--- sheet with so many places for answers; `answerTo d pairs i` is the answer to pair i, from 0, of a sheet that is called in the state d.
+-- P5, a sheet of releases: it is its releases one by one, and what is promised to a release is promised to each of
+-- its pairs. `sheeting pairs room` calls a sheet with so many places for answers; `answerTo d pairs i` is the answer
+-- to pair i, from 0, of a sheet that is called in the state d.
 use mathlib.Core.Path.{_≡_}
 use mathlib.Core.Bool.{true}
 use mathlib.Core.List.{List}
@@ -53,7 +54,8 @@ module _ (d : Dispatcher) (pairs before : List ℕ) where
   pub unanswered : 0 < sheet d pairs (length before) .refusal .number → answered d pairs before ≡ before
   unanswered = places.unanswered d pairs before
 
--- Whole refusals in their order: 14 for a state outside its ranges, 15 for more than 256 pairs, 12 for fewer answer places than pairs.
+-- Whole refusals in their order: 14 for a state outside its ranges, 15 for more than 256 pairs, 12 for fewer answer
+-- places than pairs.
 pub fifteen-exactly :
     (d : Dispatcher) (pairs : List ℕ) (room : ℕ)
     → (sheet d pairs room .refusal .number ≡ 15) exactlyWhen ((stateOk d ≡ true) × (mostPairs < length pairs))
@@ -64,8 +66,9 @@ pub twelve-exactly :
     → (sheet d pairs room .refusal .number ≡ 12) exactlyWhen ((stateOk d ≡ true) × ((length pairs ≤ mostPairs) × (room < length pairs)))
 twelve-exactly = causes.twelve-exactly
 
--- Our word covers each pair: `PairOf d pairs room i id number` says that the sheet is not refused whole in the state d and that its pair i is a release of
--- that task, and `NotBefore` that no earlier pair of the sheet that is one was taken.
+-- Our word covers each pair: `PairOf d pairs room i id number` says that the sheet is not refused whole in the state
+-- d and that its pair i is a release of that task, and `NotBefore` that no earlier pair of the sheet that is one was
+-- taken.
 module _ (p : Plan) (id number R : ℕ) (quoted : Quoted p id number R) where
   module _ (cs : List Call) (ps : List ℕ) (room i : ℕ) (Q : PairOf (play cs (start p)) ps room i id number) where
     -- A pair that is taken is finished by the R-th tick after the sheet.

@@ -69,8 +69,8 @@ module _ (p : Plan) (id k : ℕ) (there : There p id k) where
   pub capacity-only : (v : CapacityAnswer) → CapacityMeans p k v → v ≡ smallestCapacity p id
   capacity-only = capacities.capacity-answer-only p id k there
 
-  -- A run longer than the deadline is well formed and unmet: where the charged run is past the deadline, the task is not
-  -- met, and under fitted guests it is unmet. The run being past the deadline is such a case (`long-run`).
+  -- A run longer than the deadline is well formed and unmet: where the charged run is past the deadline, the task is
+  -- not met, and under fitted guests it is unmet. The run being past the deadline is such a case (`long-run`).
   pub long-run-not-met :
       (i : ℕ)
       → i < guestAt (p .guests) k .tasks

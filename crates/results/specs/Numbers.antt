@@ -60,5 +60,6 @@ pub record Numbers : Type 0 where
   pub released-at-14 : run (released A 9 1 (running 14 ∷ [])) 50 .answer ≡ Finished 9 1 30 (pos 20)
   pub again-after-49 : release (play (times 49) (released A 9 1 (running 14 ∷ []))) 9 1 .refusal .number ≡ 9
   pub again-after-50 : release (play (times 50) (released A 9 1 (running 14 ∷ []))) 9 1 .refusal .number ≡ 0
-  -- P5: A sheet on plan A, fresh: guest 9's two tasks, its second again, guest 8, which is not there, and a guest part beyond 32 bits, with a place to spare.
+  -- P5: A sheet on plan A, fresh: guest 9's two tasks, its second again, guest 8, which is not there, and a guest
+  -- part beyond 32 bits, with a place to spare.
   pub sheet-answers : answered (start A) (589826 ∷ 589825 ∷ 589826 ∷ 524289 ∷ 281474977300481 ∷ []) (5 ∷ 5 ∷ 5 ∷ 5 ∷ 5 ∷ 5 ∷ []) ≡ 0 ∷ 0 ∷ 9 ∷ 7 ∷ 7 ∷ 5 ∷ []

@@ -1,4 +1,5 @@
--- A sheet of releases: many pairs of a guest id and a task number, released one by one in order. Whole refusals: 14, 15, 12.
+-- A sheet of releases: many pairs of a guest id and a task number, released one by one in order. Whole refusals: 14,
+-- 15, 12.
 use mathlib.Core.List.{List, [], _∷_, _++_}
 use Prim.Native.Nat.{ℕ, zero, suc, _/_, _%_}
 use lib.Dec.{leb, ltb}

@@ -39,8 +39,8 @@ unfoldable pub quotedBy : Bool → ℕ → TaskVerdict
 quotedBy true r = Met r
 quotedBy false r = UnmetAt r
 
--- a task is met or unmet with its response, unmet where it has none up to its period, and unjudged where its own guest or
--- one above is unfit
+-- a task is met or unmet with its response, unmet where it has none up to its period, and unjudged where its own
+-- guest or one above is unfit
 unfoldable pub taskSays : Bool → (deadline : ℕ) → Found → TaskVerdict
 taskSays false deadline f = Unjudged
 taskSays true deadline (At r) = quotedBy (leb r deadline) r

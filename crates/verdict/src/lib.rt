@@ -16,8 +16,8 @@ pub enum GuestVerdict {
     Unfit,
 }
 
-// The verdict of a task: a refusal's number and place; met with its response; unmet with its response, or with none up to
-// the task's period; unjudged.
+// The verdict of a task: a refusal's number and place; met with its response; unmet with its response, or with none
+// up to the task's period; unjudged.
 pub enum TaskVerdict {
     Refused(u32, u32),
     Met(u32),

@@ -1,5 +1,5 @@
--- The acceptance of a plan has its meaning and is the only one that has it. A plan is accepted exactly if the verdict of
--- every task is met. Assumes nothing.
+-- The acceptance of a plan has its meaning and is the only one that has it. A plan is accepted exactly if the verdict
+-- of every task is met. Assumes nothing.
 use mathlib.Core.Path.{_≡_, refl, sym, _∙_}
 use mathlib.Core.Bool.{Bool, true, false, false≢true}
 use Prim.Native.Nat.{ℕ, suc, _≤_, _<_}

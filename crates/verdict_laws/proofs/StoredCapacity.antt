@@ -1,5 +1,5 @@
--- The stored capacity plays no part in the smallest: the plan with another one passes the check, and each trial is of the
--- same plan. Assumes nothing.
+-- The stored capacity plays no part in the smallest: the plan with another one passes the check, and each trial is of
+-- the same plan. Assumes nothing.
 use mathlib.Core.Path.{_≡_, refl, sym, _∙_, ap, fun-ext}
 use mathlib.Core.Bool.{true, _&&_}
 use mathlib.Core.List.{List, []}

@@ -52,8 +52,8 @@ task-verdict-is p id k i t h =
     ∙ records-pass task.Refused p (hasGuest p id orRefuse 7 ∷ hasTask p id (suc i) orRefuse 8 ∷ []) _ (t .order))
     ∙ rw (place, number) refl
 
--- under fitted guests a response means the least solution, met or unmet by the deadline, and none means that there is no
--- solution up to the period
+-- under fitted guests a response means the least solution, met or unmet by the deadline, and none means that there is
+-- no solution up to the period
 response-means : (p : Plan) (k i : ℕ) → AllFit p k → (f : Found)
     → Answers (taskRight p k i) (limit (guestAt (p .guests) k) i - gap (guestAt (p .guests) k) i) f
     → TaskMeans p k i (taskSays true (deadlineOf (guestAt (p .guests) k) i) (later (gap (guestAt (p .guests) k) i) f))

@@ -1,4 +1,5 @@
--- `sheet::release_all` meets its promise: the check once, then the whole refusals in order, then the pairs. Assumes nothing.
+-- `sheet::release_all` meets its promise: the check once, then the whole refusals in order, then the pairs. Assumes
+-- nothing.
 use borrow.Author.Needs.{needs}
 use Rattle.sheet.proofs.Whole.{whole-refused, whole-taken, state-in, room-enough, plan-fine, small, sheet-columns}
 use Rattle.sheet.proofs.release_all.Statement.{statement}

@@ -1,4 +1,5 @@
--- `coreshare::dispatching::tell` meets its contract, case by case; a margin is read back as it was stored, since it fits. Assumes nothing.
+-- `coreshare::dispatching::tell` meets its contract, case by case; a margin is read back as it was stored, since it
+-- fits. Assumes nothing.
 use mathlib.Core.Path.{refl}
 use borrow.Author.Needs.{needs}
 use Rattle.coreshare.specs.Told.{told}

@@ -1,4 +1,5 @@
--- `coreshare::judging::cs_smallest_capacity` meets its contract: each arm tells the answer which led there. Assumes nothing.
+-- `coreshare::judging::cs_smallest_capacity` meets its contract: each arm tells the answer which led there. Assumes
+-- nothing.
 use mathlib.Core.Path.{sym, ap, _∙_}
 use borrow.Author.Needs.{needs}
 use Rattle.coreshare.specs.Told.{capacityTold}

@@ -1,4 +1,5 @@
--- The loop's invariant: the ticks done are those of a run on its way, whatever plan the columns are of, and the places past the guests are quiet.
+-- The loop's invariant: the ticks done are those of a run on its way, whatever plan the columns are of, and the
+-- places past the guests are quiet.
 use mathlib.Core.Path.{_≡_}
 use mathlib.Core.List.{List}
 use Prim.Native.Nat.{ℕ, _≤_, _-_}

@@ -1,4 +1,5 @@
--- By who has the tick: nobody, a guest that idles it away, or a task. A place that a search found holds something, so nothing falls below 0.
+-- By who has the tick: nobody, a guest that idles it away, or a task. A place that a search found holds something, so
+-- nothing falls below 0.
 use native.Mathlib.Omega.{arith}
 use borrow.Author.Needs.{needs}
 use Rattle.dispatcher.proofs.Lent.{has-left, has-run, nobody, idles, works}

@@ -1,4 +1,5 @@
--- Each part ensures its sentence of the rule, of arrays that no part before it has changed but by its own sentence; the places past the guests are quiet.
+-- Each part ensures its sentence of the rule, of arrays that no part before it has changed but by its own sentence;
+-- the places past the guests are quiet.
 use borrow.Author.Needs.{needs}
 use Rattle.dispatcher.proofs.Lent.{stepped}
 use Rattle.dispatcher.proofs.stepping.step.Statement.{statement}

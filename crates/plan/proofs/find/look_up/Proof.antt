@@ -1,4 +1,5 @@
--- `plan::look_up` meets its contract: the records' refusal, then 7, else the place in the column of ids. Assumes nothing.
+-- `plan::look_up` meets its contract: the records' refusal, then 7, else the place in the column of ids. Assumes
+-- nothing.
 use native.Mathlib.Omega.{arith}
 use Rattle.plan.proofs.LookUp.{looked-refused, looked-found, looked-missing}
 use Rattle.plan.proofs.find.look_up.Statement.{statement}

@@ -1,4 +1,5 @@
--- `sheet::columns::jobs_of` meets its contract: a turn puts the row of one guest, and the rows before it stand. Assumes nothing.
+-- `sheet::columns::jobs_of` meets its contract: a turn puts the row of one guest, and the rows before it stand.
+-- Assumes nothing.
 use mathlib.Core.Path.{_≡_, refl}
 use Prim.Native.Nat.{ℕ, _≤_, _-_, _<_}
 use native.Mathlib.Omega.{arith}

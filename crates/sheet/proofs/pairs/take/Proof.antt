@@ -1,4 +1,5 @@
--- `sheet::pairs::take` meets its contract: by the test that refuses, or what is set at the task's place. Assumes nothing.
+-- `sheet::pairs::take` meets its contract: by the test that refuses, or what is set at the task's place. Assumes
+-- nothing.
 use mathlib.Core.Path.{refl}
 use native.Mathlib.Omega.{arith}
 use borrow.Author.Needs.{needs}

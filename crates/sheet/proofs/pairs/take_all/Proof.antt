@@ -1,4 +1,5 @@
--- `sheet::pairs::take_all` meets its contract: after i turns the first i pairs are released and answered, and the state is still in its ranges. Assumes nothing.
+-- `sheet::pairs::take_all` meets its contract: after i turns the first i pairs are released and answered, and the
+-- state is still in its ranges. Assumes nothing.
 use mathlib.Core.Path.{_≡_, refl, _∙_}
 use mathlib.Core.Bool.{true}
 use mathlib.Core.List.{List}
