@@ -25,7 +25,7 @@ use Rattle.history.proofs.Share.{answer-old, answer-new}
 use Rattle.history.proofs.Quote.{gapIn, TaskFits, KeptIn, bounded-of, young-kept, kept-next, kept-release, in-plan, in-guest}
 use Rattle.dispatcher_laws.proofs.Answer.{finishedBy, answer-finished}
 use Rattle.dispatcher_laws.proofs.Release.{Free, taken-else}
-use Rattle.dispatcher_laws.proofs.Seen.{capOf, perOf, tasksAt, Shaped}
+use Rattle.dispatcher_laws.proofs.Seen.{tasksAt, Shaped}
 use Rattle.dispatcher_laws.proofs.Sound.{Sound}
 use Rattle.dispatcher_laws.proofs.TaskTick.{rest-else, task-served, task-tick}
 

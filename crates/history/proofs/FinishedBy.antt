@@ -28,7 +28,6 @@ use Rattle.history.proofs.Clocks.{sound-start, sound-reached, new-job}
 use Rattle.dispatcher_laws.proofs.Answer.{margin-falls}
 use Rattle.dispatcher_laws.proofs.Fresh.{fresh-idle}
 use Rattle.dispatcher_laws.proofs.Release.{taken-here}
-use Rattle.dispatcher_laws.proofs.Seen.{capOf, perOf}
 use Rattle.dispatcher_laws.proofs.Sound.{Sound, free-task}
 
 module _ (p : Plan) (id number R : ℕ) (quoted : Quoted p id number R) where

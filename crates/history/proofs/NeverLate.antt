@@ -26,7 +26,6 @@ use Rattle.verdict.proofs.Quoted.{met-quoted}
 use Rattle.verdict_laws.proofs.Tasks.{judged-means}
 use Rattle.history.proofs.FinishedBy.{kept-reached}
 use Rattle.dispatcher_laws.proofs.Answer.{margin-left}
-use Rattle.dispatcher_laws.proofs.Seen.{capOf, perOf}
 
 module _ (p : Plan) (id number R : ℕ) (quoted : Quoted p id number R) (cs : List Call) (c : Call) where
   -- what the verdict says of the task

@@ -1,22 +1,22 @@
 -- Demand 3 for the pairs of sheets: what holds of a single release after the pairs before it. Assumes nothing.
-use mathlib.Core.Path.{_≡_, refl, sym, ap, subst, _∙_}
+use mathlib.Core.Path.{_≡_, refl, sym, ap, _∙_}
 use mathlib.Core.List.{List, _∷_, _++_}
-use Prim.Native.Nat.{ℕ, suc, _+_, _≤_, _<_}
+use Prim.Native.Nat.{ℕ, suc, _≤_}
 use native.Mathlib.Omega.{arith}
-use lib.ListN.{length, take, drop}
+use lib.ListN.{take, drop}
 use Rattle.lists.specs.Places.{nth}
 use Rattle.plan.specs.declared.Plan.{Plan}
 use Rattle.dispatcher.specs.declared.Dispatcher.{Dispatcher}
 use Rattle.dispatcher.specs.Release.{release}
-use Rattle.sheet.specs.Sheet.{pairGuest, pairTask, answerTo, sheet}
+use Rattle.sheet.specs.Sheet.{pairGuest, pairTask, answerTo}
 use Rattle.verdict.specs.Quoted.{Quoted}
 use Rattle.history.specs.Calls.{Call, releasing, sheeting, start, after, play, released, ticksIn, NoneTaken}
 use Rattle.history.specs.Finished.{FinishedBy}
 use Rattle.history.specs.Named.{everyBy, deadlineBy}
 use Rattle.history.specs.Sheets.{releases, upToPair, PairOf, NotBefore}
 use Rattle.history.proofs.FinishedBy.{finished-by-R}
-use Rattle.history.proofs.NeverTurnedAway as turned
 use Rattle.history.proofs.Sheets.{play-append, sheet-is-releases, pair-is-release, around, ticks-append, releases-none, none-up-to, finished-later}
+use Rattle.history.proofs.NeverTurnedAway as turned
 
 -- The answer to a pair is the number of a single release after the pairs before it.
 pub as-release :

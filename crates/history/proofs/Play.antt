@@ -15,8 +15,8 @@ use Rattle.dispatcher.specs.Run.{ticks}
 use Rattle.dispatcher.specs.Release.{taken, release}
 use Rattle.lists.specs.Places.{nth}
 use Rattle.sheet.specs.Sheet.{pairGuest, pairTask, stateAfter, sheet}
-use Rattle.sheet.proofs.Entry.{Sheeted, whole, each, sheet-sheeted}
 use Rattle.history.specs.Calls.{Call, releasing, ticking, running, sheeting, after, play, singles, ticksOf, ticksIn, answers, EachRelease, Throughout}
+use Rattle.sheet.proofs.Entry.{Sheeted, whole, each, sheet-sheeted}
 use Rattle.history.proofs.Ticks.{tick-one, singles-next, singles-none, singles-length, run-state}
 use Rattle.dispatcher_laws.proofs.Entries.{tick-state}
 use Rattle.dispatcher_laws.proofs.Release.{Free, Took, release-took, kept, took}

@@ -11,10 +11,10 @@ use Rattle.dispatcher.specs.declared.Dispatcher.{Dispatcher}
 use Rattle.dispatcher.specs.declared.Answer.the-variants.{Silent, Finished}
 use Rattle.dispatcher.specs.Release.{release}
 use Rattle.sheet.specs.Sheet.{pairGuest, pairTask, pairReleased, stateAfter, answerTo, sheet}
-use Rattle.sheet.proofs.Entry.{Sheeted, whole, each, sheet-sheeted}
 use Rattle.history.specs.Calls.{Call, releasing, sheeting, after, play, ticksOf, ticksIn, EachRelease, answerOf, Throughout, Takes, NoneTaken}
 use Rattle.history.specs.Sheets.{releases, upToPair, NotBefore}
 use Rattle.history.specs.Finished.{Told, FinishedBy}
+use Rattle.sheet.proofs.Entry.{Sheeted, whole, each, sheet-sheeted}
 
 -- Histories one after the other.
 pub play-append : (cs ds : List Call) (d : Dispatcher) → play (cs ++ ds) d ≡ play ds (play cs d)

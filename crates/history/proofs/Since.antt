@@ -15,7 +15,7 @@ use Rattle.dispatcher.specs.Tick.{next}
 use Rattle.dispatcher.specs.Answer.{answer}
 use Rattle.dispatcher.specs.Release.{taken}
 use Rattle.windows.specs.TaskTick.{TaskTick}
-use Rattle.history.specs.Calls.{Call, releasing, play, ticksIn, Takes, NoneTaken}
+use Rattle.history.specs.Calls.{Call, play, ticksIn, Takes, NoneTaken}
 use Rattle.history.proofs.Play.{play-keeps, answers-length}
 use Rattle.verdict_laws.proofs.Ids.{idOf, found-id}
 use Rattle.dispatcher_laws.proofs.Release.{Free, free-taken, taken-here, taken-else}

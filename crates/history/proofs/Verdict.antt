@@ -10,7 +10,6 @@ use Rattle.verdict_laws.specs.Tasks.{TaskThere}
 use Rattle.plan.proofs.Order.{PlanIn, plan-in}
 use Rattle.verdict_laws.proofs.Tasks.{quoted-means}
 use Rattle.history.proofs.Quote.{gapIn, TaskFits}
-use Rattle.dispatcher_laws.proofs.Seen.{capOf, perOf}
 
 -- What a quoted R says of the task with that number of the guest with that id.
 pub record Judged (p : Plan) (id number R : ℕ) : Type 0 where

@@ -2,14 +2,9 @@
 use mathlib.Core.Path.{_≡_, refl, sym, ap, _∙_}
 use mathlib.Core.Logic.{⊎-elim}
 use mathlib.Core.Bool.{Bool, true, false, false≢true}
-use mathlib.Core.List.{List, [], _∷_}
 use Prim.Native.Nat.{ℕ, zero, suc, _<_, _≤_}
 use native.Mathlib.Nat.{eq-or-lt-of-le}
 use native.Mathlib.Omega.{arith}
-use lib.Dec.{eqb}
-use borrow.Author.Tests.{eq-eqb}
-use Rattle.lists.specs.Choice.{pick}
-use Rattle.lists.specs.Refusals.{Test, refusal, unless, _orRefuse_}
 use Rattle.plan.specs.declared.Refusal.{Refusal}
 use Rattle.plan.specs.First.{refused, orElse, firstRefused}
 use Rattle.lists.specs.Exactly.{_exactlyWhen_, _notBut_}

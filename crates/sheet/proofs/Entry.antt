@@ -4,15 +4,14 @@ use mathlib.Core.Bool.{true, false}
 use mathlib.Core.List.{List, []}
 use Prim.Native.Nat.{ℕ, zero, suc, _<_}
 use native.Mathlib.Omega.{arith}
-use lib.Dec.{leb}
 use lib.ListN.{length}
 use Rattle.lists.specs.Places.{nth}
 use Rattle.dispatcher.specs.declared.Dispatcher.{Dispatcher}
 use Rattle.dispatcher.specs.declared.Released.{Released}
 use Rattle.dispatcher.specs.Valid.{stateOk}
-use Rattle.sheet.specs.Sheet.{mostPairs, pairGuest, pairTask, stateAfter, answerTo, sheetNumber, sheetBy, sheet}
-use Rattle.lists.proofs.Refusals.{none-left, go-on, stop}
+use Rattle.sheet.specs.Sheet.{pairGuest, pairTask, stateAfter, answerTo, sheetNumber, sheetBy, sheet}
 use Rattle.dispatcher_laws.specs.Usage.{SameButUsage}
+use Rattle.lists.proofs.Refusals.{none-left, go-on, stop}
 use Rattle.dispatcher_laws.proofs.Release.{other-number}
 use Rattle.dispatcher_laws.proofs.Usage.{release-one, ok-one}
 use Rattle.sheet.proofs.Sheet.{ok-after}

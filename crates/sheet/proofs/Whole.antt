@@ -1,6 +1,6 @@
 -- A sheet as a whole: by the number that it is refused by. Assumes nothing.
 use mathlib.Core.Path.{_≡_, refl, sym, _∙_}
-use mathlib.Core.Bool.{Bool, true}
+use mathlib.Core.Bool.{true}
 use mathlib.Core.List.{List, [], _∷_}
 use Prim.Native.Nat.{ℕ, zero, suc, _≤_, _<_}
 use native.Mathlib.Omega.{arith}
@@ -8,7 +8,6 @@ use lib.Dec.{leb}
 use lib.ListN.{length}
 use borrow.Author.Tests.{leb-true}
 use Rattle.lists.specs.Refusals.{refusal, _orRefuse_}
-use Rattle.plan.specs.declared.Plan.{Plan}
 use Rattle.plan.specs.Filled.{ColumnsOf}
 use Rattle.plan.specs.First.{refused}
 use Rattle.plan.specs.Order.{planRefusal}

@@ -1,6 +1,5 @@
 -- A sheet over lent arrays, apart from the plan. Inner: no promise of an entry names this.
 use mathlib.Core.Path.{_≡_}
-use mathlib.Core.Bool.{true}
 use mathlib.Core.List.{List, _++_}
 use Prim.Native.Nat.{ℕ, _≤_, _<_}
 use lib.ListN.{length, drop}
@@ -13,8 +12,6 @@ use Rattle.plan.specs.Ranges.{mostTasks, longest}
 use Rattle.plan.specs.Charge.{chargedRun, charged}
 use Rattle.arrays.specs.Place.{placeAt}
 use Rattle.dispatcher.specs.declared.Dispatcher.{Dispatcher}
-use Rattle.dispatcher.specs.Valid.{stateOk}
-use Rattle.dispatcher.specs.Lent.{stateOf}
 use Rattle.sheet.specs.Sheet.{pairReleased, stateAfter, answerTo}
 
 -- At most 16 tasks, each with a run in its range.

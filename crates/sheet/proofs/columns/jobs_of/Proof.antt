@@ -1,20 +1,13 @@
 -- `sheet::columns::jobs_of` meets its contract: a turn puts the row of one guest, and the rows before it stand.
 -- Assumes nothing.
-use mathlib.Core.Path.{_≡_, refl}
-use Prim.Native.Nat.{ℕ, _≤_, _-_, _<_}
+use mathlib.Core.Path.{refl}
+use Prim.Native.Nat.{_≤_, _-_}
 use native.Mathlib.Omega.{arith}
 use borrow.Author.Needs.{needs}
-use Rattle.plan.specs.declared.Plan.{Plan}
-use Rattle.plan.specs.Order.{planRefusal}
-use Rattle.plan.specs.Records.{guestAt}
 use Rattle.plan.proofs.Order.{PlanIn, plan-in}
-use Rattle.sheet.specs.Lent.{RunsIn}
 use Rattle.sheet.proofs.Rows.{RowsTo, rows-none, rows-next, rows-done, runs-in-range}
 use Rattle.sheet.proofs.columns.jobs_of.Statement.{statement}
 use Rattle.sheet.proofs.columns.jobs_of.Tie as tie
-use Rattle.sheet.proofs.columns.jobs_of.Reads as reads
-use Rattle.sheet.proofs.columns.jobs_of.Lts as lts
-use Rattle.sheet.proofs.columns.put_row.Reads as put-row-reads
 
 abbrev Inv-loop : tie.InvT-loop
 Inv-loop plan n runs₀ periods₀ k₀ runs periods k = (k ≤ n) × (PlanIn plan × RowsTo plan k runs periods)

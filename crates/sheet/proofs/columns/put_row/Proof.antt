@@ -1,17 +1,14 @@
 -- `sheet::columns::put_row` meets its contract: a turn puts one task of the row. Assumes nothing.
-use mathlib.Core.Path.{_≡_, refl}
-use Prim.Native.Nat.{_≤_, _-_, _*_}
+use mathlib.Core.Path.{refl}
+use Prim.Native.Nat.{_≤_, _-_}
 use native.Mathlib.Omega.{arith}
 use borrow.Author.Needs.{needs}
 use Rattle.lists.specs.Places.{nth}
-use Rattle.plan.proofs.Charge.{charged-most}
 use Rattle.sheet.specs.Lent.{RowTo}
+use Rattle.plan.proofs.Charge.{charged-most}
 use Rattle.sheet.proofs.Rows.{row-none, row-next, all-tasks}
 use Rattle.sheet.proofs.columns.put_row.Statement.{statement}
 use Rattle.sheet.proofs.columns.put_row.Tie as tie
-use Rattle.sheet.proofs.columns.put_row.Reads as reads
-use Rattle.sheet.proofs.columns.put_row.Lts as lts
-use Rattle.plan.proofs.charged_run.Reads as charged-run-reads
 
 abbrev Inv-loop : tie.InvT-loop
 Inv-loop k runs₀ periods₀ run every charge many base t₀ runs periods t = (t ≤ many) × RowTo run every charge k t runs₀ periods₀ runs periods

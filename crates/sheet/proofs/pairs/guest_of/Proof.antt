@@ -1,9 +1,9 @@
 -- `sheet::pairs::guest_of` meets its contract, by whether the guest's part has 32 bits. Assumes nothing.
+use mathlib.Core.Path.{refl}
 use borrow.Author.Needs.{needs}
 use borrow.Author.Tests.{lt-ltb, le-ltb}
 use Rattle.sheet.proofs.pairs.guest_of.Statement.{statement}
 use Rattle.sheet.proofs.pairs.guest_of.Tie as tie
-use mathlib.Core.Path.{refl}
 
 cast-result : tie.Need-cast-result
 cast-result c = search needs

@@ -1,16 +1,9 @@
 -- `sheet::pairs::take` meets its contract: by the test that refuses, or what is set at the task's place. Assumes
 -- nothing.
-use mathlib.Core.Path.{refl}
-use native.Mathlib.Omega.{arith}
 use borrow.Author.Needs.{needs}
 use Rattle.sheet.proofs.Pair.{place-inside, of-pair, told-7, told-8, told-8-past, told-9, told-10, told-0}
 use Rattle.sheet.proofs.pairs.take.Statement.{statement}
 use Rattle.sheet.proofs.pairs.take.Tie as tie
-use Rattle.sheet.proofs.pairs.take.Reads as reads
-use Rattle.sheet.proofs.pairs.take.Lts as lts
-use Rattle.plan.proofs.place_of.Reads as place-of-reads
-use Rattle.sheet.proofs.pairs.guest_of.Reads as guest-of-reads
-use Rattle.sheet.proofs.pairs.task_of.Reads as task-of-reads
 
 guest-of-requires : tie.Need-guest-of-requires
 guest-of-requires c κs = search needs

@@ -1,6 +1,6 @@
 -- `sheet::pairs::take_all` meets its contract: after i turns the first i pairs are released and answered, and the
 -- state is still in its ranges. Assumes nothing.
-use mathlib.Core.Path.{_≡_, refl, _∙_}
+use mathlib.Core.Path.{_≡_, refl}
 use mathlib.Core.Bool.{true}
 use mathlib.Core.List.{List}
 use Prim.Native.Nat.{ℕ, _≤_, _-_}
@@ -14,9 +14,6 @@ use Rattle.sheet.specs.Lent.{SheetColumns}
 use Rattle.sheet.proofs.Sheet.{TakenTo, taken-none, ok-meanwhile, taken-next, taken-all}
 use Rattle.sheet.proofs.pairs.take_all.Statement.{statement}
 use Rattle.sheet.proofs.pairs.take_all.Tie as tie
-use Rattle.sheet.proofs.pairs.take_all.Reads as reads
-use Rattle.sheet.proofs.pairs.take_all.Lts as lts
-use Rattle.sheet.proofs.pairs.take.Reads as take-reads
 
 abbrev Inv-loop : tie.InvT-loop
 Inv-loop pairs answers₀ ids tasks runs periods n rest₀ wait₀ age₀ i₀ answers rest wait age i =
