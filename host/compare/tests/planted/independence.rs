@@ -26,9 +26,12 @@ fn tick_is_independent(wrong: fn(&Dispatcher) -> Ticked) -> bool {
     })
 }
 
-/// The place of the guest that had the tick.
+/// The place of the guest that had the tick; a tick that was refused, whose plan may be any, has none.
 fn served(ticked: &Ticked) -> Option<usize> {
-    ticked.dispatcher.plan.place_of(ticked.answer.guest).ok()
+    match ticked.refusal.number {
+        0 => ticked.dispatcher.plan.place_of(ticked.answer.guest).ok(),
+        _ => None,
+    }
 }
 
 /// Whether the dispatcher keeps a task of this guest at the place.
