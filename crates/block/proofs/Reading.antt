@@ -9,28 +9,28 @@ use borrow.Author.Tests.{eqb-true}
 use Rattle.plan.specs.Ranges.{mostTasks, guestOk, taskOk, tasksOk}
 use Rattle.lists.specs.Places.{nth}
 use Rattle.words.specs.Word.{word}
-use Rattle.block.specs.Reading.{taskCount, column, guestOf, sumsToZero, kindOk, ownPlace, zeroBetween, zerosOk, blockNumber}
+use Rattle.block.specs.Reading.{taskCount, column, guestOf, sumsToZero, kindOk, zeroBetween, zerosOk, blockNumber}
 use Rattle.lists.specs.All.{allTo}
 use Rattle.block.specs.Layout.{runWord, everyWord, deadlineWord}
 use Rattle.plan.proofs.RangesLaws.{head-says}
-use Rattle.lists.proofs.All.{and-left, all-at}
+use Rattle.lists.proofs.All.{and-left, and-true, all-at}
 use Rattle.lists.proofs.Table.{table-at}
 use Rattle.lists.proofs.Refusals.{none-left, go-on, stop, passed}
 
 -- The number that a block is refused by, from the tests that led to it.
-module _ (b : List ℕ) (p : ℕ) (new : Bool) where
+module _ (b : List ℕ) (p new : Bool) where
   -- The words do not sum to zero.
   pub two : sumsToZero b ≡ false → 2 ≡ blockNumber b p new
   unfolding blockNumber
   two e = sym (stop 2 _ e)
 
   module _ (s : sumsToZero b ≡ true) where
-    -- The kind or the place is another.
-    pub three : (kindOk b && ownPlace b p) ≡ false → 3 ≡ blockNumber b p new
+    -- The kind is another, or the place does not pass.
+    pub three : (kindOk b && p) ≡ false → 3 ≡ blockNumber b p new
     unfolding blockNumber
     three e = sym (go-on 2 _ s ∙ stop 3 _ e)
 
-    module _ (k : (kindOk b && ownPlace b p) ≡ true) where
+    module _ (k : (kindOk b && p) ≡ true) where
       -- The head is out of range, or the id is not new.
       pub four : (guestOk (guestOf b) && new) ≡ false → 4 ≡ blockNumber b p new
       unfolding blockNumber
@@ -65,22 +65,30 @@ unfolding tasksOk
 tasks-are b r e d n p q s t = rw (p, q, s, t) refl
 
 -- A block that no number refuses passes every test.
-pub record BlockIn (b : List ℕ) (p : ℕ) (new : Bool) : Type 0 where
+pub record BlockIn (b : List ℕ) (p new : Bool) : Type 0 where
   pub sums : sumsToZero b ≡ true
-  pub opens : (kindOk b && ownPlace b p) ≡ true
+  pub opens : (kindOk b && p) ≡ true
   pub heads : (guestOk (guestOf b) && new) ≡ true
   pub zeros : zerosOk b ≡ true
   pub tasks : tasksOk (guestOf b) ≡ true
 
-pub block-in : (b : List ℕ) (p : ℕ) (new : Bool) → blockNumber b p new ≡ 0 → BlockIn b p new
+pub block-in : (b : List ℕ) (p new : Bool) → blockNumber b p new ≡ 0 → BlockIn b p new
 unfolding blockNumber
 block-in b p new e =
     let a2 = passed (sumsToZero b) 2 _ (omega arith) e in
-    let a3 = passed (kindOk b && ownPlace b p) 3 _ (omega arith) (a2 .1) in
+    let a3 = passed (kindOk b && p) 3 _ (omega arith) (a2 .1) in
     let a4 = passed (guestOk (guestOf b) && new) 4 _ (omega arith) (a3 .1) in
     let a5 = passed (zerosOk b) 5 _ (omega arith) (a4 .1) in
     let a6 = passed (tasksOk (guestOf b)) 6 [] (omega arith) (a5 .1) in
     record { sums = a2 .0; opens = a3 .0; heads = a4 .0; zeros = a5 .0; tasks = a6 .0 }
+
+-- Such a block is refused by no number where another place, or another set of ids, is asked for and passes too.
+pub passes-too : (b : List ℕ) (p q new fresh : Bool) → BlockIn b p new → q ≡ true → fresh ≡ true
+    → blockNumber b q fresh ≡ 0
+passes-too b p q new fresh i e d =
+    sym
+    (none b q fresh (i .sums) (and-true (and-left (kindOk b) p (i .opens)) e)
+    (and-true (and-left (guestOk (guestOf b)) new (i .heads)) d) (i .zeros) (i .tasks))
 
 -- A word that must be zero is.
 pub zero-at : (b : List ℕ) (from to k : ℕ) → from ≤ k → k < to → zeroBetween b from to ≡ true → word b k ≡ 0

@@ -53,7 +53,7 @@ sumsToZero b = eqb (wrapped (word b) blockWords) 0
 abbrev pub kindOk : List ℕ → Bool
 kindOk b = eqb (kindIn b) guestKind
 
--- Passes 3 too: the place is the block's own.
+-- Passes 3 too, in a plan: the place is the block's own.
 abbrev pub ownPlace : List ℕ → ℕ → Bool
 ownPlace b place = eqb (placeIn b) place
 
@@ -65,12 +65,13 @@ zeroBetween b from to = allTo (λ k. eqb (word b (from + k)) 0) (to - from)
 abbrev pub zerosOk : List ℕ → Bool
 zerosOk b = zeroBetween b spareFrom spareTo && zeroBetween b (unusedFrom (taskCount b)) checkWord
 
--- The number that a block at its place is refused by, 0 for none; newId says that its id is no earlier block's.
-unfoldable pub blockNumber : List ℕ → (place : ℕ) (newId : Bool) → ℕ
-blockNumber b place newId =
+-- The number that a block is refused by, 0 for none. It is told whether the place passes, which not every reader asks,
+-- and whether the id is new.
+unfoldable pub blockNumber : List ℕ → (placeOk newId : Bool) → ℕ
+blockNumber b placeOk newId =
     refusal (
     sumsToZero b orRefuse 2
-    ∷ (kindOk b && ownPlace b place) orRefuse 3
+    ∷ (kindOk b && placeOk) orRefuse 3
     ∷ (guestOk (guestOf b) && newId) orRefuse 4
     ∷ zerosOk b orRefuse 5
     ∷ tasksOk (guestOf b) orRefuse 6

@@ -12,6 +12,7 @@ mod writer;
 pub use reader::block_number;
 pub use reader::decode;
 pub use reader::id_of;
+pub use reader::place_of;
 
 // Numbers 2 to 6 come with the place, all others with place 0.
 fn with_place(number: u32, place: u32) -> Refusal

@@ -1,21 +1,27 @@
 // A block read: tested in the order of the refusals, and its record.
 ghost use mathlib.Core.Path.{_≡_};
-ghost use mathlib.Core.Bool.{_&&_};
 ghost use Prim.Native.Nat.{_+_, _*_, _≤_};
 ghost use lib.ListN.{length};
 ghost use Rattle.plan.specs.Ranges.{mostTasks, guestOk, tasksOk};
 ghost use Rattle.block.specs.Layout.{blockSize, blockWords, entryWords, checkWord};
-ghost use Rattle.block.specs.Reading.{idIn, taskCount, column, guestOf, kindOk, ownPlace, zeroBetween, zerosOk, blockNumber};
+ghost use Rattle.block.specs.Reading.{placeIn, idIn, taskCount, column, guestOf, kindOk, zeroBetween, zerosOk, blockNumber};
 use crate::layout;
 use plan::Guest;
 
-// The kind and the place.
-fn opening_ok(b: &[u8], place: u32) -> bool
+// Whether the kind is a guest's.
+fn kind_ok(b: &[u8]) -> bool
     requires { ⌜ length (now b) ≡ blockSize ⌝ }
-    ensures { λ r. ⌜ r ≡ (kindOk (now (b .entry)) && ownPlace (now (b .entry)) place) ⌝ }
+    ensures { λ r. ⌜ r ≡ kindOk (now (b .entry)) ⌝ }
 {
-    let w = words::word_at(b, layout::KIND_PLACE);
-    (w % layout::HALF == layout::GUEST_KIND) & (w / layout::HALF == place)
+    words::word_at(b, layout::KIND_PLACE) % layout::HALF == layout::GUEST_KIND
+}
+
+// The place alone.
+pub fn place_of(b: &[u8]) -> u32
+    requires { ⌜ length (now b) ≡ blockSize ⌝ }
+    ensures { λ r. ⌜ r ≡ placeIn (now (b .entry)) ⌝ }
+{
+    words::word_at(b, layout::KIND_PLACE) / layout::HALF
 }
 
 // Whether the words from one on, up to another, are zero.
@@ -120,15 +126,15 @@ fn tasks_in(b: &[u8]) -> bool
     plan::tasks_ok(&run, &every, &deadline, tasks_of(b) as usize)
 }
 
-// The number that the block b at its place is refused by, 0 for none; `new` says that its id is no earlier block's.
-pub fn block_number(b: &[u8], place: u32, new: bool) -> u32
+// The number that the block b is refused by, 0 for none; `placed` says that its place passes, `new` that its id does.
+pub fn block_number(b: &[u8], placed: bool, new: bool) -> u32
     requires { ⌜ length (now b) ≡ blockSize ⌝ }
-    ensures { λ r. ⌜ r ≡ blockNumber (now (b .entry)) place new ⌝ }
+    ensures { λ r. ⌜ r ≡ blockNumber (now (b .entry)) placed new ⌝ }
 {
     if words::sum_words(b, layout::WORDS) != 0 {
         return 2;
     }
-    if !opening_ok(b, place) {
+    if !(kind_ok(b) & placed) {
         return 3;
     }
     if !(head_in(b) & new) {

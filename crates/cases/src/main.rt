@@ -8,6 +8,7 @@ use draft::text;
 use draft::text::Row;
 use plan::Plan;
 
+mod amending;
 mod damage;
 mod dispatching;
 mod files;
@@ -31,23 +32,34 @@ fn planned(p: Plan, row: Row) -> Plan {
     text::with_line(p, row)
 }
 
+// The standing plan after a line: `Keep` makes it the plan in hand.
+fn kept(standing: Plan, p: Plan, row: Row) -> Plan {
+    if row.first == b'K' {
+        return p;
+    }
+    standing
+}
+
 // The dispatcher's state after a line; what the line asks is asked, and the answer ends the line.
-fn asked(p: Plan, d: Dispatcher, row: Row) -> Dispatcher {
+fn asked(standing: Plan, p: Plan, d: Dispatcher, row: Row) -> Dispatcher {
     say::end(row);
     files::ask(p, row);
     judging::ask(p, row);
+    amending::ask(standing, p, row);
     dispatching::call(p, d, row)
 }
 
 fn lines(text: &[u8]) {
     let mut p = plan::blank_plan();
+    let mut standing = p;
     let mut d = dispatching::fresh(p);
     let mut row = text::blank_row();
     for i in 0..text.len() {
         let b = text[i];
         if b == b'\n' {
             p = planned(p, row);
-            d = asked(p, d, row);
+            standing = kept(standing, p, row);
+            d = asked(standing, p, d, row);
             row = text::blank_row();
         } else {
             row = text::with_byte(row, b);
@@ -57,7 +69,7 @@ fn lines(text: &[u8]) {
 }
 
 fn main() {
-    let mut buf = [0u8; 16384];
+    let mut buf = [0u8; 32768];
     let n = io::read_full(0, &mut buf);
     lines(&buf[..n]);
 }

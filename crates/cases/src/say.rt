@@ -19,7 +19,9 @@ pub fn byte(row: Row, b: u8) {
 pub fn end(row: Row) {
     let first = row.first;
     match first {
-        0 | b'n' | b'c' | b'g' | b't' | b'p' | b'L' | b'P' | b'J' | b'W' | b'A' => text(b"\n"),
+        0 | b'n' | b'c' | b'g' | b't' | b'p' | b'K' | b'L' | b'P' | b'J' | b'W' | b'A' => text(
+            b"\n",
+        ),
         _ => {}
     }
 }

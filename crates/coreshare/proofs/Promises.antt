@@ -1,12 +1,13 @@
 -- Each promise permits one outcome, since it is an equality with a definition. Assumes nothing.
 use mathlib.Core.Path.{_≡_}
+use mathlib.Core.List.{List}
 use Prim.Native.Nat.{ℕ}
 use Rattle.plan.specs.declared.Plan.{Plan}
 use Rattle.dispatcher.specs.declared.Dispatcher.{Dispatcher}
 use Rattle.coreshare.specs.declared.Verdict.{Verdict}
 use Rattle.coreshare.specs.declared.Tick.{Tick}
 use Rattle.coreshare.specs.declared.Run.{Run}
-use Rattle.coreshare.specs.Promises.{TellsGuest, TellsTask, TellsPlan, TellsCapacity, TellsTick, TellsRun}
+use Rattle.coreshare.specs.Promises.{TellsGuest, TellsTask, TellsPlan, TellsCapacity, TellsGuestIn, TellsTaskIn, TellsPair, TellsCapacityIn, TellsTick, TellsRun}
 use Rattle.plan.proofs.Promises.{one-outcome}
 
 -- Two outcomes that the promise of `cs_guest_verdict` permits coincide.
@@ -24,6 +25,26 @@ tells-plan-once p r s = one-outcome
 -- Two outcomes that the promise of `cs_smallest_capacity` permits coincide.
 pub tells-capacity-once : (p : Plan) (id : ℕ) (r s : Verdict) → TellsCapacity p id r → TellsCapacity p id s → r ≡ s
 tells-capacity-once p id r s = one-outcome
+
+-- Two outcomes that the promise of `cs_amended_guest_verdict` permits coincide.
+pub tells-guest-in-once : (p s : List ℕ) (id : ℕ) (r q : Verdict) → TellsGuestIn p s id r → TellsGuestIn p s id q → r ≡ q
+tells-guest-in-once p s id r q = one-outcome
+
+-- Two outcomes that the promise of `cs_amended_task_verdict` permits coincide.
+pub tells-task-in-once : (p s : List ℕ) (id number : ℕ) (r q : Verdict) → TellsTaskIn p s id number r
+    → TellsTaskIn p s id number q
+    → r ≡ q
+tells-task-in-once p s id number r q = one-outcome
+
+-- Two outcomes that the promise of `cs_amended_accept` permits coincide.
+pub tells-pair-once : (p s : List ℕ) (r q : Verdict) → TellsPair p s r → TellsPair p s q → r ≡ q
+tells-pair-once p s r q = one-outcome
+
+-- Two outcomes that the promise of `cs_amended_smallest_capacity` permits coincide.
+pub tells-capacity-in-once : (p s : List ℕ) (id : ℕ) (r q : Verdict) → TellsCapacityIn p s id r
+    → TellsCapacityIn p s id q
+    → r ≡ q
+tells-capacity-in-once p s id r q = one-outcome
 
 -- Two outcomes that the promise of `cs_tick` permits coincide.
 pub tells-tick-once : (d : Dispatcher) (r s : Tick) → TellsTick d r → TellsTick d s → r ≡ s

@@ -1,10 +1,12 @@
--- Six exports tell an enum's case as a number, and each promises its entry's outcome, told so. The other six give what
+-- Ten exports tell an enum's case as a number, and each promises its entry's outcome, told so. The others give what
 -- their entries give and carry the entries' own promises.
 use mathlib.Core.Path.{_≡_}
+use mathlib.Core.List.{List}
 use Prim.Native.Nat.{ℕ}
 use Rattle.plan.specs.declared.Plan.{Plan}
 use Rattle.verdict.specs.Verdict.{guestVerdict, taskVerdict, acceptance}
 use Rattle.capacity.specs.Answer.{smallestCapacity}
+use Rattle.amendment.specs.Verdict.{pairGuestVerdict, pairTaskVerdict, pairAcceptance, pairSmallest}
 use Rattle.dispatcher.specs.declared.Dispatcher.{Dispatcher}
 use Rattle.dispatcher.specs.Entries.{tick, run}
 use Rattle.coreshare.specs.declared.Verdict.{Verdict}
@@ -27,6 +29,22 @@ TellsPlan p r = r ≡ planTold (acceptance p)
 -- `cs_smallest_capacity` gives the capacity or the refusal, told in numbers.
 abbrev pub TellsCapacity : Plan → ℕ → Verdict → Type 0
 TellsCapacity p id r = r ≡ capacityTold (smallestCapacity p id)
+
+-- `cs_amended_guest_verdict` gives the guest's verdict in the amended plan, told in numbers.
+abbrev pub TellsGuestIn : (plan sheet : List ℕ) → (id : ℕ) → Verdict → Type 0
+TellsGuestIn plan sheet id r = r ≡ guestTold (pairGuestVerdict plan sheet id)
+
+-- `cs_amended_task_verdict` gives the task's verdict in the amended plan, told in numbers.
+abbrev pub TellsTaskIn : (plan sheet : List ℕ) → (id number : ℕ) → Verdict → Type 0
+TellsTaskIn plan sheet id number r = r ≡ taskTold (pairTaskVerdict plan sheet id number)
+
+-- `cs_amended_accept` gives the amended plan's acceptance, told in numbers.
+abbrev pub TellsPair : (plan sheet : List ℕ) → Verdict → Type 0
+TellsPair plan sheet r = r ≡ planTold (pairAcceptance plan sheet)
+
+-- `cs_amended_smallest_capacity` gives the capacity or the refusal, told in numbers.
+abbrev pub TellsCapacityIn : (plan sheet : List ℕ) → (id : ℕ) → Verdict → Type 0
+TellsCapacityIn plan sheet id r = r ≡ capacityTold (pairSmallest plan sheet id)
 
 -- `cs_tick` gives the refusal, the answer told in numbers, and the next state.
 abbrev pub TellsTick : Dispatcher → Tick → Type 0

@@ -3,6 +3,7 @@
 use dispatcher::Dispatcher;
 use plan::Refusal;
 
+mod amending;
 mod blocks;
 mod dispatching;
 mod judging;

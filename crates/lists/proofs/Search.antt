@@ -81,6 +81,19 @@ says-one p d x (At y) (At z) a b =
 pub least-is : (p : ℕ → Bool) (d x : ℕ) (r : Found) → Says p d x r → r ≡ least p d x
 least-is p d x r a = says-one p d x r (least p d x) a (least-says p d x)
 
+-- tests that agree on the numbers searched find the same
+says-ext : (p q : ℕ → Bool) (d x : ℕ) (f : Found) → ((z : ℕ) → x ≤ z → z < x + d → p z ≡ q z) → Says p d x f → Says q d x f
+says-ext p q d x Nothing h w = record { never = λ z l b. sym (h z l b) ∙ w .never z l b }
+says-ext p q d x (At y) h w = record {
+  low = w .low;
+  high = w .high;
+  holds = sym (h y (w .low) (w .high)) ∙ w .holds;
+  first = λ z l b. sym (h z l (omega (arith, w .high))) ∙ w .first z l b;
+}
+
+pub least-ext : (p q : ℕ → Bool) (d x : ℕ) → ((z : ℕ) → x ≤ z → z < x + d → p z ≡ q z) → least p d x ≡ least q d x
+least-ext p q d x h = least-is q d x (least p d x) (says-ext p q d x (least p d x) h (least-says p d x))
+
 -- p fails at each number below k
 abbrev pub Passed : (ℕ → Bool) → ℕ → Type 0
 Passed p k = (z : ℕ) → z < k → p z ≡ false

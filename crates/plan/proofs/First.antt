@@ -38,6 +38,12 @@ unfolding orElse
 refused-here zero k after h = absurd (omega arith)
 refused-here (suc n) k after h = refl
 
+-- where the number is 0 what comes after stands
+pub or-after : (x k : ℕ) (after : Refusal) → x ≤ 0 → after ≡ orElse x k after
+unfolding orElse
+or-after zero k after h = refl
+or-after (suc n) k after h = absurd (omega arith)
+
 -- where there is no refusal there is none here and none after
 pub after-zero : (x k : ℕ) (r : Refusal) → orElse x k r .number ≡ 0 → (x ≡ 0) × (r .number ≡ 0)
 unfolding orElse
@@ -67,6 +73,12 @@ module _ {A : Type 0} (refuse : ℕ → ℕ → A) where
   unfolding refusedBy
   number-refuses zero place v h = absurd (omega arith)
   number-refuses (suc x) place v h = refl
+
+  -- number 0 leaves the answer
+  pub number-passes : (x place : ℕ) (v : A) → x ≤ 0 → v ≡ refusedBy refuse x place v
+  unfolding refusedBy
+  number-passes zero place v h = refl
+  number-passes (suc x) place v h = absurd (omega arith)
 
   -- a test that fails refuses
   pub test-refuses :

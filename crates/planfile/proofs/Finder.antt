@@ -9,20 +9,10 @@ use Rattle.lists.specs.declared.Found.{Found}
 use Rattle.lists.specs.declared.Found.the-variants.{At, Nothing}
 use Rattle.plan.specs.declared.Refusal.{Refusal}
 use Rattle.plan.specs.First.{refused, orElse}
-use Rattle.planfile.specs.File.{blockAt, idAt, blocksIn, fileRefusal}
-use Rattle.planfile.specs.Finder.{firstWith, placeOrSeven, foundPlace, partBy, found}
+use Rattle.blockfile.specs.File.{blockAt, idAt, blocksIn, fileRefusal, firstWith}
+use Rattle.planfile.specs.Finder.{placeOrSeven, foundPlace, partBy, found}
 use Rattle.lists.proofs.Search.{Says, least-says}
-
--- A number other than 0 stands.
-or-here : (n k : ℕ) (after : Refusal) → 0 < n → refused n k ≡ orElse n k after
-unfolding orElse
-or-here zero k after h = absurd (omega arith)
-or-here (suc n) k after h = refl
-
--- Where the number is 0, what comes after stands.
-or-after : (n k : ℕ) (after : Refusal) → n ≡ 0 → after ≡ orElse n k after
-unfolding orElse
-or-after n k after e = rw e refl
+use Rattle.plan.proofs.First.{refused-here, or-after}
 
 -- No number in the end, so none here and none after.
 or-none : (n k : ℕ) (after : Refusal) → orElse n k after .number ≡ 0 → (n ≡ 0) × (orElse n k after ≡ after)
@@ -40,13 +30,13 @@ module _ (s : List ℕ) (id : ℕ) where
   -- Where reading is refused, finding is.
   pub place-refused : (r : Refusal) → r ≡ fileRefusal s → 0 < r .number → r ≡ foundPlace s id
   unfolding foundPlace
-  place-refused r e h = rw (← e) (or-here (r .number) (r .place) (placeOrSeven (firstWith s id)) h)
+  place-refused r e h = rw (← e) (refused-here (r .number) (r .place) (placeOrSeven (firstWith s id)) h)
 
   -- Reading is not refused: the place is given, or 7.
   pub place-found : (r q : Refusal) → r ≡ fileRefusal s → r .number ≤ 0 → q ≡ placeOrSeven (firstWith s id)
       → q ≡ foundPlace s id
   unfolding foundPlace
-  place-found r q e h p = p ∙ rw (← e) (or-after (r .number) (r .place) (placeOrSeven (firstWith s id)) (omega arith))
+  place-found r q e h p = p ∙ rw (← e) (or-after (r .number) (r .place) (placeOrSeven (firstWith s id)) h)
 
   -- On a refusal nothing is handed back.
   pub found-none : (r : Refusal) → r ≡ foundPlace s id → 0 < r .number → [] ≡ found s id

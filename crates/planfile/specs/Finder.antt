@@ -1,17 +1,11 @@
 -- A guest's block in a plan's bytes, found by the guest's id.
 use mathlib.Core.List.{List, []}
 use Prim.Native.Nat.{ℕ, zero, suc}
-use lib.Dec.{eqb}
-use Rattle.lists.specs.Search.{least}
 use Rattle.lists.specs.declared.Found.{Found}
 use Rattle.lists.specs.declared.Found.the-variants.{At, Nothing}
 use Rattle.plan.specs.declared.Refusal.{Refusal}
 use Rattle.plan.specs.First.{refused, orElse}
-use Rattle.planfile.specs.File.{blockAt, idAt, blocksIn, fileRefusal}
-
--- The first place whose block has the id.
-abbrev pub firstWith : List ℕ → (id : ℕ) → Found
-firstWith s id = least (λ k. eqb (idAt s k) id) (blocksIn s) 0
+use Rattle.blockfile.specs.File.{blockAt, fileRefusal, firstWith}
 
 -- What was found as number and place: 0 and the place, or refusal 7.
 abbrev pub placeOrSeven : Found → Refusal

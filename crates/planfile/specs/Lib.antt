@@ -1,4 +1,3 @@
-pub mod File
 pub mod Records
 pub mod Finder
 pub mod Promises

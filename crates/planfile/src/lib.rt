@@ -2,14 +2,13 @@
 ghost use mathlib.Core.Path.{_≡_};
 ghost use Prim.Native.Nat.{_≤_};
 ghost use Rattle.plan.specs.Ranges.{mostGuests};
-ghost use Rattle.planfile.specs.File.{blocksIn};
-ghost use Rattle.planfile.specs.Records.{recordsOf};
+ghost use Rattle.blockfile.specs.File.{blockAt, blocksIn};
+ghost use Rattle.blockfile.specs.Records.{recordsOf};
 ghost use Rattle.planfile.specs.Promises.{Reads, Finds, FindsPlace};
 use block::layout;
 use plan::Plan;
 use plan::Refusal;
 
-mod files;
 mod finding;
 
 pub use block::write;
@@ -26,10 +25,10 @@ pub struct Reading {
 fn with_records(bytes: &[u8], n: usize, refusal: Refusal) -> Reading
     requires { ⌜ (n ≤ mostGuests) × (n ≤ blocksIn (now bytes)) ⌝ }
     ensures { λ r. ⌜
-        r ≡ record { refusal = refusal; plan = record { count = n; guests = recordsOf (now (bytes .entry)) n } }
+        r ≡ record { refusal = refusal; plan = record { count = n; guests = recordsOf (blockAt (now (bytes .entry))) n } }
         ⌝ }
 {
-    let guests = files::records_of(bytes, n);
+    let guests = blockfile::records_of(bytes, n);
     Reading {
         refusal,
         plan: Plan {
@@ -43,7 +42,7 @@ fn with_records(bytes: &[u8], n: usize, refusal: Refusal) -> Reading
 pub fn read(bytes: &[u8]) -> Reading
     ensures { λ r. ⌜ Reads (now (bytes .entry)) r ⌝ }
 {
-    let refusal = files::refusal_of(bytes);
+    let refusal = blockfile::refusal_of(bytes, true);
     if 0 < refusal.number {
         return with_records(bytes, 0, refusal);
     }
@@ -54,11 +53,11 @@ pub fn read(bytes: &[u8]) -> Reading
 pub fn find_place(bytes: &[u8], id: u32) -> Refusal
     ensures { λ r. ⌜ FindsPlace (now (bytes .entry)) id r ⌝ }
 {
-    let r = files::refusal_of(bytes);
+    let r = blockfile::refusal_of(bytes, true);
     if 0 < r.number {
         return r;
     }
-    finding::place_or_seven(finding::first_with(bytes, id, bytes.len() / layout::SIZE))
+    finding::place_or_seven(blockfile::first_with(bytes, id))
 }
 
 // The guest's block as it stands in the bytes; an empty part on a refusal.
@@ -69,5 +68,5 @@ pub fn find(bytes: &[u8], id: u32) -> &[u8]
     if 0 < r.number {
         return &bytes[..0];
     }
-    files::block_at(bytes, r.place as usize)
+    blockfile::block_at(bytes, r.place as usize)
 }

@@ -143,10 +143,10 @@ module _ (g : Guest) (p : ℕ) (fits : GuestInTypes g) (low : p ≤ lastPlace) (
       (rw n (zero-between (unusedFrom (g .tasks)) checkWord (λ k h l. at k l ∙ written .unused k h (omega arith))))
 
   -- What the reader says of what the writer writes.
-  pub number-back : (new : Bool) → new ≡ true → blockNumber (blockOf g p) p new ≡ 0
+  pub number-back : (new : Bool) → new ≡ true → blockNumber (blockOf g p) (ownPlace (blockOf g p) p) new ≡ 0
   number-back new e =
       sym
-      (none (blockOf g p) p new sums opens (and-true (ap guestOk record-is ∙ head) e) zeros (ap tasksOk record-is ∙ tasks-pass))
+      (none (blockOf g p) (ownPlace (blockOf g p) p) new sums opens (and-true (ap guestOk record-is ∙ head) e) zeros (ap tasksOk record-is ∙ tasks-pass))
 
   pub guest-back : guestOf (blockOf g p) ≡ clearedGuest g
   guest-back = record-is

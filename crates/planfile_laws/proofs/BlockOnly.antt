@@ -51,9 +51,9 @@ entry-word P i k l h run every deadline =
     ]
 
 module _ (b : List ℕ) (p : ℕ) (new : Bool) (long : length b ≡ blockSize) (bytes : Bytes b)
-    (ok : blockNumber b p new ≡ 0) where
-  passed : BlockIn b p new
-  passed = block-in b p new ok
+    (ok : blockNumber b (ownPlace b p) new ≡ 0) where
+  passed : BlockIn b (ownPlace b p) new
+  passed = block-in b (ownPlace b p) new ok
 
   few : taskCount b ≤ mostTasks
   few = few-in-block b new (passed .heads)

@@ -1,7 +1,7 @@
 -- Each test of plan files fails exactly when document 01's cause holds. Assumes nothing.
 use mathlib.Core.Path.{_≡_, refl, sym}
 use mathlib.Core.Logic.{_⊎_, inl, inr, ⊎-elim}
-use mathlib.Core.Bool.{Bool, true, false, false≢true, not, _&&_}
+use mathlib.Core.Bool.{Bool, true, false, false≢true, not, _&&_, _||_, and-true}
 use mathlib.Core.List.{List}
 use Prim.Native.Nat.{ℕ, _+_, _*_, _-_, _%_, _≤_, _<_}
 use native.Mathlib.Decide.{decLt}
@@ -19,7 +19,7 @@ use Rattle.plan.specs.Order.{newId}
 use Rattle.lists.specs.Exactly.{_exactlyWhen_}
 use Rattle.block.specs.Layout.{blockSize, blockWords, guestKind, spareFrom, spareTo, unusedFrom, checkWord}
 use Rattle.block.specs.Reading.{kindIn, placeIn, taskCount, sumsToZero, kindOk, ownPlace, zeroBetween, zerosOk}
-use Rattle.planfile.specs.File.{mostBytes, sizeOk}
+use Rattle.blockfile.specs.File.{mostBytes, sizeOk}
 use Rattle.planfile_laws.specs.Causes.{Outside, WrongLength, WrongSum, WrongOpening, WrongHead, Seen, WrongGuest, WrongZero, TaskOutside, WrongTask}
 use Rattle.lists.proofs.All.{all-false, all-fails}
 use Rattle.block.proofs.Table.{word-bytes, zero-bytes}
@@ -69,10 +69,12 @@ length-fails n =
 pub sum-fails : (b : List ℕ) → (sumsToZero b ≡ false) exactlyWhen WrongSum b
 sum-fails b = eqb-fails (wrapped (word b) blockWords) 0
 
--- 3: kind and place.
-pub opening-fails : (b : List ℕ) (place : ℕ) → ((kindOk b && ownPlace b place) ≡ false) exactlyWhen WrongOpening b place
-opening-fails b place =
+-- 3: kind and, where it counts, place.
+pub opening-fails : (placed : Bool) (b : List ℕ) (place : ℕ)
+    → ((kindOk b && (not placed || ownPlace b place)) ≡ false) exactlyWhen WrongOpening placed b place
+opening-fails true b place =
     both-fail (kindOk b) (ownPlace b place) (eqb-fails (kindIn b) guestKind) (eqb-fails (placeIn b) place)
+opening-fails false b place = rw (and-true (kindOk b)) (eqb-fails (kindIn b) guestKind)
 
 -- 4: the guest's own numbers.
 pub head-fails : (g : Guest) → (guestOk g ≡ false) exactlyWhen WrongHead g

@@ -1,7 +1,7 @@
--- When each refusal of a plan's bytes is given: 1 to 6 of reading, and 7 of the finder. Assumes nothing.
+-- When each refusal of bytes is given: 1 to 6 of reading blocks, places counting or not, and 7 of the finder. Assumes nothing.
 use mathlib.Core.Path.{_≡_, refl, sym, ap, _∙_}
 use mathlib.Core.Logic.{_⊎_, inl, inr, ⊎-elim}
-use mathlib.Core.Bool.{Bool, true, false, false≢true, not, _&&_}
+use mathlib.Core.Bool.{Bool, true, false, false≢true, not, _&&_, _||_}
 use mathlib.Core.List.{List, [], _∷_}
 use Prim.Native.Nat.{ℕ, zero, suc, _≤_, _<_}
 use native.Mathlib.Omega.{arith}
@@ -17,14 +17,15 @@ use Rattle.plan.specs.Order.{newId}
 use Rattle.plan.specs.Ranges.{guestOk, tasksOk}
 use Rattle.lists.specs.Exactly.{_exactlyWhen_, _notBut_}
 use Rattle.block.specs.Reading.{guestOf, sumsToZero, kindOk, ownPlace, zerosOk, blockNumber}
-use Rattle.planfile.specs.Finder.{firstWith, placeOrSeven, foundPlace, found}
-use Rattle.planfile.specs.File.{blockAt, idAt, blocksIn, sizeOk, numberAt, sizedBy, fileRefusal}
+use Rattle.planfile.specs.Finder.{placeOrSeven, foundPlace, found}
+use Rattle.blockfile.specs.File.{blockAt, idAt, blocksIn, sizeOk, numberAt, sizedBy, blocksRefusal, fileRefusal, firstWith}
 use Rattle.planfile_laws.specs.Exact.{FirstAt}
 use Rattle.planfile_laws.specs.Causes.{WrongLength, WrongSum, WrongOpening, WrongGuest, WrongZero, WrongTask}
 use Rattle.lists.proofs.All.{and-right, all-at}
 use Rattle.lists.proofs.Search.{Says, least-says, count-at, count-none}
+use Rattle.plan.proofs.First.{or-after}
 use Rattle.block.proofs.Reading.{block-in}
-use Rattle.planfile.proofs.File.{sized, unsized, file-in}
+use Rattle.blockfile.proofs.File.{sized, unsized, blocks-in}
 use Rattle.planfile.proofs.Finder.{found-none, found-there}
 use Rattle.planfile_laws.proofs.Causes.{length-fails, sum-fails, opening-fails, guest-fails, zeros-fail, tasks-fail}
 use Rattle.lists.proofs.Exactly.{among, not-given, given-first, given-later}
@@ -42,121 +43,125 @@ most-six true true true true false = omega arith
 most-six true true true true true = omega arith
 
 -- The numbers of block k: each is given exactly when its cause holds and none of those before it does.
-module _ (s : List ℕ) (k : ℕ) where
+module _ (placed : Bool) (s : List ℕ) (k : ℕ) where
   -- 2: the block's words do not sum to zero.
-  pub two-exactly : (numberAt s k ≡ 2) exactlyWhen WrongSum (blockAt s k)
+  pub two-exactly : (numberAt placed s k ≡ 2) exactlyWhen WrongSum (blockAt s k)
   unfolding numberAt blockNumber among
   two-exactly = given-first (sumsToZero (blockAt s k)) 2 _ (omega arith) refl (sum-fails (blockAt s k))
 
   -- 3: the kind is not 1, or the place is not the block's own.
-  pub three-exactly : (numberAt s k ≡ 3) exactlyWhen (WrongSum (blockAt s k) notBut WrongOpening (blockAt s k) k)
+  pub three-exactly : (numberAt placed s k ≡ 3) exactlyWhen (WrongSum (blockAt s k) notBut WrongOpening placed (blockAt s k) k)
   unfolding numberAt blockNumber among
   three-exactly =
       given-later (sumsToZero (blockAt s k)) 2 3 _ (λ q. omega arith) (sum-fails (blockAt s k))
-      (given-first (kindOk (blockAt s k) && ownPlace (blockAt s k) k) 3 _ (omega arith) refl (opening-fails (blockAt s k) k))
+      (given-first (kindOk (blockAt s k) && (not placed || ownPlace (blockAt s k) k)) 3 _ (omega arith) refl (opening-fails placed (blockAt s k) k))
 
   -- 4: the id is 0 or already seen in an earlier block, or capacity, period or number of tasks is outside its range.
   pub four-exactly :
-      (numberAt s k ≡ 4)
+      (numberAt placed s k ≡ 4)
       exactlyWhen
-      (WrongSum (blockAt s k) notBut WrongOpening (blockAt s k) k notBut WrongGuest (guestOf (blockAt s k)) (idAt s) k)
+      (WrongSum (blockAt s k) notBut WrongOpening placed (blockAt s k) k notBut WrongGuest (guestOf (blockAt s k)) (idAt s) k)
   unfolding numberAt blockNumber among
   four-exactly =
       given-later (sumsToZero (blockAt s k)) 2 4 _ (λ q. omega arith) (sum-fails (blockAt s k))
-      (given-later (kindOk (blockAt s k) && ownPlace (blockAt s k) k) 3 4 _ (λ q. omega arith) (opening-fails (blockAt s k) k)
+      (given-later (kindOk (blockAt s k) && (not placed || ownPlace (blockAt s k) k)) 3 4 _ (λ q. omega arith) (opening-fails placed (blockAt s k) k)
       (given-first (guestOk (guestOf (blockAt s k)) && newId (idAt s) k) 4 _ (omega arith) refl
       (guest-fails (guestOf (blockAt s k)) (idAt s) k)))
 
   -- 5: a byte that must be zero is not.
   pub five-exactly :
-      (numberAt s k ≡ 5)
+      (numberAt placed s k ≡ 5)
       exactlyWhen
       (WrongSum (blockAt s k)
-      notBut WrongOpening (blockAt s k) k
+      notBut WrongOpening placed (blockAt s k) k
       notBut WrongGuest (guestOf (blockAt s k)) (idAt s) k
       notBut WrongZero (blockAt s k))
   unfolding numberAt blockNumber among
   five-exactly =
       given-later (sumsToZero (blockAt s k)) 2 5 _ (λ q. omega arith) (sum-fails (blockAt s k))
-      (given-later (kindOk (blockAt s k) && ownPlace (blockAt s k) k) 3 5 _ (λ q. omega arith) (opening-fails (blockAt s k) k)
+      (given-later (kindOk (blockAt s k) && (not placed || ownPlace (blockAt s k) k)) 3 5 _ (λ q. omega arith) (opening-fails placed (blockAt s k) k)
       (given-later (guestOk (guestOf (blockAt s k)) && newId (idAt s) k) 4 5 _ (λ q. omega arith)
       (guest-fails (guestOf (blockAt s k)) (idAt s) k)
       (given-first (zerosOk (blockAt s k)) 5 _ (omega arith) refl (zeros-fail (blockAt s k)))))
 
   -- 6: a task's run, period or deadline is outside its range.
   pub six-exactly :
-      (numberAt s k ≡ 6)
+      (numberAt placed s k ≡ 6)
       exactlyWhen (
       WrongSum (blockAt s k)
-      notBut WrongOpening (blockAt s k) k
+      notBut WrongOpening placed (blockAt s k) k
       notBut WrongGuest (guestOf (blockAt s k)) (idAt s) k
       notBut WrongZero (blockAt s k)
       notBut WrongTask (guestOf (blockAt s k)))
   unfolding numberAt blockNumber among
   six-exactly =
       given-later (sumsToZero (blockAt s k)) 2 6 _ (λ q. omega arith) (sum-fails (blockAt s k))
-      (given-later (kindOk (blockAt s k) && ownPlace (blockAt s k) k) 3 6 _ (λ q. omega arith) (opening-fails (blockAt s k) k)
+      (given-later (kindOk (blockAt s k) && (not placed || ownPlace (blockAt s k) k)) 3 6 _ (λ q. omega arith) (opening-fails placed (blockAt s k) k)
       (given-later (guestOk (guestOf (blockAt s k)) && newId (idAt s) k) 4 6 _ (λ q. omega arith)
       (guest-fails (guestOf (blockAt s k)) (idAt s) k)
       (given-later (zerosOk (blockAt s k)) 5 6 _ (λ q. omega arith) (zeros-fail (blockAt s k))
       (given-first (tasksOk (guestOf (blockAt s k))) 6 [] (omega arith) refl (tasks-fail (guestOf (blockAt s k)))))))
 
-  never-one : numberAt s k ≡ 1 → ⊥
+  never-one : numberAt placed s k ≡ 1 → ⊥
   unfolding numberAt blockNumber among
   never-one = not-given _ 1 (omega arith) refl
 
-module _ (s : List ℕ) where
+module _ (placed : Bool) (s : List ℕ) where
   -- 1: the length is 0, not a multiple of 512, or above 4,096.
-  pub one-exactly : (fileRefusal s .number ≡ 1) exactlyWhen WrongLength (length s)
+  pub one-exactly : (blocksRefusal placed s .number ≡ 1) exactlyWhen WrongLength (length s)
   one-exactly =
-      one-first (numberAt s) (blocksIn s) (fileRefusal s) (never-one s) (sizeOk (length s))
-      (λ e. sym (unsized s e)) (λ e. sym (sized s e)) (length-fails (length s))
+      one-first (numberAt placed s) (blocksIn s) (blocksRefusal placed s) (never-one placed s) (sizeOk (length s))
+      (λ e. sym (unsized placed s e)) (λ e. sym (sized placed s e)) (length-fails (length s))
 
   -- 1 comes with place 0.
-  pub one-place : fileRefusal s .number ≡ 1 → fileRefusal s ≡ refused 1 0
-  one-place e = sym (unsized s (length-fails (length s) .1 (one-exactly .0 e)))
+  pub one-place : blocksRefusal placed s .number ≡ 1 → blocksRefusal placed s ≡ refused 1 0
+  one-place e = sym (unsized placed s (length-fails (length s) .1 (one-exactly .0 e)))
 
   -- A number from 2 on at place k: the length is right, block k has that number, and every block before it has none.
   pub block-exactly : (n k : ℕ)
-      → (fileRefusal s ≡ refused (suc (suc n)) k)
-      exactlyWhen (WrongLength (length s) notBut FirstAt (numberAt s) (blocksIn s) 0 (suc (suc n)) k)
+      → (blocksRefusal placed s ≡ refused (suc (suc n)) k)
+      exactlyWhen (WrongLength (length s) notBut FirstAt (numberAt placed s) (blocksIn s) 0 (suc (suc n)) k)
   block-exactly n k =
-      place-first (numberAt s) (blocksIn s) (fileRefusal s) (never-one s) (sizeOk (length s)) n k
-      (λ e. sym (unsized s e)) (λ e. sym (sized s e)) (length-fails (length s))
+      place-first (numberAt placed s) (blocksIn s) (blocksRefusal placed s) (never-one placed s) (sizeOk (length s)) n k
+      (λ e. sym (unsized placed s e)) (λ e. sym (sized placed s e)) (length-fails (length s))
 
-  number-most : (k : ℕ) → numberAt s k ≤ 6
+  number-most : (k : ℕ) → numberAt placed s k ≤ 6
   unfolding numberAt blockNumber
   number-most k = most-six _ _ _ _ _
 
   -- No number of reading is above 6.
-  most-by : (b : Bool) → sizedBy b s .number ≤ 6
+  most-by : (b : Bool) → sizedBy b placed s .number ≤ 6
   unfolding sizedBy
   most-by false = omega arith
-  most-by true = first-most (numberAt s) 6 number-most (blocksIn s) 0
+  most-by true = first-most (numberAt placed s) 6 number-most (blocksIn s) 0
 
-  most : fileRefusal s .number ≤ 6
-  unfolding fileRefusal
+  pub most : blocksRefusal placed s .number ≤ 6
+  unfolding blocksRefusal
   most = most-by (sizeOk (length s))
 
+  -- No two blocks that are read have one id.
+  pub apart : blocksRefusal placed s .number ≡ 0 → (j k : ℕ) → j < k → k < blocksIn s → idAt s j ≡ idAt s k → ⊥
+  unfolding numberAt newId
+  apart e j k l h q =
+      let o =
+      block-in (blockAt s k) (not placed || ownPlace (blockAt s k) k) (newId (idAt s) k) (blocks-in placed s e .blocks k h) in
+      let n = and-right (guestOk (guestOf (blockAt s k))) (newId (idAt s) k) (o .heads) in
+      false≢true (sym (ap not (eq-eqb _ _ q)) ∙ all-at _ k j l n)
+
 -- Where the search gave the number, reading gave none.
-past-file : (x q n k : ℕ) (r : Refusal) → x ≤ 6 → orElse x q r ≡ refused n k → (6 < n) ⊎ (n ≡ 0)
+pub past-file : (x q n k : ℕ) (r : Refusal) → x ≤ 6 → orElse x q r ≡ refused n k → (6 < n) ⊎ (n ≡ 0)
     → (x ≡ 0) × (r ≡ refused n k)
 unfolding orElse
 past-file zero q n k r l e h = (refl, e)
 past-file (suc x) q n k r l e h =
     absurd (let a : suc x ≡ n = ap (λ (r : Refusal). r .number) e in ⊎-elim (λ b. omega arith) (λ b. omega arith) h)
 
--- Where reading gave none, the search decides.
-orElse-zero : (x q : ℕ) (r : Refusal) → x ≡ 0 → orElse x q r ≡ r
-unfolding orElse
-orElse-zero x q r e = rw e refl
-
 module _ (s : List ℕ) (id : ℕ) where
   searched : (n k : ℕ) → foundPlace s id ≡ refused n k → (6 < n) ⊎ (n ≡ 0)
       → (fileRefusal s .number ≡ 0) × (placeOrSeven (firstWith s id) ≡ refused n k)
   unfolding foundPlace
   searched n k e h =
-      past-file (fileRefusal s .number) (fileRefusal s .place) n k (placeOrSeven (firstWith s id)) (most s) e h
+      past-file (fileRefusal s .number) (fileRefusal s .place) n k (placeOrSeven (firstWith s id)) (most true s) e h
 
   -- What 7 says, by what the search found.
   seven-by : (f : Found) → Says (λ k. eqb (idAt s k) id) (blocksIn s) 0 f → placeOrSeven f ≡ refused 7 0 → (k : ℕ)
@@ -180,18 +185,10 @@ module _ (s : List ℕ) (id : ℕ) where
         let o = searched 7 0 e (inl (omega arith)) in
         (o .0, seven-by (firstWith s id) (least-says _ (blocksIn s) 0) (o .1)),
     λ h.
-        orElse-zero (fileRefusal s .number) (fileRefusal s .place) (placeOrSeven (firstWith s id)) (h .0)
+        sym (or-after (fileRefusal s .number) (fileRefusal s .place) (placeOrSeven (firstWith s id)) (omega (arith, h .0)))
         ∙ ap placeOrSeven
         (sym (count-none (λ k. eqb (idAt s k) id) (blocksIn s) (blocksIn s) (omega arith) (λ z l. ne-eqb _ _ (h .1 z l)))),
   )
-
-  -- No two blocks of a well-formed plan have one id.
-  apart : fileRefusal s .number ≡ 0 → (j k : ℕ) → j < k → k < blocksIn s → idAt s j ≡ idAt s k → ⊥
-  unfolding numberAt newId
-  apart e j k l h q =
-      let o = block-in (blockAt s k) k (newId (idAt s) k) (file-in s e .blocks k h) in
-      let n = and-right (guestOk (guestOf (blockAt s k))) (newId (idAt s) k) (o .heads) in
-      false≢true (sym (ap not (eq-eqb _ _ q)) ∙ all-at _ k j l n)
 
   -- A block is found at place k: the plan is well formed, and block k has the id.
   pub found-exactly : (k : ℕ)
@@ -202,10 +199,10 @@ module _ (s : List ℕ) (id : ℕ) where
         let o = searched 0 k e (inr refl) in
         (o .0, there-by (firstWith s id) k (least-says _ (blocksIn s) 0) (o .1)),
     λ h.
-        orElse-zero (fileRefusal s .number) (fileRefusal s .place) (placeOrSeven (firstWith s id)) (h .0)
+        sym (or-after (fileRefusal s .number) (fileRefusal s .place) (placeOrSeven (firstWith s id)) (omega (arith, h .0)))
         ∙ ap placeOrSeven
         (sym (count-at (λ k. eqb (idAt s k) id) (blocksIn s) k (h .1 .0)
-        (λ z l. ne-eqb _ _ (λ q. apart (h .0) z k l (h .1 .0) (q ∙ sym (h .1 .1)))) (eq-eqb _ _ (h .1 .1)))),
+        (λ z l. ne-eqb _ _ (λ q. apart true s (h .0) z k l (h .1 .0) (q ∙ sym (h .1 .1)))) (eq-eqb _ _ (h .1 .1)))),
   )
 
   -- Where block k was found, the finder hands it back.

@@ -8,7 +8,7 @@ use native.Mathlib.Omega.{arith}
 use lib.ListN.{length, take, length-append}
 use lib.Seq.{take-at, drop-at, take-add}
 use Rattle.block.specs.Layout.{blockSize}
-use Rattle.planfile.specs.File.{blockAt}
+use Rattle.blockfile.specs.File.{blockAt}
 use Rattle.planfile_laws.specs.File.{joined}
 
 -- Parts that agree join to the same.
@@ -17,29 +17,34 @@ unfolding joined
 joined-ext f g zero h = refl
 joined-ext f g (suc n) h = rw (joined-ext f g n (λ k l. h k (omega arith)), h n (omega arith)) refl
 
-module _ (f : ℕ → List ℕ) (long : (k : ℕ) → length (f k) ≡ blockSize) where
-  pub joined-length : (n : ℕ) → length (joined f n) ≡ blockSize * n
-  unfolding joined
-  joined-length zero = refl
-  joined-length (suc n) = simp length-append (omega (arith, joined-length n, long n))
+-- Parts of a block's length, as far as they are joined.
+abbrev EachLong : (ℕ → List ℕ) → ℕ → Type 0
+EachLong f n = (k : ℕ) → k < n → length (f k) ≡ blockSize
 
-  -- Each part, with more behind.
-  joined-before : (n : ℕ) (t : List ℕ) (k : ℕ) → k < n → blockAt (joined f n ++ t) k ≡ f k
-  unfolding joined
-  joined-before zero t k l = absurd (omega arith)
-  joined-before (suc n) t k l =
-      rw append-assoc
-      (⊎-elim
-      (λ (e : k ≡ n).
-      rw e
-      (ap (take blockSize) (drop-at (joined f n) (f n ++ t) (blockSize * n) (joined-length n))
-      ∙ take-at (f n) t blockSize (long n)))
-      (λ (m : k < n). joined-before n (f n ++ t) k m)
-      (eq-or-lt-of-le {n = k} {m = n} (omega arith)))
+pub joined-length : (f : ℕ → List ℕ) (n : ℕ) → EachLong f n → length (joined f n) ≡ blockSize * n
+unfolding joined
+joined-length f zero long = refl
+joined-length f (suc n) long =
+    simp length-append (omega (arith, joined-length f n (λ k l. long k (omega arith)), long n (omega arith)))
 
-  -- Each part is a block of the whole.
-  pub joined-at : (n k : ℕ) → k < n → blockAt (joined f n) k ≡ f k
-  joined-at n k l = rw (← append-nil (joined f n)) (joined-before n [] k l)
+-- Each part, with more behind.
+joined-before : (f : ℕ → List ℕ) (n : ℕ) → EachLong f n → (t : List ℕ) (k : ℕ) → k < n → blockAt (joined f n ++ t) k ≡ f k
+unfolding joined
+joined-before f zero long t k l = absurd (omega arith)
+joined-before f (suc n) long t k l =
+    rw append-assoc
+    (⊎-elim
+    (λ (e : k ≡ n).
+    rw e
+    (ap (take blockSize)
+    (drop-at (joined f n) (f n ++ t) (blockSize * n) (joined-length f n (λ k l. long k (omega arith))))
+    ∙ take-at (f n) t blockSize (long n (omega arith))))
+    (λ (m : k < n). joined-before f n (λ k l. long k (omega arith)) (f n ++ t) k m)
+    (eq-or-lt-of-le {n = k} {m = n} (omega arith)))
+
+-- Each part is a block of the whole.
+pub joined-at : (f : ℕ → List ℕ) (n : ℕ) → EachLong f n → (k : ℕ) → k < n → blockAt (joined f n) k ≡ f k
+joined-at f n long k l = rw (← append-nil (joined f n)) (joined-before f n long [] k l)
 
 -- The blocks of a list joined are its first bytes.
 pub blocks-joined : (s : List ℕ) (n : ℕ) → joined (blockAt s) n ≡ take (blockSize * n) s

@@ -9,14 +9,15 @@ use lib.Seq.{take-all, getD-take, getD-drop}
 use Rattle.plan.specs.Ranges.{mostGuests}
 use Rattle.block.specs.Layout.{blockSize}
 use Rattle.words.specs.Bytes.{Bytes}
-use Rattle.block.specs.Reading.{guestOf}
+use Rattle.block.specs.Reading.{guestOf, ownPlace}
 use Rattle.plan.specs.declared.Guest.{Guest}
 use Rattle.plan.specs.Records.{guestAt, absent, blank}
 use Rattle.plan.specs.First.{fine}
 use Rattle.plan.specs.Order.{newId, numberOf, guestNumber, planRefusal}
 use Rattle.block.specs.Writing.{blockOf}
-use Rattle.planfile.specs.File.{blockAt, idAt, blocksIn, numberAt, fileRefusal}
-use Rattle.planfile.specs.Records.{recordsOf, planBy, readOf}
+use Rattle.blockfile.specs.File.{blockAt, idAt, blocksIn, numberAt, fileRefusal}
+use Rattle.blockfile.specs.Records.{recordsOf}
+use Rattle.planfile.specs.Records.{planBy, readOf}
 use Rattle.planfile_laws.specs.File.{fileOf}
 use Rattle.plan.proofs.Order.{counted}
 use Rattle.lists.proofs.All.{all-ext}
@@ -24,7 +25,7 @@ use Rattle.lists.proofs.Refusals.{none-left, go-on}
 use Rattle.block.proofs.Reading.{block-in}
 use Rattle.plan.proofs.First.{first-fine}
 use Rattle.lists.proofs.Table.{table-before}
-use Rattle.planfile.proofs.File.{FileIn, file-in, part-long}
+use Rattle.blockfile.proofs.File.{FileIn, file-in, part-long}
 use Rattle.planfile_laws.proofs.BlockOnly.{written-again}
 use Rattle.planfile_laws.proofs.Joined.{joined-ext, blocks-joined}
 
@@ -48,17 +49,17 @@ module _ (s : List ℕ) (ok : fileRefusal s .number ≡ 0) where
       written-again (blockAt s k) k (newId (idAt s) k) (part-long s (blockAt s k) k refl l) (block-bytes bytes k)
       (inside .blocks k l)
 
-  guest-at : (k : ℕ) → k < blocksIn s → guestAt (recordsOf s (blocksIn s)) k ≡ guestOf (blockAt s k)
+  guest-at : (k : ℕ) → k < blocksIn s → guestAt (recordsOf (blockAt s) (blocksIn s)) k ≡ guestOf (blockAt s k)
   unfolding recordsOf
   guest-at k l =
       table-before (λ k. guestOf (blockAt s k)) absent (blocksIn s)
       (drop (blocksIn s) (replicate mostGuests blank)) k l
 
-  plan-is : readOf s .plan ≡ record { count = blocksIn s; guests = recordsOf s (blocksIn s) }
+  pub plan-is : readOf s .plan ≡ record { count = blocksIn s; guests = recordsOf (blockAt s) (blocksIn s) }
   unfolding readOf planBy
   plan-is = rw ok refl
 
-  again : Bytes s → fileOf (record { count = blocksIn s; guests = recordsOf s (blocksIn s) }) ≡ s
+  again : Bytes s → fileOf (record { count = blocksIn s; guests = recordsOf (blockAt s) (blocksIn s) }) ≡ s
   unfolding fileOf
   again bytes =
       let z = inside .size .whole in
@@ -68,24 +69,24 @@ module _ (s : List ℕ) (ok : fileRefusal s .number ≡ 0) where
       ∙ take-all (blockSize * blocksIn s) s (omega arith)
 
   -- The records read pass the records' order.
-  id-at : (k : ℕ) → k < blocksIn s → guestAt (recordsOf s (blocksIn s)) k .id ≡ idAt s k
+  id-at : (k : ℕ) → k < blocksIn s → guestAt (recordsOf (blockAt s) (blocksIn s)) k .id ≡ idAt s k
   id-at k l = ap (λ (g : Guest). g .id) (guest-at k l)
 
-  new-at : (k : ℕ) → k < blocksIn s → newId (λ j. guestAt (recordsOf s (blocksIn s)) j .id) k ≡ newId (idAt s) k
+  new-at : (k : ℕ) → k < blocksIn s → newId (λ j. guestAt (recordsOf (blockAt s) (blocksIn s)) j .id) k ≡ newId (idAt s) k
   unfolding newId
   new-at k l = all-ext _ _ k (λ j m. rw (id-at j (omega arith), id-at k l) refl)
 
-  guest-passes : (k : ℕ) → k < blocksIn s → guestNumber (recordsOf s (blocksIn s)) k ≡ 0
+  guest-passes : (k : ℕ) → k < blocksIn s → guestNumber (recordsOf (blockAt s) (blocksIn s)) k ≡ 0
   unfolding guestNumber numberOf numberAt
   guest-passes k l =
-      let b = block-in (blockAt s k) k (newId (idAt s) k) (inside .blocks k l) in
+      let b = block-in (blockAt s k) (ownPlace (blockAt s k) k) (newId (idAt s) k) (inside .blocks k l) in
       rw (guest-at k l, new-at k l) (go-on 4 _ (b .heads) ∙ go-on 6 _ (b .tasks) ∙ none-left)
 
-  passes : planRefusal (record { count = blocksIn s; guests = recordsOf s (blocksIn s) }) ≡ fine
+  passes : planRefusal (record { count = blocksIn s; guests = recordsOf (blockAt s) (blocksIn s) }) ≡ fine
   passes =
       let z = inside .size in
-      sym (counted (record { count = blocksIn s; guests = recordsOf s (blocksIn s) }) (omega arith) (omega arith))
-      ∙ first-fine (guestNumber (recordsOf s (blocksIn s))) (blocksIn s) 0 (λ k l m. guest-passes k (omega arith))
+      sym (counted (record { count = blocksIn s; guests = recordsOf (blockAt s) (blocksIn s) }) (omega arith) (omega arith))
+      ∙ first-fine (guestNumber (recordsOf (blockAt s) (blocksIn s))) (blocksIn s) 0 (λ k l m. guest-passes k (omega arith))
 
 -- Bytes that are read without a refusal are exactly what the writer writes for what was read, block after block.
 pub only-ours : (s : List ℕ) → Bytes s → readOf s .refusal .number ≡ 0 → fileOf (readOf s .plan) ≡ s

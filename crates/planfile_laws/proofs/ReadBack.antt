@@ -16,8 +16,9 @@ use Rattle.plan.specs.Records.{guestAt, blank}
 use Rattle.plan.specs.First.{fine}
 use Rattle.plan.specs.Order.{newId, planRefusal}
 use Rattle.block.specs.Writing.{blockOf, writeNumber, writeRefusal, written}
-use Rattle.planfile.specs.File.{blockAt, idAt, blocksIn, mostBytes, sizeOk, numberAt, fileRefusal}
-use Rattle.planfile.specs.Records.{recordsOf, readOf}
+use Rattle.blockfile.specs.File.{blockAt, idAt, blocksIn, mostBytes, sizeOk, numberAt, fileRefusal}
+use Rattle.blockfile.specs.Records.{recordsOf}
+use Rattle.planfile.specs.Records.{readOf}
 use Rattle.planfile_laws.specs.File.{fileOf, clearedGuest, cleared}
 use Rattle.planfile_laws.specs.Fits.{PlanInTypes}
 use Rattle.lists.proofs.All.{and-true, all-by, all-ext}
@@ -26,7 +27,7 @@ use Rattle.plan.proofs.RangesLaws.{TaskIn, HeadIn, GuestIn}
 use Rattle.plan.proofs.First.{first-fine}
 use Rattle.plan.proofs.Order.{PlanIn, plan-in}
 use Rattle.block.proofs.Writing.{none, by-none}
-use Rattle.planfile.proofs.File.{sized}
+use Rattle.blockfile.proofs.File.{sized}
 use Rattle.planfile.proofs.Records.{reading, read-fine}
 use Rattle.planfile_laws.proofs.BlockBack.{block-length, number-back, guest-back}
 use Rattle.planfile_laws.proofs.Joined.{joined-length, joined-at}
@@ -64,11 +65,11 @@ module _ (p : Plan) (fits : PlanInTypes p) (ok : planRefusal p .number ≡ 0) wh
 
   size : length s ≡ blockSize * p .count
   unfolding s fileOf blocks
-  size = joined-length blocks (λ k. block-length (guestAt (p .guests) k) k) (p .count)
+  size = joined-length blocks (p .count) (λ k l. block-length (guestAt (p .guests) k) k)
 
   block-at : (k : ℕ) → k < p .count → blockAt s k ≡ blockOf (guestAt (p .guests) k) k
   unfolding s fileOf blocks
-  block-at k l = joined-at blocks (λ k. block-length (guestAt (p .guests) k) k) (p .count) k l
+  block-at k l = joined-at blocks (p .count) (λ k l. block-length (guestAt (p .guests) k) k) k l
 
   guest-at : (k : ℕ) → k < p .count → guestOf (blockAt s k) ≡ clearedGuest (guestAt (p .guests) k)
   guest-at k l =
@@ -84,7 +85,7 @@ module _ (p : Plan) (fits : PlanInTypes p) (ok : planRefusal p .number ≡ 0) wh
       λ j m. ap (λ (g : Guest). g .id) (guest-at j (omega arith)) in
       all-ext _ _ k (λ j m. rw (id j (omega arith), id k (omega arith)) refl) ∙ inside .new k l
 
-  number-zero : (k : ℕ) → k < p .count → numberAt s k ≡ 0
+  number-zero : (k : ℕ) → k < p .count → numberAt true s k ≡ 0
   unfolding numberAt
   number-zero k l =
       let i = inside .guests k l in
@@ -106,10 +107,10 @@ module _ (p : Plan) (fits : PlanInTypes p) (ok : planRefusal p .number ≡ 0) wh
 
   nothing-refused : fine ≡ fileRefusal s
   nothing-refused =
-      sym (first-fine (numberAt s) (blocksIn s) 0 (λ z l m. number-zero z (omega (arith, count-is))))
-      ∙ sized s size-right
+      sym (first-fine (numberAt true s) (blocksIn s) 0 (λ z l m. number-zero z (omega (arith, count-is))))
+      ∙ sized true s size-right
 
-  records-are : recordsOf s (p .count) ≡ cleared p .guests
+  records-are : recordsOf (blockAt s) (p .count) ≡ cleared p .guests
   unfolding recordsOf cleared
   records-are =
       ap (λ (gs : List Guest). gs ++ drop (p .count) (replicate mostGuests blank)) (table-ext _ _ (p .count) guest-at)
@@ -119,7 +120,7 @@ module _ (p : Plan) (fits : PlanInTypes p) (ok : planRefusal p .number ≡ 0) wh
   unfolding cleared
   back =
       sym (read-fine s fine nothing-refused (omega arith))
-      ∙ ap (λ (n : ℕ). reading fine (record { count = n; guests = recordsOf s n })) count-is
+      ∙ ap (λ (n : ℕ). reading fine (record { count = n; guests = recordsOf (blockAt s) n })) count-is
       ∙ ap (λ (gs : List Guest). reading fine (record { count = p .count; guests = gs })) records-are
 
 -- For records that pass the check, the file of their blocks is read without a refusal as those records, with zeros

@@ -14,19 +14,20 @@ use Rattle.plan.specs.First.{refused, fine, orElse, firstRefused}
 use Rattle.plan.specs.Order.{newId}
 use Rattle.block.specs.Reading.{column, zeroBetween, blockNumber}
 use Rattle.block.specs.Writing.{withHead, withEntry, withEntries, wordsOf, withCheck, blockOf}
-use Rattle.planfile.specs.File.{numberAt, sizedBy, fileRefusal}
+use Rattle.blockfile.specs.File.{numberAt, sizedBy, blocksRefusal}
 use Rattle.worked.specs.Plans.{A}
-use Rattle.planfile.specs.Records.{recordsOf, planBy, readOf}
+use Rattle.blockfile.specs.Records.{recordsOf}
+use Rattle.planfile.specs.Records.{planBy, readOf}
 use Rattle.planfile_laws.specs.File.{joined, fileOf}
 
 -- 512 zero bytes: refusal 3, place 0.
 pub zero-bytes : readOf (replicate 512 0) ≡ record { refusal = refused 3 0; plan = blankPlan }
-unfolding readOf planBy fileRefusal sizedBy firstRefused orElse numberAt blockNumber refusal unless word sumTo
+unfolding readOf planBy blocksRefusal sizedBy firstRefused orElse numberAt blockNumber refusal unless word sumTo
 zero-bytes = refl
 
 -- Empty input: 1.
 pub empty : readOf [] ≡ record { refusal = refused 1 0; plan = blankPlan }
-unfolding readOf planBy fileRefusal sizedBy
+unfolding readOf planBy blocksRefusal sizedBy
 empty = refl
 
 -- Plan A is written to 1,024 bytes and read back as it was.
@@ -35,5 +36,5 @@ unfolding fileOf joined blockOf bytesOf
 plan-a-length = refl
 
 pub plan-a-back : readOf (fileOf A) ≡ record { refusal = fine; plan = A }
-unfolding readOf planBy recordsOf fileRefusal sizedBy firstRefused orElse numberAt blockNumber refusal unless word sumTo newId column table zeroBetween allTo headOk taskOk tasksOk fileOf joined blockOf bytesOf withCheck wordsOf withEntries withEntry withHead
+unfolding readOf planBy recordsOf blocksRefusal sizedBy firstRefused orElse numberAt blockNumber refusal unless word sumTo newId column table zeroBetween allTo headOk taskOk tasksOk fileOf joined blockOf bytesOf withCheck wordsOf withEntries withEntry withHead
 plan-a-back = refl

@@ -2,6 +2,7 @@
 -- they are asked is in `Exact`.
 use mathlib.Core.Path.{_≡_}
 use mathlib.Core.Logic.{_⊎_, _≢_}
+use mathlib.Core.Bool.{Bool, true, false}
 use mathlib.Core.List.{List}
 use Prim.Native.Nat.{ℕ, _+_, _*_, _%_, _≤_, _<_}
 use Rattle.lists.specs.Places.{nth}
@@ -12,7 +13,7 @@ use Rattle.plan.specs.Records.{runOf, everyOf, deadlineOf}
 use Rattle.plan.specs.Ranges.{mostTasks, longest}
 use Rattle.block.specs.Layout.{blockSize, blockWords, guestKind}
 use Rattle.block.specs.Reading.{kindIn, placeIn, taskCount}
-use Rattle.planfile.specs.File.{mostBytes}
+use Rattle.blockfile.specs.File.{mostBytes}
 
 -- A number lies outside its range.
 abbrev pub Outside : (low high x : ℕ) → Type 0
@@ -26,9 +27,10 @@ WrongLength n = (n ≡ 0) ⊎ ((n % blockSize ≢ 0) ⊎ (mostBytes < n))
 abbrev pub WrongSum : List ℕ → Type 0
 WrongSum b = wrapped (word b) blockWords ≢ 0
 
--- 3: the kind is not 1, or the place is not the block's own.
-abbrev pub WrongOpening : List ℕ → (place : ℕ) → Type 0
-WrongOpening b place = (kindIn b ≢ guestKind) ⊎ (placeIn b ≢ place)
+-- 3: the kind is not 1, or, where places count, the place is not the block's own.
+abbrev pub WrongOpening : (placed : Bool) → List ℕ → (place : ℕ) → Type 0
+WrongOpening true b place = (kindIn b ≢ guestKind) ⊎ (placeIn b ≢ place)
+WrongOpening false b place = kindIn b ≢ guestKind
 
 -- 4: the id is 0, or capacity, period or number of tasks is outside its range.
 abbrev pub WrongHead : Guest → Type 0

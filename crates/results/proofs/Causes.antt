@@ -2,6 +2,7 @@
 -- writer, and when not. `A notBut B`: the cause A, which is asked earlier, does not hold, but B does. When 9 and 10
 -- are given stands in Dispatcher.
 use mathlib.Core.Path.{_≡_}
+use mathlib.Core.Bool.{Bool}
 use mathlib.Core.List.{List, []}
 use Prim.Native.Nat.{ℕ, suc, _<_}
 use lib.ListN.{length}
@@ -15,67 +16,68 @@ use Rattle.lists.specs.Exactly.{_exactlyWhen_, _notBut_}
 use Rattle.block.specs.Layout.{blockSize, lastPlace}
 use Rattle.block.specs.Reading.{guestOf}
 use Rattle.block.specs.Writing.{writeNumber}
-use Rattle.planfile.specs.File.{blockAt, idAt, blocksIn, numberAt, fileRefusal}
+use Rattle.blockfile.specs.File.{blockAt, idAt, blocksIn, numberAt, blocksRefusal, fileRefusal}
 use Rattle.planfile.specs.Finder.{foundPlace, found}
 use Rattle.planfile_laws.specs.Causes.{Outside, WrongLength, WrongSum, WrongOpening, WrongHead, WrongGuest, WrongZero, WrongTask}
 use Rattle.planfile_laws.specs.Exact.{FirstAt}
 use Rattle.planfile_laws.proofs.Exact as exact
 use Rattle.planfile_laws.proofs.ExactRecords as records
 
--- A plan's bytes.
-module _ (s : List ℕ) where
+-- Blocks one after the other: a plan's bytes, where places count (`placed` is true, and `fileRefusal` is this), or a
+-- sheet's, where they do not.
+module _ (placed : Bool) (s : List ℕ) where
   -- 1: the length is 0, not a multiple of 512, or above 4,096.
-  pub one-exactly : (fileRefusal s .number ≡ 1) exactlyWhen WrongLength (length s)
-  one-exactly = exact.one-exactly s
+  pub one-exactly : (blocksRefusal placed s .number ≡ 1) exactlyWhen WrongLength (length s)
+  one-exactly = exact.one-exactly placed s
 
   -- 1 comes with place 0.
-  pub one-place : fileRefusal s .number ≡ 1 → fileRefusal s ≡ refused 1 0
-  one-place = exact.one-place s
+  pub one-place : blocksRefusal placed s .number ≡ 1 → blocksRefusal placed s ≡ refused 1 0
+  one-place = exact.one-place placed s
 
   -- 2 to 6 at place k: the length is right, block k has that number, and no block before it has one.
   pub block-exactly :
       (n k : ℕ)
-      → (fileRefusal s ≡ refused (suc (suc n)) k)
-      exactlyWhen (WrongLength (length s) notBut FirstAt (numberAt s) (blocksIn s) 0 (suc (suc n)) k)
-  block-exactly = exact.block-exactly s
+      → (blocksRefusal placed s ≡ refused (suc (suc n)) k)
+      exactlyWhen (WrongLength (length s) notBut FirstAt (numberAt placed s) (blocksIn s) 0 (suc (suc n)) k)
+  block-exactly = exact.block-exactly placed s
 
--- Block k of a plan's bytes.
-module _ (s : List ℕ) (k : ℕ) where
+-- Block k of them.
+module _ (placed : Bool) (s : List ℕ) (k : ℕ) where
   -- 2: the block's words do not sum to zero.
-  pub two-exactly : (numberAt s k ≡ 2) exactlyWhen WrongSum (blockAt s k)
-  two-exactly = exact.two-exactly s k
+  pub two-exactly : (numberAt placed s k ≡ 2) exactlyWhen WrongSum (blockAt s k)
+  two-exactly = exact.two-exactly placed s k
 
-  -- 3: the kind is not 1, or the place is not the block's own.
-  pub three-exactly : (numberAt s k ≡ 3) exactlyWhen (WrongSum (blockAt s k) notBut WrongOpening (blockAt s k) k)
-  three-exactly = exact.three-exactly s k
+  -- 3: the kind is not 1, or, where places count, the place is not the block's own.
+  pub three-exactly : (numberAt placed s k ≡ 3) exactlyWhen (WrongSum (blockAt s k) notBut WrongOpening placed (blockAt s k) k)
+  three-exactly = exact.three-exactly placed s k
 
   -- 4: the id is 0 or already seen in an earlier block, or capacity, period or number of tasks is outside its range.
   pub four-exactly :
-      (numberAt s k ≡ 4)
+      (numberAt placed s k ≡ 4)
       exactlyWhen
-      (WrongSum (blockAt s k) notBut WrongOpening (blockAt s k) k notBut WrongGuest (guestOf (blockAt s k)) (idAt s) k)
-  four-exactly = exact.four-exactly s k
+      (WrongSum (blockAt s k) notBut WrongOpening placed (blockAt s k) k notBut WrongGuest (guestOf (blockAt s k)) (idAt s) k)
+  four-exactly = exact.four-exactly placed s k
 
   -- 5: a byte that must be zero is not.
   pub five-exactly :
-      (numberAt s k ≡ 5)
+      (numberAt placed s k ≡ 5)
       exactlyWhen
       (WrongSum (blockAt s k)
-      notBut WrongOpening (blockAt s k) k
+      notBut WrongOpening placed (blockAt s k) k
       notBut WrongGuest (guestOf (blockAt s k)) (idAt s) k
       notBut WrongZero (blockAt s k))
-  five-exactly = exact.five-exactly s k
+  five-exactly = exact.five-exactly placed s k
 
   -- 6: a task's run, period or deadline is outside its range.
   pub six-exactly :
-      (numberAt s k ≡ 6)
+      (numberAt placed s k ≡ 6)
       exactlyWhen
       (WrongSum (blockAt s k)
-      notBut WrongOpening (blockAt s k) k
+      notBut WrongOpening placed (blockAt s k) k
       notBut WrongGuest (guestOf (blockAt s k)) (idAt s) k
       notBut WrongZero (blockAt s k)
       notBut WrongTask (guestOf (blockAt s k)))
-  six-exactly = exact.six-exactly s k
+  six-exactly = exact.six-exactly placed s k
 
 -- The finder, for a guest's id.
 module _ (s : List ℕ) (id : ℕ) where

@@ -39,6 +39,8 @@ use Rattle.results.specs.Numbers.{Numbers}
 use Rattle.history.specs.Calls.{running, start, after, play, times}
 use Rattle.verdict_laws.specs.Guests.{There}
 use Rattle.worked.specs.Plans.{A, A35, planB, planD}
+use Rattle.amendment_laws.proofs.Worked.{answers-7}
+use Rattle.amendment_laws.proofs.Worked as pairs
 use Rattle.history.proofs.Times.{early-again, due-again}
 
 -- The list of starred numbers, where guests stand in document 01's plans, their first releases, and a margin.
@@ -112,6 +114,13 @@ computed = record {
     again-after-49 = early-again A 9 1 refl (running 14 ∷ []) refl 49 (omega arith);
     again-after-50 = due-again A 9 1 36 refl (running 14 ∷ []) refl 50 (omega arith);
     sheet-answers = refl;
+    amended-first = answers-7 .task 9 1;
+    amended-second = answers-7 .task 9 2;
+    amended-above = answers-7 .task 7 1;
+    amended-smallest = answers-7 .capacity 9;
+    amended-there = pairs.computed .nine-there;
+    amended-not-there = pairs.computed .seven-there;
+    amended-misplaced = pairs.computed .misplaced;
   };
   there-A = record { order = refl; place = omega arith; named = refl };
   there-A35 = record { order = refl; place = omega arith; named = refl };

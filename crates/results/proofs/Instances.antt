@@ -1,10 +1,16 @@
--- What verdicts and capacities mean, at document 01's plans, so that those theorems are not empty. Assumes nothing.
+-- What verdicts and capacities mean, and a pair with a sheet, at document 01's plans, so that those theorems are not
+-- empty. Assumes nothing.
 use native.Mathlib.Omega.{arith}
 use Rattle.verdict_laws.specs.Guests.{Responds, NoneFits}
 use Rattle.verdict_laws.specs.Tasks.{TaskMet, TaskUnmetAt, TaskUnmet, TaskUnjudged}
 use Rattle.verdict_laws.specs.Acceptances.{AllGood}
 use Rattle.verdict_laws.specs.Capacities.{CapacitySmallest, NoCapacity}
-use Rattle.worked.specs.Plans.{A, A35, planB, planD}
+use Rattle.block.specs.Writing.{blockOf}
+use Rattle.planfile_laws.specs.File.{fileOf}
+use Rattle.capacity.specs.Capacity.{withCapacity}
+use Rattle.amendment_laws.specs.Replaced.{AnsweredAs}
+use Rattle.worked.specs.Plans.{A, A35, nine, planB, planD}
+use Rattle.amendment_laws.proofs.Worked.{answers-7, own-answers-a}
 use Rattle.results.proofs.Computed.{computed}
 use Rattle.results.proofs.Numbers.{numbers}
 use Rattle.results.proofs.Verdicts.{guest-means, task-means, acceptance-means, capacity-means}
@@ -44,3 +50,11 @@ smallest-7 = rw (numbers .smallest) at (capacity-means A 9 1 (computed .there-A)
 -- Case 6: no capacity works.
 pub none-of-6 : NoCapacity (planB 3) 1 11 0
 none-of-6 = rw (numbers .none-works) at (capacity-means (planB 3) 9 1 (computed .there-none))
+
+-- With guest 9's block on a sheet, at capacity 7, plan A is answered for as the plan with that capacity.
+pub amended-7 : AnsweredAs (fileOf A) (blockOf (nine 7) 1) (withCapacity A 1 7)
+amended-7 = answers-7
+
+-- With its own file as the sheet, plan A is answered for as it is.
+pub amended-by-itself : AnsweredAs (fileOf A) (fileOf A) A
+amended-by-itself = own-answers-a

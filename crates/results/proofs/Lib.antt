@@ -5,6 +5,7 @@ pub mod Refusals
 pub mod Causes
 pub mod PlanFiles
 pub mod Verdicts
+pub mod Amendments
 pub mod Dispatcher
 pub mod Word
 pub mod Sheets

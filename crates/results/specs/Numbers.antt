@@ -2,7 +2,12 @@
 use mathlib.Core.Path.{_≡_}
 use mathlib.Core.List.{[], _∷_}
 use lib.IntN.{pos}
-use Rattle.worked.specs.Plans.{planOf, top, planA, A, A35, planB, planC, planD}
+use Rattle.worked.specs.Plans.{planOf, top, nine, planA, A, A35, planB, planC, planD}
+use Rattle.block.specs.Writing.{blockOf}
+use Rattle.planfile_laws.specs.File.{fileOf}
+use Rattle.amendment.specs.Pair.{inPlan, inSheet, pairRefusal}
+use Rattle.amendment.specs.Finder.{pairPlace}
+use Rattle.amendment.specs.Verdict.{pairTaskVerdict, pairSmallest}
 use Rattle.response.specs.Task.{taskRight}
 use Rattle.verdict.specs.declared.GuestVerdict.the-variants.{Fitted, Unfit}
 use Rattle.verdict.specs.declared.TaskVerdict.the-variants.{Met, UnmetAt, Unmet, Unjudged}
@@ -63,3 +68,12 @@ pub record Numbers : Type 0 where
   -- P5: A sheet on plan A, fresh: guest 9's two tasks, its second again, guest 8, which is not there, and a guest
   -- part beyond 32 bits, with a place to spare.
   pub sheet-answers : answered (start A) (589826 ∷ 589825 ∷ 589826 ∷ 524289 ∷ 281474977300481 ∷ []) (5 ∷ 5 ∷ 5 ∷ 5 ∷ 5 ∷ 5 ∷ []) ≡ 0 ∷ 0 ∷ 9 ∷ 7 ∷ 7 ∷ 5 ∷ []
+  -- P6: Plan A with a sheet of one block, guest 9 with capacity 7 at its place: its tasks, the one above and the
+  -- capacity that is smallest still; where the blocks stand that count; and the block at a place that is not its guest's.
+  pub amended-first : pairTaskVerdict (fileOf A) (blockOf (nine 7) 1) 9 1 ≡ Met 38
+  pub amended-second : pairTaskVerdict (fileOf A) (blockOf (nine 7) 1) 9 2 ≡ Met 86
+  pub amended-above : pairTaskVerdict (fileOf A) (blockOf (nine 7) 1) 7 1 ≡ Met 4
+  pub amended-smallest : pairSmallest (fileOf A) (blockOf (nine 7) 1) 9 ≡ Smallest 7
+  pub amended-there : pairPlace (fileOf A) (blockOf (nine 7) 1) 9 ≡ inSheet 0 0
+  pub amended-not-there : pairPlace (fileOf A) (blockOf (nine 7) 1) 7 ≡ inPlan 0 0
+  pub amended-misplaced : pairRefusal (fileOf A) (blockOf (nine 7) 0) ≡ inSheet 16 0

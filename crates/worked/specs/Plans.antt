@@ -31,6 +31,10 @@ planOf guests = record { count = length guests; guests = take 8 (guests ++ repli
 abbrev pub top : Guest
 top = guest 7 2 5 0 (1 ∷ []) (20 ∷ []) (20 ∷ [])
 
+-- Guest 9 of plan A with this capacity.
+abbrev pub nine : (capacity : ℕ) → Guest
+nine capacity = guest 9 capacity 20 0 (10 ∷ 8 ∷ []) (50 ∷ 100 ∷ []) (50 ∷ 100 ∷ [])
+
 -- Plan A with this charge in guest 9 and these deadlines of the two tasks there.
 abbrev pub planA : (charge first second : ℕ) → Plan
 planA charge first second = planOf (top ∷ guest 9 8 20 charge (10 ∷ 8 ∷ []) (50 ∷ 100 ∷ []) (first ∷ second ∷ []) ∷ [])

@@ -6,10 +6,10 @@ use Rattle.cases.proofs.lines.Statement.{statement}
 use Rattle.cases.proofs.lines.Tie as tie
 
 abbrev Inv-loop : tie.InvT-loop
-Inv-loop text p₀ d₀ row₀ i₀ i-end p d row i = i ≤ length text
+Inv-loop text p₀ standing₀ d₀ row₀ i₀ i-end p standing d row i = i ≤ length text
 
 abbrev μ-loop : tie.MeasureT-loop
-μ-loop text p₀ d₀ row₀ i₀ i-end p d row i = length text - i
+μ-loop text p₀ standing₀ d₀ row₀ i₀ i-end p standing d row i = length text - i
 
 blank-plan-requires : tie.Need-blank-plan-requires Inv-loop μ-loop
 blank-plan-requires c κs = search needs
@@ -28,6 +28,9 @@ shared-slice-read-b c = search needs
 
 planned-requires : tie.Need-planned-requires Inv-loop μ-loop
 planned-requires c κs = search needs
+
+kept-requires : tie.Need-kept-requires Inv-loop μ-loop
+kept-requires c κs = search needs
 
 asked-requires : tie.Need-asked-requires Inv-loop μ-loop
 asked-requires c κs = search needs
@@ -65,6 +68,7 @@ lines-spec =
     loop-holds
     shared-slice-read-b
     planned-requires
+    kept-requires
     asked-requires
     blank-row-requires-2
     with-byte-requires

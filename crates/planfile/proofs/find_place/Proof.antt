@@ -4,7 +4,7 @@ use native.Mathlib.Omega.{arith}
 use borrow.Author.Needs.{needs}
 use Rattle.plan.specs.declared.Refusal.{Refusal}
 use Rattle.planfile.specs.Finder.{placeOrSeven}
-use Rattle.planfile.proofs.File.{FileIn, file-in}
+use Rattle.blockfile.proofs.File.{FileIn, file-in}
 use Rattle.planfile.proofs.Finder.{place-refused, place-found}
 use Rattle.planfile.proofs.find_place.Statement.{statement}
 use Rattle.planfile.proofs.find_place.Tie as tie

@@ -3,7 +3,7 @@ use mathlib.Core.Path.{ap, _∙_}
 use native.Mathlib.Omega.{arith}
 use borrow.Author.Needs.{needs}
 use Rattle.plan.specs.declared.Refusal.{Refusal}
-use Rattle.planfile.proofs.File.{FileIn, file-in}
+use Rattle.blockfile.proofs.File.{FileIn, file-in}
 use Rattle.planfile.proofs.Records.{read-refused, read-fine}
 use Rattle.planfile.proofs.read.Statement.{statement}
 use Rattle.planfile.proofs.read.Tie as tie
