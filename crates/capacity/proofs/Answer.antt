@@ -13,11 +13,10 @@ use Rattle.plan.specs.Records.{guestAt}
 use Rattle.plan.specs.declared.Columns.{Columns}
 use Rattle.plan.specs.declared.LookedUp.{LookedUp}
 use Rattle.plan.specs.declared.Plan.{Plan}
-use Rattle.response.specs.Columns.{guestsTake, fittedAt}
+use Rattle.response.specs.Columns.{guestsTake, fittedAt, acceptedUnder}
 use Rattle.capacity.specs.declared.CapacityAnswer.{CapacityAnswer}
 use Rattle.capacity.specs.declared.CapacityAnswer.the-variants.{Refused}
-use Rattle.capacity.specs.Capacity.{smallest}
-use Rattle.capacity.specs.Search.{worksAt}
+use Rattle.capacity.specs.Capacity.{atCapacity, smallest}
 use Rattle.capacity.specs.Answer.{capacitySays, smallestCapacity}
 use Rattle.plan.proofs.First.{no-test}
 use Rattle.plan.proofs.LookUp.{look-order, look-here, look-goes-on}
@@ -29,7 +28,8 @@ pub capacity-judged : {p : Plan} {id : ℕ} {r : LookedUp} (l : LooksUp p id r) 
     → x
     ≡ least
     (λ a. allTo (fittedAt (c .capacities) (c .periods)) (r .place)
-    && worksAt (guestsTake (c .capacities) (c .periods) (r .place)) (guestAt (p .guests) (r .place)) a)
+    && acceptedUnder (guestsTake (c .capacities) (c .periods) (r .place))
+    (atCapacity (guestAt (p .guests) (r .place)) a))
     (guestAt (p .guests) (r .place) .period) 1
     → v ≡ capacitySays x
     → v ≡ smallestCapacity p id

@@ -11,20 +11,21 @@ use Rattle.lists.specs.All.{allTo}
 use Rattle.lists.specs.Search.{least}
 use Rattle.lists.specs.declared.Found.the-variants.{At}
 use Rattle.equation.specs.System.{taskUnder}
+use Rattle.plan.specs.Charge.{charged}
 use Rattle.plan.specs.Filled.{ColumnsOf}
 use Rattle.plan.specs.Order.{planRefusal}
 use Rattle.plan.specs.Ranges.{mostGuests}
-use Rattle.plan.specs.Records.{absent, guestAt, runOf}
+use Rattle.plan.specs.Records.{absent, guestAt, runOf, everyOf}
 use Rattle.plan.specs.declared.Columns.{Columns}
 use Rattle.plan.specs.declared.Guest.{Guest}
 use Rattle.plan.specs.declared.Plan.{Plan}
 use Rattle.response.specs.Interference.{jitter, interference}
 use Rattle.response.specs.Guest.{guestResponse, fitted, fittedTo}
-use Rattle.response.specs.Task.{systemOf, responseTo}
+use Rattle.response.specs.Task.{gap, systemOf, responseTo}
 use Rattle.response.specs.Met.{allMet}
-use Rattle.response.specs.Columns.{guestsTake, fittedAt}
+use Rattle.response.specs.Columns.{guestsTake, fittedAt, acceptedUnder}
 use Rattle.capacity.specs.Capacity.{atCapacity, withCapacity, works, smallest}
-use Rattle.capacity.specs.Search.{fitsAt, worksAt}
+use Rattle.capacity.specs.Search.{fitsAt}
 use Rattle.lists.proofs.All.{and-assoc, all-ext}
 use Rattle.rounding.proofs.Asked.{asked-same}
 use Rattle.plan.proofs.Charge.{charged-least}
@@ -66,7 +67,7 @@ module _ (p : Plan) (k : ℕ) (here : k < length (p .guests)) (c : ℕ) where
   fitted-above j l = rw (same-above j (omega arith), guest-above j l) refl
 
   -- the guest is fitted by its equation at the capacity
-  pub fitted-there : fitted (withCapacity p k c) k ≡ fitsAt (interference p k) (guestAt (p .guests) k) c
+  pub fitted-there : fitted (withCapacity p k c) k ≡ fitsAt (interference p k) (guestAt (p .guests) k .period) c
   unfolding fitted guestResponse fitsAt
   fitted-there = rw (same-above k (omega arith), guest-there) refl
 
@@ -76,8 +77,8 @@ module _ (p : Plan) (k : ℕ) (here : k < length (p .guests)) (c : ℕ) where
   task-there i most = rw (same-above k (omega arith), guest-there) refl
 
   -- it works where those above are fitted and the guest with it is accepted
-  pub works-split : works p k c ≡ (allTo (fitted p) k && worksAt (interference p k) (guestAt (p .guests) k) c)
-  unfolding works fittedTo allTo worksAt
+  pub works-split : works p k c ≡ (allTo (fitted p) k && acceptedUnder (interference p k) (atCapacity (guestAt (p .guests) k) c))
+  unfolding works fittedTo allTo
   works-split =
       and-assoc (allTo (fitted (withCapacity p k c)) k) (fitted (withCapacity p k c) k) (allMet (withCapacity p k c) k)
       ∙ ap (λ (b : Bool). b && (fitted (withCapacity p k c) k && allMet (withCapacity p k c) k)) (all-ext _ _ k fitted-above)
@@ -85,7 +86,10 @@ module _ (p : Plan) (k : ℕ) (here : k < length (p .guests)) (c : ℕ) where
 
 -- the search off columns is the definition's
 pub smallest-is : (p : Plan) → PlanIn p → (c : Columns) → ColumnsOf (p .guests) mostGuests c → (k : ℕ) → k < p .count
-    → least (λ x. allTo (fittedAt (c .capacities) (c .periods)) k && worksAt (guestsTake (c .capacities) (c .periods) k) (guestAt (p .guests) k) x) (guestAt (p .guests) k .period) 1
+    → least
+    (λ x. allTo (fittedAt (c .capacities) (c .periods)) k
+    && acceptedUnder (guestsTake (c .capacities) (c .periods) k) (atCapacity (guestAt (p .guests) k) x))
+    (guestAt (p .guests) k .period) 1
     ≡ smallest p k
 unfolding smallest
 smallest-is p o c f k h =
@@ -102,14 +106,16 @@ module _ (p : Plan) (ok : planRefusal p .number ≡ 0) (k : ℕ) (h : k < p .cou
   pub fitted-down : (c c′ : ℕ) → 1 ≤ c → c ≤ c′ → fitted (withCapacity p k c′) k ≡ true → fitted (withCapacity p k c) k ≡ true
   fitted-down c c′ pos le e =
       fitted-there p k here c
-      ∙ fits-down (interference p k) (interference-grows p k) (guestAt (p .guests) k) c c′ pos le (sym (fitted-there p k here c′) ∙ e)
+      ∙ fits-down (interference p k) (interference-grows p k) (guestAt (p .guests) k .period) c c′ pos le (sym (fitted-there p k here c′) ∙ e)
 
   -- a task that responds in time at a capacity does so at each larger one that is fitted, with no larger response
   pub met-below : (i : ℕ) → i < guestAt (p .guests) k .tasks → (most c c′ r : ℕ) → 1 ≤ c → c ≤ c′ → fitted (withCapacity p k c′) k ≡ true
       → responseTo (withCapacity p k c) k i most ≡ At r → (r′ : ℕ) × (responseTo (withCapacity p k c′) k i most ≡ At r′) × (r′ ≤ r)
+  unfolding gap
   met-below i l most c c′ r pos le fit e =
       let g = guestAt (p .guests) k in
       let o = plan-in p ok .guests k h in
-      let m = met-up (interference p k) (interference-grows p k) g i (omega (arith, o .tasks i l .runs, charged-least (runOf g i) (g .charge)))
-      c c′ most r pos le (sym (fitted-there p k here c′) ∙ fit) (sym (task-there p k here c i most) ∙ e) in
+      let m = met-up (interference p k) (interference-grows p k) (g .period) (charged g) (everyOf g) i c c′ most r
+      (omega (arith, o .tasks i l .runs, charged-least (runOf g i) (g .charge))) pos le
+      (sym (fitted-there p k here c′) ∙ fit) (sym (task-there p k here c i most) ∙ e) in
       (m .0, task-there p k here c′ i most ∙ m .1, m .2)

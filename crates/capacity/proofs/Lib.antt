@@ -1,5 +1,6 @@
 -- Laws, each file named after the definition that it is about.
 pub mod SearchLaws
+pub mod Halving
 pub mod Capacity
 pub mod Answer
 pub mod Promises

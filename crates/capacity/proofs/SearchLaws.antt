@@ -1,59 +1,56 @@
 -- Fitted capacities are closed downward, and below a fitted one more capacity is never worse; so capacities can be
 -- halved. Assumes nothing.
-use mathlib.Core.Path.{_≡_, refl, sym, _∙_, ap}
-use mathlib.Core.Bool.{Bool, true, false, _&&_}
+use mathlib.Core.Path.{_≡_, refl, sym, ap, fun-ext}
+use mathlib.Core.Bool.{true}
+use mathlib.Core.List.{List}
 use Prim.Native.Nat.{ℕ, _+_, _-_, _≤_, _<_}
 use native.Mathlib.Nat.{le-refl}
 use native.Mathlib.Omega.{arith}
-use Rattle.lists.specs.Search.{least, isAt}
+use Rattle.lists.specs.Places.{nth}
+use Rattle.lists.specs.Search.{isAt}
 use Rattle.lists.specs.declared.Found.{Found}
 use Rattle.lists.specs.declared.Found.the-variants.{At, Nothing}
 use Rattle.equation.specs.Solve.{solve}
 use Rattle.equation.specs.Guest.{guestSide, guestUnder}
 use Rattle.equation.specs.System.{System, load, right, responseOf, later, taskUnder}
 use Rattle.plan.specs.Charge.{charged}
-use Rattle.plan.specs.Records.{runOf, everyOf, deadlineOf}
+use Rattle.plan.specs.Filled.{Filled}
+use Rattle.plan.specs.Records.{everyOf, deadlineOf}
 use Rattle.plan.specs.declared.Guest.{Guest}
-use Rattle.response.specs.Columns.{metUnder, acceptedIn}
-use Rattle.response.specs.Task.{gap, systemOf}
-use Rattle.response.specs.declared.trial.Trial.{Trial}
-use Rattle.response.specs.declared.trial.Trial.the-variants.{Unfit, Unmet, Works}
+use Rattle.response.specs.Columns.{metUnder, acceptedIn, acceptedUnder}
 use Rattle.capacity.specs.Capacity.{atCapacity}
-use Rattle.capacity.specs.Search.{fitsAt, worksAt, orAt}
-use Rattle.response.specs.Ready.{RunsIn}
-use Rattle.response.specs.Trial.{trialUnder}
-use Rattle.lists.proofs.All.{and-left, and-right, and-true, and-false-left, all-at, all-by}
-use Rattle.lists.proofs.Search.{at-of, is-at, least-is}
+use Rattle.capacity.specs.Search.{fitsAt, systemAt, worksAt}
+use Rattle.lists.proofs.All.{and-left, and-right, and-true, all-at, all-by}
+use Rattle.lists.proofs.Search.{at-of, is-at}
 use Rattle.equation.proofs.Solve.{solve-at, solve-by, Solved, solve-answers}
 use Rattle.equation.proofs.Rise.{Grows, rise-to, rise-under}
 use Rattle.equation.proofs.Turn.{right-past}
 use Rattle.equation.proofs.Compare.{no-later}
-use Rattle.equation.proofs.Halve.{Halving, halve-left, halve-right, halve-lower, halve-here}
+use Rattle.equation.proofs.Halve.{Halving}
 use Rattle.rounding.proofs.Asked.{asked-le}
 use Rattle.response.proofs.GuestLaws.{response-says}
 use Rattle.response.proofs.TaskLaws.{regular}
-use Rattle.plan.proofs.Charge.{charged-least}
-use Rattle.response.proofs.TrialLaws.{trial-unfit, trial-unmet, trial-works}
+use Rattle.response.proofs.ReadyLaws.{accepted-off}
 
-module _ (above : ℕ → ℕ) (grows : Grows above) (g : Guest) where
+module _ (above : ℕ → ℕ) (grows : Grows above) (period : ℕ) where
   -- a guest that is fitted at a capacity is fitted at each smaller one
-  pub fits-down : (c c′ : ℕ) → 1 ≤ c → c ≤ c′ → fitsAt above g c′ ≡ true → fitsAt above g c ≡ true
+  pub fits-down : (c c′ : ℕ) → 1 ≤ c → c ≤ c′ → fitsAt above period c′ ≡ true → fitsAt above period c ≡ true
   unfolding fitsAt guestUnder guestSide
   fits-down c c′ pos le e =
-      let x = at-of (guestUnder above c′ (g .period)) e in
-      let s = response-says above c′ (g .period) (x .0) (x .1) in
+      let x = at-of (guestUnder above c′ period) e in
+      let s = response-says above c′ period (x .0) (x .1) in
       let f = guestSide above c in
       let y = rise-to f (λ a b h. omega (arith, grows a b h)) (x .0) (omega (arith, s .sol)) c
       record { rises = omega arith; under = λ z k. omega arith } in
-      is-at (sym (solve-at f (g .period) (y .0) (omega (arith, y .1)) (omega (arith, y .2, s .high)) (y .3)
+      is-at (sym (solve-at f period (y .0) (omega (arith, y .1)) (omega (arith, y .2, s .high)) (y .3)
       (rise-under f (y .0) (y .4))))
 
-  -- a fitted capacity is at most the (g .period)
-  pub fits-within : (c : ℕ) → fitsAt above g c ≡ true → c ≤ (g .period)
+  -- a fitted capacity is at most the period
+  fits-within : (c : ℕ) → fitsAt above period c ≡ true → c ≤ period
   unfolding fitsAt guestSide
   fits-within c e =
-      let x = at-of (guestUnder above c (g .period)) e in
-      let s = response-says above c (g .period) (x .0) (x .1) in
+      let x = at-of (guestUnder above c period) e in
+      let s = response-says above c period (x .0) (x .1) in
       omega (arith, s .sol, s .high)
 
 -- the window behind a task's response
@@ -62,116 +59,73 @@ unfolding responseOf
 window-of gap r Nothing e = absurd (let z : _≡_ {A = ℕ} 0 1 = cc in omega arith)
 window-of gap r (At w) e = (w, refl, (let k : r ≡ w + gap = cc in k))
 
-module _ (above : ℕ → ℕ) (grows : Grows above) (g : Guest) (i : ℕ) (runs : 1 ≤ charged g i) where
-  -- the guest at a capacity, seen from its tasks
+-- a window that solves an equation has a least one behind it, so a response that is no later
+respond-by : (f : ℕ → ℕ) (d J J′ w y r : ℕ) → J′ ≤ J → w ≤ d - J → r ≡ w + J → 1 ≤ y → y ≤ w → y ≡ f y
+    → (r′ : ℕ) × (later J′ (solve f (d - J′)) ≡ At r′) × (r′ ≤ r)
+unfolding responseOf
+respond-by f d J J′ w y r g high e low le q =
+    let found = solve-by f (d - J′) y low (omega arith) q in
+    let at = found .0 in
+    let is : solve f (d - J′) ≡ At at = found .1 in
+    (at + J′, ap (later J′) is, omega (arith, found .2))
+
+module _ (above : ℕ → ℕ) (grows : Grows above) (period : ℕ) (run every : ℕ → ℕ) where
+  -- the guest at a capacity
   abbrev at : ℕ → System
-  at c = systemOf above (atCapacity g c)
+  at = systemAt above period run every
 
   -- a larger capacity leaves a smaller gap, and so no larger load
-  load-less : (c c′ : ℕ) → c ≤ c′ → (u w : ℕ) → u ≤ w → load (at c′) i u ≤ load (at c) i w
-  unfolding load gap
-  load-less c c′ le u w h =
-      omega (arith, asked-le (charged g) (everyOf g) (λ j. g .period - c′) (λ j. g .period - c) i u w (λ j l. omega arith))
+  load-less : (i c c′ : ℕ) → c ≤ c′ → (u w : ℕ) → u ≤ w → load (at c′) i u ≤ load (at c) i w
+  unfolding load
+  load-less i c c′ le u w h =
+      omega (arith, asked-le run every (λ j. period - c′) (λ j. period - c) i u w (λ j l. omega arith))
+
+  -- a window that solves the equation at a capacity has one no later at each larger one that is fitted
+  sooner : (i c c′ w : ℕ) → 1 ≤ run i → 1 ≤ c → c ≤ c′ → fitsAt above period c′ ≡ true → 1 ≤ w
+      → w ≡ right (at c) i w
+      → (y : ℕ) × (1 ≤ y) × (y ≤ w) × (y ≡ right (at c′) i y)
+  unfolding fitsAt
+  sooner i c c′ w runs pos le fit low sol =
+      let within : c′ ≤ period = fits-within above grows period c′ fit in
+      let sure = regular (at c′) grows i record { some = omega arith; within = within; fits = fit; runs = runs } in
+      let y = no-later (at c) (at c′) i (sure .0) w
+      record { some = pos; within = omega arith; runs = runs; sol = sol }
+      (sure .1)
+      record { period = refl; capacity = le; above = λ v. le-refl (above v); load = λ u h. load-less i c c′ le u w h }
+      low in
+      (y .0, omega (arith, right-past (at c′) i (sure .0) (sure .1) (y .0), y .2), y .1, y .2)
 
   -- a task that is met at a capacity is met at each larger one that is fitted, with no larger response
-  pub met-up : (c c′ d r : ℕ) → 1 ≤ c → c ≤ c′ → fitsAt above g c′ ≡ true → taskUnder (at c) i d ≡ At r
-      → (r′ : ℕ) × (taskUnder (at c′) i d ≡ At r′) × (r′ ≤ r)
-  unfolding taskUnder responseOf fitsAt gap
-  met-up c c′ d r pos le fit e =
-      let J = g .period - c in
-      let J′ = g .period - c′ in
-      let w = window-of J r (solve (right (at c) i) (d - J)) e in
-      let s : Solved (right (at c) i) (d - J) (w .0) = rw (w .1) at (solve-answers (right (at c) i) (d - J)) in
-      let within : c′ ≤ g .period = fits-within above grows g c′ fit in
-      let sure = regular (at c′) grows i record { some = omega arith; within = within; fits = fit; runs = runs } in
-      let y = no-later (at c) (at c′) i (sure .0) (w .0)
-      record { some = pos; within = omega arith; runs = runs; sol = s .sol }
-      (sure .1)
-      record { period = refl; capacity = le; above = λ v. le-refl (above v); load = λ u h. load-less c c′ le u (w .0) h }
-      (s .low) in
-      let found = solve-by (right (at c′) i) (d - J′) (y .0)
-      (omega (arith, right-past (at c′) i (sure .0) (sure .1) (y .0), y .2)) (omega (arith, y .1, s .high)) (y .2) in
-      (found .0 + J′, ap (later J′) (found .1), omega (arith, found .2, y .1, w .2))
-
--- each charged run of records in their ranges is a run
-charged-some : (g : Guest) → RunsIn g → (i : ℕ) → i < g .tasks → 1 ≤ charged g i
-charged-some g r i h = omega (arith, r .some i h, charged-least (runOf g i) (g .charge))
-
--- the runs of a guest are those of the guest at any capacity
-pub tried-runs : (g : Guest) (c : ℕ) → RunsIn g → RunsIn (atCapacity g c)
-tried-runs g c r = record { few = r .few; some = r .some; short = r .short }
+  pub met-up : (i c c′ d r : ℕ) → 1 ≤ run i → 1 ≤ c → c ≤ c′ → fitsAt above period c′ ≡ true
+      → taskUnder (at c) i d ≡ At r → (r′ : ℕ) × (taskUnder (at c′) i d ≡ At r′) × (r′ ≤ r)
+  unfolding taskUnder
+  met-up i c c′ d r runs pos le fit e =
+      let f = right (at c) i in
+      let w = window-of (period - c) r (solve f (d - (period - c))) e in
+      let s : Solved f (d - (period - c)) (w .0) = rw (w .1) at (solve-answers f (d - (period - c))) in
+      let y = sooner i c c′ (w .0) runs pos le fit (s .low) (s .sol) in
+      respond-by (right (at c′) i) d (period - c) (period - c′) (w .0) (y .0) r (omega arith) (s .high) (w .2)
+      (y .1) (y .2) (y .3)
 
 -- capacities can be halved
-pub halving : (above : ℕ → ℕ) → Grows above → (g : Guest) → RunsIn g → Halving (fitsAt above g) (worksAt above g)
+pub halving : (above : ℕ → ℕ) → Grows above → (period : ℕ) (run every deadline : ℕ → ℕ) (n : ℕ)
+    → ((i : ℕ) → i < n → 1 ≤ run i) → Halving (fitsAt above period) (worksAt above period run every deadline n)
 unfolding worksAt acceptedIn fitsAt metUnder
-halving above grows g runs = record {
-  fits = λ a w. and-left (fitsAt above g a) _ w;
-  down = λ a b pos le f. fits-down above grows g a b pos le f;
+halving above grows period run every deadline n runs = record {
+  fits = λ a w. and-left (fitsAt above period a) _ w;
+  down = fits-down above grows period;
   grow = λ a b pos le w f. and-true f
-      (all-by (λ i. isAt (taskUnder (systemOf above (atCapacity g b)) i (deadlineOf g i))) (g .tasks) (λ i h. (
+      (all-by (λ i. isAt (taskUnder (systemAt above period run every b) i (deadline i))) n (λ i h. (
       let m = at-of _
-      (all-at (λ i. isAt (taskUnder (systemOf above (atCapacity g a)) i (deadlineOf g i))) (g .tasks) i h
-      (and-right (fitsAt above g a) _ w)) in
-      is-at (met-up above grows g i (charged-some g runs i h) a b (deadlineOf g i) (m .0) pos le f (m .1) .1))));
+      (all-at (λ i. isAt (taskUnder (systemAt above period run every a) i (deadline i))) n i h
+      (and-right (fitsAt above period a) _ w)) in
+      is-at (met-up above grows period run every i a b (deadline i) (m .0) (runs i h) pos le f (m .1) .1))));
 }
 
--- a halving's three turns, by the trial of the middle
-module _ (above : ℕ → ℕ) (grows : Grows above) (g : Guest) (runs : RunsIn g)
-    (lo mid hi : ℕ) (pos : 1 ≤ lo) (l : lo ≤ mid) (h : mid < hi) {t : Trial} (e : t ≡ trialUnder above (atCapacity g mid)) where
-  -- the fitted and the working capacities can be halved
-  good : Halving (fitsAt above g) (worksAt above g)
-  good = halving above grows g runs
-
-  -- the middle is unfit: the answer is to the left
-  pub turn-left :
-      t ≡ Unfit
-      → {r : Found}
-      → r ≡ least (worksAt above g) (mid - lo) lo
-      → r ≡ least (worksAt above g) (hi - lo) lo
-  unfolding fitsAt
-  turn-left q k =
-      k ∙ halve-left (fitsAt above g) (worksAt above g) good lo mid hi pos l h (trial-unfit _ _ _ e q)
-
-  -- the middle is fitted and not all tasks are met: the answer is to the right
-  pub turn-right :
-      t ≡ Unmet
-      → {r : Found}
-      → r ≡ least (worksAt above g) (hi - (mid + 1)) (mid + 1)
-      → r ≡ least (worksAt above g) (hi - lo) lo
-  unfolding fitsAt worksAt
-  turn-right q k =
-      let s = trial-unmet _ _ _ e q in
-      k ∙ halve-right (fitsAt above g) (worksAt above g) good lo mid hi pos l h (s .0) (s .1)
-
-  -- the middle works: the answer is to the left, or else here
-  pub turn-here :
-      t ≡ Works
-      → {r s : Found}
-      → r ≡ least (worksAt above g) (mid - lo) lo
-      → s ≡ orAt r mid
-      → s ≡ least (worksAt above g) (hi - lo) lo
-  unfolding worksAt
-  turn-here q {r} {s} k o =
-      o ∙ ap (λ (f : Found). orAt f mid) k
-      ∙ go (least (worksAt above g) (mid - lo) lo) refl
-    where
-      go :
-          (f : Found)
-          → least (worksAt above g) (mid - lo) lo ≡ f
-          → orAt f mid ≡ least (worksAt above g) (hi - lo) lo
-      go Nothing a =
-          halve-here (fitsAt above g) (worksAt above g) good lo mid hi pos l h
-          (trial-works _ _ _ e q) a
-      go (At y) a =
-          halve-lower (fitsAt above g) (worksAt above g) good lo mid hi pos l h a
-
--- a guest above is unfit: nothing works
-pub above-unfit : {b : Bool} (f : ℕ → Bool) (n : ℕ) → b ≡ false → Nothing ≡ least (λ c. b && f c) n 1
-above-unfit f n e = least-is _ n 1 Nothing record { never = λ z h k. and-false-left (f z) e }
-
--- all above are fitted: what works is what the search finds
-pub above-fitted : {b : Bool} (f : ℕ → Bool) {r : Found} (n : ℕ) → b ≡ true
-    → r ≡ least f (n + 1 - 1) 1 → r ≡ least (λ c. b && f c) n 1
-above-fitted {b} f n e q =
-    let m : n + 1 - 1 ≡ n = omega arith in
-    rw e (rw m at q)
+-- what works off the column of charged runs is what the guest is accepted at
+pub works-off : (above : ℕ → ℕ) (g : Guest) {run : List ℕ} → Filled run (charged g) (g .tasks)
+    → worksAt above (g .period) (nth run) (everyOf g) (deadlineOf g) (g .tasks)
+    ≡ (λ c. acceptedUnder above (atCapacity g c))
+unfolding worksAt
+works-off above g {run} f =
+    fun-ext (λ c. accepted-off above (atCapacity g c) {run = run} record { long = f .long; holds = f .holds })

@@ -1,24 +1,52 @@
--- What the capacities of a guest come to, under guests that take `above v` from v ticks.
--- Inner: no promise of an entry names this.
+-- What the capacities of a guest come to, under guests that take `above v` from v ticks, and what a turn of the search
+-- leaves. Inner: no promise of an entry names this.
+use mathlib.Core.Path.{_≡_}
 use mathlib.Core.Bool.{Bool}
-use Prim.Native.Nat.{ℕ}
-use Rattle.lists.specs.Search.{isAt}
+use Prim.Native.Nat.{ℕ, zero, suc, _-_, _≤_, _<_}
+use Rattle.lists.specs.Search.{least, isAt}
 use Rattle.lists.specs.declared.Found.{Found}
 use Rattle.lists.specs.declared.Found.the-variants.{At, Nothing}
 use Rattle.equation.specs.Guest.{guestUnder}
-use Rattle.plan.specs.declared.Guest.{Guest}
-use Rattle.response.specs.Columns.{acceptedUnder}
-use Rattle.capacity.specs.Capacity.{atCapacity}
+use Rattle.equation.specs.System.{System}
+use Rattle.response.specs.Columns.{acceptedIn}
+use Rattle.capacity.specs.declared.search.Span.{Span}
 
--- whether the guest is fitted at capacity c
-unfoldable pub fitsAt : (above : ℕ → ℕ) → Guest → (c : ℕ) → Bool
-fitsAt above g c = isAt (guestUnder above c (g .period))
+-- whether a guest with such a period is fitted at capacity c
+unfoldable pub fitsAt : (above : ℕ → ℕ) → (period c : ℕ) → Bool
+fitsAt above period c = isAt (guestUnder above c period)
 
--- whether the guest is fitted at capacity c and all its tasks are met
-unfoldable pub worksAt : (above : ℕ → ℕ) → Guest → (c : ℕ) → Bool
-worksAt above g c = acceptedUnder above (atCapacity g c)
+-- a guest at capacity c, seen from its tasks, run being the charged runs
+abbrev pub systemAt : (above : ℕ → ℕ) → (period : ℕ) → (run every : ℕ → ℕ) → (c : ℕ) → System
+systemAt above period run every c = record {
+  capacity = c;
+  period = period;
+  above = above;
+  run = run;
+  every = every;
+  gap = λ j. period - c;
+}
 
--- an answer, or else m
-abbrev pub orAt : Found → ℕ → Found
-orAt Nothing m = At m
-orAt (At y) m = At y
+-- whether it is fitted there and its first n tasks are met
+unfoldable pub worksAt : (above : ℕ → ℕ) → (period : ℕ) → (run every deadline : ℕ → ℕ) → (n c : ℕ) → Bool
+worksAt above period run every deadline n c = acceptedIn (systemAt above period run every c) deadline n
+
+-- the capacity that was found, or else the best before it
+abbrev pub orElse : Found → (best : ℕ) → ℕ
+orElse Nothing best = best
+orElse (At c) best = c
+
+-- the smallest capacity from lo on and below hi that works, or else the best before it
+unfoldable pub smallestOf : (works : ℕ → Bool) → (lo hi best : ℕ) → ℕ
+smallestOf works lo hi best = orElse (least works (hi - lo) lo) best
+
+-- what a capacity that was looked for is as an answer: 0 is none
+abbrev pub foundAs : ℕ → Found
+foundAs zero = Nothing
+foundAs (suc c) = At (suc c)
+
+-- A turn leaves fewer of the capacities to try, and the same answer.
+pub record Halves (works : ℕ → Bool) (lo hi best : ℕ) (r : Span) : Type 0 where
+  pub low : lo ≤ r .lo
+  pub high : r .hi ≤ hi
+  pub fewer : r .hi - r .lo < hi - lo
+  pub same : smallestOf works (r .lo) (r .hi) (r .best) ≡ smallestOf works lo hi best

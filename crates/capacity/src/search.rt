@@ -1,20 +1,22 @@
-// The search: an interval of capacities is halved.
+// The search: an interval of capacities is halved, and each capacity is tried off columns that are lent.
 ghost use mathlib.Core.Path.{_≡_};
 ghost use mathlib.Core.Bool.{_&&_};
-ghost use Prim.Native.Nat.{_+_, _-_, _≤_, _<_};
+ghost use Prim.Native.Nat.{_+_, _≤_, _<_};
 ghost use Rattle.lists.specs.All.{allTo};
+ghost use Rattle.lists.specs.Places.{nth};
 ghost use Rattle.lists.specs.Search.{least};
 ghost use Rattle.rounding.specs.Cut.{bound};
-ghost use Rattle.response.specs.Columns.{guestsTake, fittedAt};
-ghost use Rattle.response.specs.Ready.{RunsIn, Seated};
+ghost use Rattle.response.specs.Columns.{guestsTake, fittedAt, acceptedUnder};
+ghost use Rattle.response.specs.Ready.{EachRuns, Seated};
 ghost use Rattle.capacity.specs.Capacity.{atCapacity};
 ghost use Rattle.capacity.specs.Answer.{capacitySays};
-ghost use Rattle.capacity.specs.Search.{worksAt, orAt};
+ghost use Rattle.capacity.specs.Search.{worksAt, smallestOf, foundAs, Halves};
 use crate::CapacityAnswer;
 use lists::Found;
 use plan::Guest;
 use response::Trial;
 use response::all_fitted;
+use response::charged_of;
 use response::guest_response;
 use response::try_guest;
 
@@ -28,67 +30,154 @@ pub fn capacity_says(f: Found) -> CapacityAnswer
     }
 }
 
-// What was found, or else the capacity m.
-fn or_at(f: Found, m: u32) -> Found
-    ensures { λ r. ⌜ r ≡ orAt f m ⌝ }
-{
-    match f {
-        Found::At(y) => Found::At(y),
-        Found::Nothing => Found::At(m),
-    }
+// The capacities left to try, from lo on and below hi, and the smallest so far that works, or 0.
+struct Span {
+    lo: u32,
+    hi: u32,
+    best: u32,
 }
 
-// The guest g with capacity c.
-fn at_capacity(g: Guest, c: u32) -> Guest
-    ensures { λ r. ⌜ r ≡ atCapacity g c ⌝ }
-{
-    let mut h = g;
-    h.capacity = c;
-    h
-}
-
-// The smallest capacity that works, of those from lo on and below hi: nothing works from an unfit middle on, nor up to
-// a fitted one that does not work.
-fn smallest_in(
-    g: Guest,
+// What is left after a try of the middle: nothing works from an unfit one on, nor up to a fitted one that does not
+// work.
+fn halved(
     capacities: &[u32; 16],
     periods: &[u32; 16],
     k: usize,
+    period: u32,
+    run: &[u32; 16],
+    every: &[u32; 16],
+    deadline: &[u32; 16],
+    tasks: usize,
     lo: u32,
     hi: u32,
-) -> Found
-    requires { ⌜ (k ≤ 16) × ((1 ≤ lo) × (hi ≤ g .period + 1)) ⌝ }
-    requires { ⌜ RunsIn g ⌝ }
+    best: u32,
+) -> Span
+    requires { ⌜ ((k ≤ 16) × (tasks ≤ 16)) × ((1 ≤ lo) × ((lo < hi) × (hi ≤ period + 1))) ⌝ }
+    requires { ⌜ EachRuns (now run) tasks ⌝ }
     ensures { λ r. ⌜
-        r ≡ least (worksAt (guestsTake (now (capacities .entry)) (now (periods .entry)) k) g) (hi - lo) lo
+        Halves (worksAt (guestsTake (now (capacities .entry)) (now (periods .entry)) k) period
+        (nth (now (run .entry))) (nth (now (every .entry))) (nth (now (deadline .entry))) tasks) lo hi best r
         ⌝ }
 {
-    if hi <= lo {
-        return Found::Nothing;
-    }
     let mid = lo + (hi - lo) / 2;
     let next = mid + 1;
-    let f = guest_response(capacities, periods, k, mid, g.period);
-    match try_guest(f, at_capacity(g, mid), capacities, periods, k) {
-        Trial::Unfit => smallest_in(g, capacities, periods, k, lo, mid),
-        Trial::Unmet => smallest_in(g, capacities, periods, k, next, hi),
-        Trial::Works => or_at(smallest_in(g, capacities, periods, k, lo, mid), mid),
+    let f = guest_response(capacities, periods, k, mid, period);
+    let t = try_guest(
+        f,
+        capacities,
+        periods,
+        k,
+        mid,
+        period,
+        run,
+        every,
+        deadline,
+        tasks,
+    );
+    match t {
+        Trial::Unfit => Span { lo, hi: mid, best },
+        Trial::Unmet => Span { lo: next, hi, best },
+        Trial::Works => Span {
+            lo,
+            hi: mid,
+            best: mid,
+        },
     }
 }
 
-// The smallest capacity of the guest g at place k; none works under an unfit guest.
+// The smallest capacity that works, of those from lo on and below hi, or else the best so far. The call of itself comes
+// last and hands on numbers and what is lent, so that the compiler may reuse the frame.
+fn smallest_in(
+    capacities: &[u32; 16],
+    periods: &[u32; 16],
+    k: usize,
+    period: u32,
+    run: &[u32; 16],
+    every: &[u32; 16],
+    deadline: &[u32; 16],
+    tasks: usize,
+    lo: u32,
+    hi: u32,
+    best: u32,
+) -> u32
+    requires { ⌜ ((k ≤ 16) × (tasks ≤ 16)) × ((1 ≤ lo) × (hi ≤ period + 1)) ⌝ }
+    requires { ⌜ EachRuns (now run) tasks ⌝ }
+    ensures { λ r. ⌜
+        r
+        ≡ smallestOf (worksAt (guestsTake (now (capacities .entry)) (now (periods .entry)) k) period
+        (nth (now (run .entry))) (nth (now (every .entry))) (nth (now (deadline .entry))) tasks) lo hi best
+        ⌝ }
+{
+    if hi <= lo {
+        return best;
+    }
+    let s = halved(
+        capacities,
+        periods,
+        k,
+        period,
+        run,
+        every,
+        deadline,
+        tasks,
+        lo,
+        hi,
+        best,
+    );
+    smallest_in(
+        capacities,
+        periods,
+        k,
+        period,
+        run,
+        every,
+        deadline,
+        tasks,
+        s.lo,
+        s.hi,
+        s.best,
+    )
+}
+
+// What the search gave, as an answer: no capacity is 0.
+fn found_as(c: u32) -> Found
+    ensures { λ r. ⌜ r ≡ foundAs c ⌝ }
+{
+    if c < 1 { Found::Nothing } else { Found::At(c) }
+}
+
+// The smallest capacity of the guest g at place k; none works under an unfit guest. What does not depend on the
+// capacity is read off the record once.
 pub fn smallest_at(g: Guest, capacities: &[u32; 16], periods: &[u32; 16], k: usize) -> Found
     requires { ⌜ Seated g (now capacities) (now periods) k × (g .period + 1 < bound) ⌝ }
     ensures { λ r. ⌜
         r
         ≡ least
         (λ c. allTo (fittedAt (now (capacities .entry)) (now (periods .entry))) k
-        && worksAt (guestsTake (now (capacities .entry)) (now (periods .entry)) k) g c)
+        && acceptedUnder (guestsTake (now (capacities .entry)) (now (periods .entry)) k) (atCapacity g c))
         (g .period) 1
         ⌝ }
 {
     if !all_fitted(capacities, periods, k) {
         return Found::Nothing;
     }
-    smallest_in(g, capacities, periods, k, 1, g.period + 1)
+    let period = g.period;
+    let end = period + 1;
+    let every = g.every;
+    let deadline = g.deadline;
+    let tasks = g.tasks as usize;
+    let run = charged_of(g);
+    found_as(smallest_in(
+        capacities,
+        periods,
+        k,
+        period,
+        &run,
+        &every,
+        &deadline,
+        tasks,
+        1,
+        end,
+        0,
+    ))
 }

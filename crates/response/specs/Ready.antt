@@ -27,11 +27,15 @@ pub record RunsIn (g : Guest) : Type 0 where
   pub some : (i : ℕ) → i < g .tasks → 1 ≤ runOf g i
   pub short : (i : ℕ) → i < g .tasks → runOf g i ≤ longest
 
--- A guest whose capacity can be tried: it is from 1 to the period, and each run is in its range.
-pub record InRange (g : Guest) : Type 0 where
-  pub some : 1 ≤ g .capacity
-  pub within : g .capacity ≤ g .period
-  pub runs : RunsIn g
+-- the first n of a column of charged runs are at least 1
+abbrev pub EachRuns : (run : List ℕ) → ℕ → Type 0
+EachRuns run n = (i : ℕ) → i < n → 1 ≤ nth run i
+
+-- A capacity that can be tried: it is from 1 to the period, and each of the n tasks has a run.
+pub record InRange (capacity period : ℕ) (run : List ℕ) (n : ℕ) : Type 0 where
+  pub some : 1 ≤ capacity
+  pub within : capacity ≤ period
+  pub runs : EachRuns run n
 
 -- Columns of capacities and periods in their ranges, whose guest at place k is g.
 pub record Seated (g : Guest) (capacities periods : List ℕ) (k : ℕ) : Type 0 where

@@ -5,9 +5,6 @@ use Prim.Native.Nat.{ℕ}
 use Rattle.equation.specs.System.{System}
 use Rattle.response.specs.declared.trial.Trial.{Trial}
 use Rattle.response.specs.declared.trial.Trial.the-variants.{Unfit, Unmet, Works}
-use Rattle.plan.specs.Records.{deadlineOf}
-use Rattle.plan.specs.declared.Guest.{Guest}
-use Rattle.response.specs.Task.{systemOf}
 use Rattle.response.specs.Columns.{fittedIn, metUnder}
 
 -- what the two tests come to: whether the guest is fitted, and whether its tasks are met
@@ -19,7 +16,3 @@ trialBy true true = Works
 -- what the guest of a system with n tasks comes to
 unfoldable pub trialOf : System → (deadline : ℕ → ℕ) → ℕ → Trial
 trialOf S deadline n = trialBy (fittedIn S) (metUnder S deadline n)
-
--- what a guest comes to under guests that take `above v` from v ticks
-abbrev pub trialUnder : (above : ℕ → ℕ) → Guest → Trial
-trialUnder above g = trialOf (systemOf above g) (deadlineOf g) (g .tasks)

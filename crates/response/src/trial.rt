@@ -1,15 +1,14 @@
 // The one test of a capacity: whether the guest has a response, then whether its tasks are met.
 ghost use mathlib.Core.Path.{_≡_};
 ghost use Prim.Native.Nat.{_≤_};
+ghost use Rattle.lists.specs.Places.{nth};
 ghost use Rattle.equation.specs.Guest.{guestUnder};
-ghost use Rattle.response.specs.Columns.{guestsTake};
+ghost use Rattle.response.specs.Columns.{guestsTake, columnSystem};
 ghost use Rattle.response.specs.Ready.{InRange};
-ghost use Rattle.response.specs.Trial.{trialUnder};
-use crate::charge::charged_of;
+ghost use Rattle.response.specs.Trial.{trialOf};
 use crate::met::all_met;
 use lists::Found;
 use lists::is_at;
-use plan::Guest;
 
 // What a guest comes to with its capacity: unfit, fitted with a task that is not met, or fitted with all its tasks met.
 pub enum Trial {
@@ -18,29 +17,42 @@ pub enum Trial {
     Works,
 }
 
-// What the guest g comes to under the first k guests of the columns, f being its response.
-pub fn try_guest(f: Found, g: Guest, capacities: &[u32; 16], periods: &[u32; 16], k: usize) -> Trial
-    requires { ⌜ (k ≤ 16) × InRange g ⌝ }
-    requires { ⌜ f ≡ guestUnder (guestsTake (now capacities) (now periods) k) (g .capacity) (g .period) ⌝ }
-    ensures { λ r. ⌜ r ≡ trialUnder (guestsTake (now (capacities .entry)) (now (periods .entry)) k) g ⌝ }
+// What a guest comes to with a capacity under the first k guests of the columns, f being its response: its tasks are
+// read off lent columns, run being the charged runs, so that a search copies nothing for a capacity that it tries.
+pub fn try_guest(
+    f: Found,
+    capacities: &[u32; 16],
+    periods: &[u32; 16],
+    k: usize,
+    capacity: u32,
+    period: u32,
+    run: &[u32; 16],
+    every: &[u32; 16],
+    deadline: &[u32; 16],
+    tasks: usize,
+) -> Trial
+    requires { ⌜ ((k ≤ 16) × (tasks ≤ 16)) × InRange capacity period (now run) tasks ⌝ }
+    requires { ⌜ f ≡ guestUnder (guestsTake (now capacities) (now periods) k) capacity period ⌝ }
+    ensures { λ r. ⌜
+        r
+        ≡ trialOf (columnSystem (guestsTake (now (capacities .entry)) (now (periods .entry)) k) capacity period
+        (now (run .entry)) (now (every .entry)))
+        (nth (now (deadline .entry))) tasks
+        ⌝ }
 {
     if !is_at(f) {
         return Trial::Unfit;
     }
-    let every = g.every;
-    let deadline = g.deadline;
-    let n = g.tasks as usize;
-    let run = charged_of(g);
     if all_met(
         capacities,
         periods,
         k,
-        g.capacity,
-        g.period,
-        &run,
-        &every,
-        &deadline,
-        n,
+        capacity,
+        period,
+        run,
+        every,
+        deadline,
+        tasks,
     ) {
         return Trial::Works;
     }

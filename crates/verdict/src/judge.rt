@@ -95,7 +95,23 @@ fn guest_accepted(g: Guest, capacities: &[u32; 16], periods: &[u32; 16], k: usiz
     ensures { λ r. ⌜ r ≡ acceptedUnder (guestsTake (now (capacities .entry)) (now (periods .entry)) k) g ⌝ }
 {
     let f = guest_response(capacities, periods, k, g.capacity, g.period);
-    match try_guest(f, g, capacities, periods, k) {
+    let every = g.every;
+    let deadline = g.deadline;
+    let tasks = g.tasks as usize;
+    let run = charged_of(g);
+    let trial = try_guest(
+        f,
+        capacities,
+        periods,
+        k,
+        g.capacity,
+        g.period,
+        &run,
+        &every,
+        &deadline,
+        tasks,
+    );
+    match trial {
         Trial::Works => true,
         Trial::Unmet => false,
         Trial::Unfit => false,

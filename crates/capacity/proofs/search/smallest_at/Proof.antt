@@ -1,10 +1,13 @@
--- `capacity::search::smallest_at` meets its contract: nothing works under an unfit guest, else what the search finds.
--- Assumes nothing.
+-- `capacity::search::smallest_at` meets its contract: nothing works under an unfit guest, else what the search off the
+-- column of charged runs finds. Assumes nothing.
 use mathlib.Core.Path.{sym, _∙_}
 use native.Mathlib.Omega.{arith}
 use borrow.Author.Needs.{needs}
 use borrow.Author.Tests.{not-true, not-false}
-use Rattle.capacity.proofs.SearchLaws.{above-unfit, above-fitted}
+use Rattle.response.specs.Columns.{guestsTake}
+use Rattle.response.proofs.ReadyLaws.{filled-runs}
+use Rattle.capacity.proofs.SearchLaws.{works-off}
+use Rattle.capacity.proofs.Halving.{above-unfit, above-fitted}
 use Rattle.capacity.proofs.search.smallest_at.Statement.{statement}
 use Rattle.capacity.proofs.search.smallest_at.Tie as tie
 
@@ -14,18 +17,35 @@ all-fitted-requires c κs = let s = c .pre .0 in (omega (arith, s .place), λ j 
 returns : tie.Need-returns
 returns c = above-unfit _ _ (sym (c .before .all-fitted .ensures) ∙ not-true _ (c .if1 .taken))
 
-add-smallest-in : tie.Need-add-smallest-in
-add-smallest-in c = search needs
+add-end : tie.Need-add-end
+add-end c = search needs
+
+cast-tasks : tie.Need-cast-tasks
+cast-tasks c = search needs
+
+charged-of-requires : tie.Need-charged-of-requires
+charged-of-requires c κs = c .before .before .before .before .before .pre .0 .runs
 
 smallest-in-requires : tie.Need-smallest-in-requires
 smallest-in-requires c κs =
-    let s = c .before .before .before .pre .0 in
-    ((omega (arith, s .place), (omega arith, omega arith)), s .runs)
+    let filled = c .before .before .before in
+    let start = filled .before .before .before .before .before .before in
+    let s = start .pre .0 in (
+      ((omega (arith, s .place), s .runs .few), (omega arith, omega arith)),
+      filled-runs (start .args .g) (s .runs) (filled .charged-of .ensures),
+    )
+
+found-as-requires : tie.Need-found-as-requires
+found-as-requires c κs = search needs
 
 returns-2 : tie.Need-returns-2
 returns-2 c =
-    let test = c .before .before in
-    above-fitted _ _ (sym (test .before .all-fitted .ensures) ∙ not-false _ (test .if1 .left)) (c .smallest-in .ensures)
+    let filled = c .before .before .before .before .before in
+    let test = filled .before .before .before .before in
+    let g = test .before .before .args .g in
+    above-fitted _ _ (g .period) (sym (test .before .all-fitted .ensures) ∙ not-false _ (test .if1 .left))
+    (works-off (guestsTake _ _ _) g (filled .charged-of .ensures)) (c .before .smallest-in .ensures)
+    (c .found-as .ensures)
 
 pub smallest-at-spec : {M : Type 1} → statement M
 smallest-at-spec =
@@ -33,6 +53,9 @@ smallest-at-spec =
     (tie.spec
     all-fitted-requires
     returns
-    add-smallest-in
+    add-end
+    cast-tasks
+    charged-of-requires
     smallest-in-requires
+    found-as-requires
     returns-2)

@@ -1,12 +1,11 @@
--- `response::trial::try_guest` meets its contract: the guest's response is tested, then its tasks off the column of
--- charged runs. Assumes nothing.
+-- `response::trial::try_guest` meets its contract: the guest's response is tested, then its tasks. Assumes nothing.
 use mathlib.Core.Path.{refl, sym, _∙_}
 use borrow.Author.Needs.{needs}
 use borrow.Author.Tests.{not-true, not-false}
 use Rattle.response.specs.Columns.{guestsTake}
 use Rattle.response.specs.Trial.{trialBy}
 use Rattle.response.proofs.ColumnsLaws.{test-is}
-use Rattle.response.proofs.ReadyLaws.{guest-ready, met-is}
+use Rattle.response.proofs.ReadyLaws.{guest-ready}
 use Rattle.response.proofs.TrialLaws.{trial-is}
 use Rattle.response.proofs.trial.try_guest.Statement.{statement}
 use Rattle.response.proofs.trial.try_guest.Tie as tie
@@ -20,43 +19,30 @@ returns c =
     let asked = c .before in
     trial-is _ _ _ (test-is (asked .before .pre .1) (asked .is-at .ensures) (not-true _ (c .if1 .taken))) refl
 
-cast-n : tie.Need-cast-n
-cast-n c = search needs
-
-charged-of-requires : tie.Need-charged-of-requires
-charged-of-requires c κs = let test = c .before .before .before in test .before .before .pre .0 .1 .runs
-
 all-met-requires : tie.Need-all-met-requires
 all-met-requires c κs =
-    let filled = c .before .before .before in
-    let test = filled .before .before .before .before in
-    let asked = test .before in
+    let asked = c .before in
     let start = asked .before in (
-      (start .pre .0 .0, start .pre .0 .1 .runs .few),
-      guest-ready (guestsTake _ _ _) (start .args .g) (start .pre .0 .1)
-          (test-is (start .pre .1) (asked .is-at .ensures) (not-false _ (test .if1 .left)))
-          _ (filled .charged-of .ensures),
+      start .pre .0 .0,
+      guest-ready (guestsTake _ _ _) _ _ _ (start .args .every .now) _ (start .pre .0 .1)
+          (test-is (start .pre .1) (asked .is-at .ensures) (not-false _ (c .if1 .left))),
     )
 
 returns-2 : tie.Need-returns-2
 unfolding trialBy
 returns-2 c =
-    let filled = c .before .before .before .before .before in
-    let test = filled .before .before .before .before in
+    let test = c .before .before in
     let asked = test .before in
     trial-is _ _ _ (test-is (asked .before .pre .1) (asked .is-at .ensures) (not-false _ (test .if1 .left)))
-    (sym (c .before .all-met .ensures ∙ met-is (guestsTake _ _ _) (asked .before .args .g) _ (filled .charged-of .ensures))
-    ∙ c .if2 .taken)
+    (sym (c .before .all-met .ensures) ∙ c .if2 .taken)
 
 returns-3 : tie.Need-returns-3
 unfolding trialBy
 returns-3 c =
-    let filled = c .before .before .before .before .before in
-    let test = filled .before .before .before .before in
+    let test = c .before .before in
     let asked = test .before in
     trial-is _ _ _ (test-is (asked .before .pre .1) (asked .is-at .ensures) (not-false _ (test .if1 .left)))
-    (sym (c .before .all-met .ensures ∙ met-is (guestsTake _ _ _) (asked .before .args .g) _ (filled .charged-of .ensures))
-    ∙ c .if2 .left)
+    (sym (c .before .all-met .ensures) ∙ c .if2 .left)
 
 pub try-guest-spec : {M : Type 1} → statement M
 try-guest-spec =
@@ -64,8 +50,6 @@ try-guest-spec =
     (tie.spec
     is-at-requires
     returns
-    cast-n
-    charged-of-requires
     all-met-requires
     returns-2
     returns-3)

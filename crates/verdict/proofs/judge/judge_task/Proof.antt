@@ -37,9 +37,10 @@ task-response-requires c κs =
     let start = test .before .before .before .before in
     let s = start .pre in (
       (omega (arith, s .0 .place), omega (arith, s .1, s .0 .runs .few)),
-      guest-ready (guestsTake _ _ _) (start .args .g) (seated-range _ _ _ _ (s .0))
+      guest-ready (guestsTake _ _ _) _ _ _ (start .args .g .every) _
+          (seated-range _ _ _ _ (s .0) (filled .charged-of .ensures))
           (seated-fits _ _ _ _ (s .0) (sym (test .before .all-fitted .ensures) ∙ not-false _ (test .if1 .left)))
-          _ (filled .charged-of .ensures) _ (s .1),
+          _ (s .1),
     )
 
 mul-met-or-not : tie.Need-mul-met-or-not
