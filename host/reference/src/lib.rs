@@ -6,6 +6,7 @@
 //! an outcome can be compared whole: answer, next state and every lent byte.
 #![forbid(unsafe_code)]
 
+pub mod amendment;
 pub mod dispatcher;
 pub mod plan;
 pub mod samples;

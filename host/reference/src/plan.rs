@@ -6,6 +6,7 @@ mod block;
 mod tests;
 
 pub use block::{BLOCK, LONGEST_PLAN, Read, blocks_of, find, found, read, seal, write};
+pub(crate) use block::{carried_place, length_in_range, read_block};
 
 /// The most guests in a plan.
 pub const MOST_GUESTS: usize = 8;

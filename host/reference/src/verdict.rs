@@ -33,7 +33,7 @@ impl Verdict {
         }
     }
 
-    fn of(result: Result<Verdict, Refusal>) -> Verdict {
+    pub(crate) fn of(result: Result<Verdict, Refusal>) -> Verdict {
         result.unwrap_or_else(|refusal| Verdict {
             number: refusal.number,
             place: refusal.place,

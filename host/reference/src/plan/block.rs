@@ -83,10 +83,16 @@ fn may_write(guest: &Guest, place: u32, length: usize) -> Result<(), Refusal> {
     Ok(())
 }
 
-fn read_plan(bytes: &[u8]) -> Result<Plan, Refusal> {
+/// A length is that of a plan unless it is 0, not a multiple of 512, or above 4,096; else refusal 1.
+pub(crate) fn length_in_range(bytes: &[u8]) -> Result<(), Refusal> {
     if bytes.is_empty() || !bytes.len().is_multiple_of(BLOCK) || bytes.len() > LONGEST_PLAN {
         return Err(Refusal::new(1, 0));
     }
+    Ok(())
+}
+
+fn read_plan(bytes: &[u8]) -> Result<Plan, Refusal> {
+    length_in_range(bytes)?;
     let mut plan = Plan::default();
     for (place, block) in bytes.chunks(BLOCK).enumerate() {
         let earlier = &plan.guests[..place];
@@ -100,7 +106,7 @@ fn read_plan(bytes: &[u8]) -> Result<Plan, Refusal> {
 }
 
 /// One block at its place after the earlier guests, or the refusal's number.
-fn read_block(block: &[u8], place: u16, earlier: &[Guest]) -> Result<Guest, u32> {
+pub(crate) fn read_block(block: &[u8], place: u16, earlier: &[Guest]) -> Result<Guest, u32> {
     if sum_of_words(block) != 0 {
         return Err(2);
     }
@@ -118,6 +124,11 @@ fn read_block(block: &[u8], place: u16, earlier: &[Guest]) -> Result<Guest, u32>
         return Err(6);
     }
     Ok(guest)
+}
+
+/// The place that a block carries, whatever its own is.
+pub(crate) fn carried_place(block: &[u8]) -> u16 {
+    short(block, PLACE)
 }
 
 /// The sum of the block's 128 little-endian words, modulo 4,294,967,296.
