@@ -1,7 +1,7 @@
 /* The core-sharing library's C interface, for x86-64. Link libcoreshare.a, which `rt staticlib coreshare` writes.
  *
  * On one core, up to 8 guests share the time, each with up to 16 tasks. Every rule stands in document 01,
- * as the requests P1 to P5 of document 02 change it.
+ * as the requests P1 to P6 of document 02 change it.
  *
  * - Records and states cross by value, and bytes are lent for the call alone: the library keeps no pointer and
  *   no state of its own, so calls from several threads need no lock.
@@ -65,6 +65,13 @@ typedef struct CsVerdict {
     uint32_t verdict;
     uint32_t ticks;
 } CsVerdict;
+
+/* Where a guest's block stands in a plan with an amendment sheet, or the refusal and whose it is. */
+typedef struct CsLocated {
+    uint32_t number;
+    uint32_t place; /* of the block or of the refusal: in the sheet if sheet is 1, else in the plan */
+    uint32_t sheet; /* 1 the sheet, 0 the plan */
+} CsLocated;
 
 /* Where usage keeps the ticks that guest g, from 0, idled away, and those that no guest had. */
 #define CS_IDLED_AT(g) (8 + (g))
@@ -158,6 +165,41 @@ CsVerdict cs_accept(CsPlan plan);
 /* The smallest capacity at which the guest is fitted and all its tasks are met: verdict 1, ticks is the capacity.
  * Refusals: those of cs_check, then 7 no such guest, 11 no capacity works. */
 CsVerdict cs_smallest_capacity(CsPlan plan, uint32_t id);
+
+/* The next five take a standing plan's blocks and an amendment sheet: 1 to 8 blocks of guests of that plan, in any
+ * order, each with its guest's place in the plan. They answer for the plan with those blocks replaced; neither the plan
+ * nor the sheet is written.
+ * Refusals of the pair, which each of them has first:
+ * - the plan's, those of cs_read;
+ * - then the sheet's, with the position in the sheet as the place: 1 for the length, with place 0; then block by block
+ *   2 sum, 3 kind alone, 4 id (0, or that of an earlier block of the sheet), capacity, period or number of tasks, 5 a
+ *   byte that must be zero, 6 a task;
+ * - then 16 for the first block of the sheet whose id is not in the plan, or whose place is not its guest's. */
+
+/* Finds a guest's block: with number 0 it is the 512 bytes from 512 * place on, of the sheet if sheet is 1, else of the
+ * plan.
+ * Refusals: those of the pair, then 7 no such guest, which is the plan's. */
+CsLocated cs_amended_find(const uint8_t *plan, size_t plan_length, const uint8_t *sheet, size_t sheet_length,
+                          uint32_t id);
+
+/* Verdict of a guest, told as by cs_guest_verdict.
+ * Refusals: those of the pair, then 7 no such guest. */
+CsVerdict cs_amended_guest_verdict(const uint8_t *plan, size_t plan_length, const uint8_t *sheet, size_t sheet_length,
+                                   uint32_t id);
+
+/* Verdict of a task, told as by cs_task_verdict.
+ * Refusals: those of the pair, then 7 no such guest, 8 no such task. */
+CsVerdict cs_amended_task_verdict(const uint8_t *plan, size_t plan_length, const uint8_t *sheet, size_t sheet_length,
+                                  uint32_t id, uint32_t task);
+
+/* Verdict of the plan, told as by cs_accept.
+ * Refusals: those of the pair. */
+CsVerdict cs_amended_accept(const uint8_t *plan, size_t plan_length, const uint8_t *sheet, size_t sheet_length);
+
+/* The smallest capacity, told as by cs_smallest_capacity.
+ * Refusals: those of the pair, then 7 no such guest, 11 no capacity works. */
+CsVerdict cs_amended_smallest_capacity(const uint8_t *plan, size_t plan_length, const uint8_t *sheet,
+                                       size_t sheet_length, uint32_t id);
 
 /* A fresh state over the records as handed over, with no tick counted; the plan need not be an accepted one.
  * Refusals: those of cs_check. */

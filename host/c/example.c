@@ -1,5 +1,5 @@
-/* Plan A of document 01 from C: its blocks written, read and judged, and its dispatcher run until a job finishes;
- * then where the ticks went, and last a sheet of releases.
+/* Plan A of document 01 from C: its blocks written, read and judged, an amendment to it tried, and its dispatcher run
+ * until a job finishes; then where the ticks went, and last a sheet of releases.
  * From this folder: cc -O2 example.c ../../target/staticlib/libcoreshare.a -o example */
 #include "coreshare.h"
 
@@ -24,15 +24,19 @@ static int refused(const char *what, CsRefusal refusal) {
     return 1;
 }
 
+/* Guest 9 of plan A, with this capacity. */
+static CsGuest guest_9(uint32_t capacity) {
+    CsGuest made = guest(9, capacity, 20, 10, 50);
+    made.tasks = 2;
+    made.run[1] = 8;
+    made.every[1] = 100;
+    made.deadline[1] = 100;
+    return made;
+}
+
 static int write_plan_a(uint8_t bytes[2 * CS_BLOCK]) {
-    CsGuest first = guest(7, 2, 5, 1, 20);
-    CsGuest second = guest(9, 8, 20, 10, 50);
-    second.tasks = 2;
-    second.run[1] = 8;
-    second.every[1] = 100;
-    second.deadline[1] = 100;
-    return refused("write", cs_write(first, 0, bytes, CS_BLOCK)) ||
-           refused("write", cs_write(second, 1, bytes + CS_BLOCK, CS_BLOCK));
+    return refused("write", cs_write(guest(7, 2, 5, 1, 20), 0, bytes, CS_BLOCK)) ||
+           refused("write", cs_write(guest_9(8), 1, bytes + CS_BLOCK, CS_BLOCK));
 }
 
 static void print_guest(const CsPlan *plan, const CsGuest *guest) {
@@ -60,6 +64,31 @@ static void print_verdicts(const CsPlan *plan) {
     }
     printf("plan %s\n", cs_accept(*plan).verdict == 1 ? "accepted" : "not accepted");
     printf("guest 9 needs a capacity of %u\n", cs_smallest_capacity(*plan, 9).ticks);
+}
+
+/* What plan A would be with capacity 7 for guest 9; its own bytes stay as they are. */
+static int try_an_amendment(const uint8_t *plan, size_t length) {
+    uint8_t sheet[CS_BLOCK];
+    if (refused("write", cs_write(guest_9(7), 1, sheet, sizeof sheet))) {
+        return 1;
+    }
+    for (uint32_t id = 7; id <= 9; id++) {
+        CsLocated block = cs_amended_find(plan, length, sheet, sizeof sheet, id);
+        const char *whose = block.sheet ? "sheet" : "plan";
+        if (block.number == 0) {
+            printf("guest %u stands at byte %u of the %s\n", id, CS_BLOCK * block.place, whose);
+        } else {
+            printf("guest %u is refused as %u by the %s\n", id, block.number, whose);
+        }
+    }
+    printf("with capacity 7 guest 9 is fitted %u and its tasks are met %u and %u\n",
+           cs_amended_guest_verdict(plan, length, sheet, sizeof sheet, 9).ticks,
+           cs_amended_task_verdict(plan, length, sheet, sizeof sheet, 9, 1).ticks,
+           cs_amended_task_verdict(plan, length, sheet, sizeof sheet, 9, 2).ticks);
+    CsVerdict whole = cs_amended_accept(plan, length, sheet, sizeof sheet);
+    CsVerdict least = cs_amended_smallest_capacity(plan, length, sheet, sizeof sheet, 9);
+    printf("so the plan is %s, and needs %u\n", whole.verdict == 1 ? "accepted" : "not accepted", least.ticks);
+    return 0;
 }
 
 static void print_usage(const CsDispatcher *dispatcher) {
@@ -116,5 +145,8 @@ int main(void) {
         return 1;
     }
     print_verdicts(&read.plan);
+    if (try_an_amendment(bytes, sizeof bytes)) {
+        return 1;
+    }
     return run_until_finished(&read.plan);
 }

@@ -33,6 +33,10 @@ static void records(void) {
     FIELD(CsVerdict, place);
     FIELD(CsVerdict, verdict);
     FIELD(CsVerdict, ticks);
+    STRUCT(CsLocated);
+    FIELD(CsLocated, number);
+    FIELD(CsLocated, place);
+    FIELD(CsLocated, sheet);
 }
 
 static void dispatcher(void) {

@@ -1,8 +1,15 @@
 //! One safe function for each export, with its outcome whole.
 
+mod amended;
+
+pub use amended::{
+    amended_accept, amended_find, amended_guest_verdict, amended_smallest_capacity,
+    amended_task_verdict,
+};
+
 use crate::{Dispatcher, Guest, Plan, Read, Refusal, Released, Run, Start, Ticked, Verdict};
 
-/// The library's declarations: all that is unsafe is here.
+/// The library's declarations: all that is unsafe is here and in `amended`.
 #[allow(unsafe_code)]
 mod library {
     use super::*;

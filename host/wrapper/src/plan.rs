@@ -140,11 +140,7 @@ impl Plan {
     /// assert_eq!(does_not.guest_verdict(2), Ok(GuestVerdict::Unfit));
     /// ```
     pub fn guest_verdict(&self, id: u32) -> Result<GuestVerdict, Refusal> {
-        let verdict = exports::guest_verdict(self, id).taken()?;
-        Ok(match verdict.verdict {
-            1 => GuestVerdict::Fitted(verdict.ticks),
-            _ => GuestVerdict::Unfit,
-        })
+        exports::guest_verdict(self, id).of_guest()
     }
 
     /// The verdict of a task of the guest with this id; tasks are numbered from 1.
@@ -161,13 +157,7 @@ impl Plan {
     /// assert_eq!(plan.task_verdict(9, 3).unwrap_err().number, 8);
     /// ```
     pub fn task_verdict(&self, id: u32, task: u32) -> Result<TaskVerdict, Refusal> {
-        let verdict = exports::task_verdict(self, id, task).taken()?;
-        Ok(match (verdict.verdict, verdict.ticks) {
-            (1, response) => TaskVerdict::Met(response),
-            (2, 0) => TaskVerdict::Unmet,
-            (2, response) => TaskVerdict::UnmetAt(response),
-            _ => TaskVerdict::Unjudged,
-        })
+        exports::task_verdict(self, id, task).of_task()
     }
 
     /// Whether all guests are fitted and all tasks met.
@@ -179,7 +169,7 @@ impl Plan {
     /// assert_eq!(Plan::new(&[Guest::new(7, 2, 5, &[[1, 20, 3]])]).accepted(), Ok(false));
     /// ```
     pub fn accepted(&self) -> Result<bool, Refusal> {
-        Ok(exports::accept(self).taken()?.verdict == 1)
+        exports::accept(self).of_plan()
     }
 
     /// The smallest capacity at which the guest with this id is fitted and all its tasks are met.
@@ -194,11 +184,41 @@ impl Plan {
     /// assert_eq!(none.smallest_capacity(9).unwrap_err().number, 11);
     /// ```
     pub fn smallest_capacity(&self, id: u32) -> Result<u32, Refusal> {
-        Ok(exports::smallest_capacity(self, id).taken()?.ticks)
+        exports::smallest_capacity(self, id).of_capacity()
     }
 }
 
 impl Verdict {
+    /// What is said of a guest, unless it is a refusal.
+    pub(crate) fn of_guest(self) -> Result<GuestVerdict, Refusal> {
+        let verdict = self.taken()?;
+        Ok(match verdict.verdict {
+            1 => GuestVerdict::Fitted(verdict.ticks),
+            _ => GuestVerdict::Unfit,
+        })
+    }
+
+    /// What is said of a task, unless it is a refusal.
+    pub(crate) fn of_task(self) -> Result<TaskVerdict, Refusal> {
+        let verdict = self.taken()?;
+        Ok(match (verdict.verdict, verdict.ticks) {
+            (1, response) => TaskVerdict::Met(response),
+            (2, 0) => TaskVerdict::Unmet,
+            (2, response) => TaskVerdict::UnmetAt(response),
+            _ => TaskVerdict::Unjudged,
+        })
+    }
+
+    /// Whether the plan is accepted, unless it is a refusal.
+    pub(crate) fn of_plan(self) -> Result<bool, Refusal> {
+        Ok(self.taken()?.verdict == 1)
+    }
+
+    /// The smallest capacity, unless it is a refusal.
+    pub(crate) fn of_capacity(self) -> Result<u32, Refusal> {
+        Ok(self.taken()?.ticks)
+    }
+
     /// The verdict, unless it is a refusal.
     fn taken(self) -> Result<Verdict, Refusal> {
         let Verdict { number, place, .. } = self;

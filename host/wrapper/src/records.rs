@@ -62,6 +62,17 @@ pub struct Verdict {
     pub ticks: u32,
 }
 
+/// Where a guest's block stands in a plan with an amendment sheet, or the refusal.
+#[repr(C)]
+#[derive(Clone, Copy, Debug, Default, PartialEq, Eq)]
+pub struct Located {
+    pub number: u32,
+    /// Of the block or of the refusal: in the sheet if `sheet` is 1, else in the plan.
+    pub place: u32,
+    /// 1 for the sheet, 0 for the plan.
+    pub sheet: u32,
+}
+
 /// The dispatcher's state. Task `t` of guest `g`, both from 0, has its numbers at `16 * g + t`.
 ///
 /// Beside it stands where the ticks went, which no refusal looks at; [`Dispatcher::ticks`],
@@ -146,7 +157,7 @@ impl Refusal {
     pub fn meaning(self) -> &'static str {
         match self.number {
             0 => "not refused",
-            1 => "the plan's length or guest count is out of range",
+            1 => "the length of the plan or sheet, or the guest count, is out of range",
             2 => "the block's words don't sum to zero",
             3 => "the kind is not 1, or the place is not the block's own",
             4 => "id, capacity, period or number of tasks is out of range",
@@ -161,6 +172,7 @@ impl Refusal {
             13 => "a run of more than 1,000,000 ticks",
             14 => "a state outside its ranges",
             15 => "a sheet of more than 256 pairs",
+            16 => "an amendment whose id is not in the plan, or whose place is not its guest's",
             _ => "no number of document 01 or 02",
         }
     }

@@ -6,7 +6,8 @@ use std::path::{Path, PathBuf};
 use std::process::Command;
 
 use coreshare::{
-    Answer, Dispatcher, Guest, Plan, Read, Refusal, Released, Run, Start, Ticked, Verdict, pair,
+    Answer, Dispatcher, Guest, Located, Plan, Read, Refusal, Released, Run, Start, Ticked, Verdict,
+    pair,
 };
 
 /// Compiles a C file of the folder `c` beside this crate, runs it and gives what it wrote.
@@ -57,6 +58,7 @@ fn layout() -> String {
     lines!(to, "CsRefusal", Refusal, number place);
     lines!(to, "CsRead", Read, refusal plan);
     lines!(to, "CsVerdict", Verdict, number place verdict ticks);
+    lines!(to, "CsLocated", Located, number place sheet);
     lines!(to, "CsDispatcher", Dispatcher, plan usage left position rest wait age);
     lines!(to, "CsStart", Start, refusal dispatcher);
     lines!(to, "CsReleased", Released, refusal dispatcher);
@@ -96,6 +98,11 @@ task 1 met 36
 task 2 met 80
 plan accepted
 guest 9 needs a capacity of 7
+guest 7 stands at byte 0 of the plan
+guest 8 is refused as 7 by the plan
+guest 9 stands at byte 0 of the sheet
+with capacity 7 guest 9 is fitted 13 and its tasks are met 38 and 86
+so the plan is accepted, and needs 7
 after 24 ticks guest 9 finished task 1: age 24, margin 26
 guest 7 had 10 ticks and idled 10 of them away
 guest 9 had 10 ticks and idled 0 of them away
