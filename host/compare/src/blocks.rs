@@ -3,9 +3,14 @@
 use crate::random::Random;
 use reference::plan::{BLOCK, LONGEST_PLAN, Plan, blocks_of, seal};
 
-/// A plan's blocks with some damage, the checks mostly made anew so that deeper refusals are reached.
+/// A plan's blocks with some damage.
 pub fn damaged(random: &mut Random, plan: &Plan) -> Vec<u8> {
-    let mut bytes = blocks_of(plan);
+    damaged_bytes(random, blocks_of(plan))
+}
+
+/// Blocks with some damage, the checks mostly made anew so that deeper refusals are reached.
+pub fn damaged_bytes(random: &mut Random, blocks: Vec<u8>) -> Vec<u8> {
+    let mut bytes = blocks;
     for _ in 0..random.from(1, 3) {
         damage(random, &mut bytes);
     }
@@ -54,7 +59,8 @@ fn put(bytes: &mut [u8], at: usize, value: &[u8]) {
     bytes[at..at + value.len()].copy_from_slice(value);
 }
 
-fn resize(random: &mut Random, bytes: &mut Vec<u8>) {
+/// Another length: none, a byte or a block away, too long, or any.
+pub fn resize(random: &mut Random, bytes: &mut Vec<u8>) {
     let length = bytes.len();
     let lengths = [
         0,

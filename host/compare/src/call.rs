@@ -1,12 +1,13 @@
 //! A call of an export with its input, and its outcome whole.
 
 use crate::side::Side;
+use reference::amendment::Located;
 use reference::dispatcher::{Dispatcher, Released, Run, Start, Ticked};
 use reference::plan::{Guest, Plan, Read, Refusal};
 use reference::verdict::Verdict;
 
 /// The exports' names, in the order of [`Call`].
-pub const EXPORTS: [&str; 13] = [
+pub const EXPORTS: [&str; 18] = [
     "cs_read",
     "cs_check",
     "cs_write",
@@ -20,6 +21,11 @@ pub const EXPORTS: [&str; 13] = [
     "cs_sheet",
     "cs_tick",
     "cs_run",
+    "cs_amended_find",
+    "cs_amended_guest_verdict",
+    "cs_amended_task_verdict",
+    "cs_amended_accept",
+    "cs_amended_smallest_capacity",
 ];
 
 #[derive(Clone, Debug, PartialEq)]
@@ -37,6 +43,24 @@ pub enum Call {
     Sheet(Box<Dispatcher>, Vec<u64>, Vec<u32>),
     Tick(Box<Dispatcher>),
     Run(Box<Dispatcher>, u32),
+    Amended(Amended, Question),
+}
+
+/// A standing plan's blocks and an amendment sheet.
+#[derive(Clone, Debug, PartialEq)]
+pub struct Amended {
+    pub plan: Vec<u8>,
+    pub sheet: Vec<u8>,
+}
+
+/// What is asked of a plan with an amendment sheet, in the order of [`EXPORTS`].
+#[derive(Clone, Copy, Debug, PartialEq)]
+pub enum Question {
+    Find(u32),
+    Guest(u32),
+    Task(u32, u32),
+    Accept,
+    Capacity(u32),
 }
 
 /// All that a call gives back: the answer, the next state, and every lent byte and answer place that it may write.
@@ -51,6 +75,7 @@ pub enum Outcome {
     Sheet(Box<Released>, Vec<u32>),
     Ticked(Box<Ticked>),
     Run(Box<Run>),
+    Located(Located),
 }
 
 impl Call {
@@ -70,6 +95,11 @@ impl Call {
             Call::Sheet(..) => 10,
             Call::Tick(..) => 11,
             Call::Run(..) => 12,
+            Call::Amended(_, Question::Find(..)) => 13,
+            Call::Amended(_, Question::Guest(..)) => 14,
+            Call::Amended(_, Question::Task(..)) => 15,
+            Call::Amended(_, Question::Accept) => 16,
+            Call::Amended(_, Question::Capacity(..)) => 17,
         }
     }
 
@@ -95,6 +125,7 @@ impl Call {
             Call::Sheet(state, pairs, answers) => answered(side, state, pairs, answers),
             Call::Tick(state) => Outcome::Ticked((side.tick)(state).into()),
             Call::Run(state, ticks) => Outcome::Run((side.run)(state, *ticks).into()),
+            Call::Amended(of, question) => asked(side, of, *question),
         }
     }
 
@@ -115,6 +146,21 @@ fn written(side: &Side, guest: &Guest, place: u32, buffer: &[u8]) -> Outcome {
     let mut lent = buffer.to_vec();
     let refusal = (side.write)(guest, place, &mut lent);
     Outcome::Written(refusal, lent)
+}
+
+fn asked(side: &Side, of: &Amended, question: Question) -> Outcome {
+    let (plan, sheet) = (&of.plan[..], &of.sheet[..]);
+    match question {
+        Question::Find(id) => Outcome::Located((side.amended_find)(plan, sheet, id)),
+        Question::Guest(id) => Outcome::Verdict((side.amended_guest_verdict)(plan, sheet, id)),
+        Question::Task(id, task) => {
+            Outcome::Verdict((side.amended_task_verdict)(plan, sheet, id, task))
+        }
+        Question::Accept => Outcome::Verdict((side.amended_accept)(plan, sheet)),
+        Question::Capacity(id) => {
+            Outcome::Verdict((side.amended_smallest_capacity)(plan, sheet, id))
+        }
+    }
 }
 
 /// Places behind the lent answers that no call may write.
@@ -138,6 +184,7 @@ impl Outcome {
             Outcome::Released(outcome) | Outcome::Sheet(outcome, _) => outcome.refusal.number,
             Outcome::Ticked(outcome) => outcome.refusal.number,
             Outcome::Run(outcome) => outcome.refusal.number,
+            Outcome::Located(located) => located.number,
         }
     }
 

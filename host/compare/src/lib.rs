@@ -1,6 +1,7 @@
 //! Compares a side, one function for each export, with the reference.
 #![forbid(unsafe_code)]
 
+pub mod amendments;
 mod blocks;
 mod call;
 mod exhaustive;
@@ -28,8 +29,10 @@ pub fn everything(session: &mut Session, budget: Duration) {
     let end = Instant::now() + budget;
     exhaustive::compare(session);
     pairs::compare(session);
+    amendments::compare(session);
     while Instant::now() < end {
         random_calls::round(session);
+        amendments::round(session);
         histories::history(session);
         promise::histories(session);
         independence::histories(session);

@@ -14,13 +14,13 @@ pub fn compare(session: &mut Session) {
 }
 
 /// Each pair out of some damages, a damage with itself included.
-fn pairs<T: Copy>(of: &[T]) -> impl Iterator<Item = (T, T)> {
+pub fn pairs<T: Copy>(of: &[T]) -> impl Iterator<Item = (T, T)> {
     of.iter()
         .flat_map(|first| of.iter().map(|second| (*first, *second)))
 }
 
 /// Words of plan A's block at a place, each wrong in a way of its own: the offset and the word.
-fn wrong_words(place: u32) -> Vec<(usize, u32)> {
+pub fn wrong_words(place: u32) -> Vec<(usize, u32)> {
     let own = 1 + (place << 16);
     let guest = plan_a().guests[place as usize];
     let past = 32 + 12 * guest.tasks as usize;

@@ -98,7 +98,7 @@ fn fresh_id(random: &mut Random, earlier: &[Guest]) -> u32 {
 }
 
 /// A well-formed guest that asks some share of the core, in percent.
-fn guest(random: &mut Random, size: Size, id: u32, share: u32) -> Guest {
+pub fn guest(random: &mut Random, size: Size, id: u32, share: u32) -> Guest {
     let period = random.from(1, size.period);
     let capacity = match random.below(8) {
         0 => random.from(1, period),

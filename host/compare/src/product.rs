@@ -2,6 +2,7 @@
 
 use compare::side::Side;
 use coreshare::exports;
+use reference::amendment::Located;
 use reference::dispatcher::{Answer, Dispatcher, Released, Run, Start, Ticked};
 use reference::plan::{Guest, Plan, Read, Refusal};
 use reference::verdict::Verdict;
@@ -20,6 +21,17 @@ pub const PRODUCT: Side = Side {
     sheet: |state, pairs, answers| released(exports::sheet(&state_in(state), pairs, answers)),
     tick: |state| ticked(exports::tick(&state_in(state))),
     run: |state, ticks| run(exports::run(&state_in(state), ticks)),
+    amended_find: |plan, sheet, id| located(exports::amended_find(plan, sheet, id)),
+    amended_guest_verdict: |plan, sheet, id| {
+        verdict(exports::amended_guest_verdict(plan, sheet, id))
+    },
+    amended_task_verdict: |plan, sheet, id, task| {
+        verdict(exports::amended_task_verdict(plan, sheet, id, task))
+    },
+    amended_accept: |plan, sheet| verdict(exports::amended_accept(plan, sheet)),
+    amended_smallest_capacity: |plan, sheet, id| {
+        verdict(exports::amended_smallest_capacity(plan, sheet, id))
+    },
 };
 
 fn guest_in(guest: &Guest) -> coreshare::Guest {
@@ -116,6 +128,14 @@ fn verdict(verdict: coreshare::Verdict) -> Verdict {
         place: verdict.place,
         verdict: verdict.verdict,
         ticks: verdict.ticks,
+    }
+}
+
+fn located(located: coreshare::Located) -> Located {
+    Located {
+        number: located.number,
+        place: located.place,
+        sheet: located.sheet,
     }
 }
 

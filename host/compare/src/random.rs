@@ -40,6 +40,13 @@ impl Random {
         of[self.below(of.len())]
     }
 
+    /// Puts things into any order.
+    pub fn shuffle<T>(&mut self, things: &mut [T]) {
+        for at in (1..things.len()).rev() {
+            things.swap(at, self.below(at + 1));
+        }
+    }
+
     /// A number of ticks: often one that a tick or two make wrap.
     pub fn count(&mut self) -> u64 {
         match self.below(8) {

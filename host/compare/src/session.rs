@@ -7,10 +7,19 @@ use crate::shrink::shrink;
 use crate::side::{REFERENCE, Side};
 
 /// The numbers of document 01's refusals and document 02's as far as it has landed, and 0 for none.
-const NUMBERS: usize = 16;
+const NUMBERS: usize = 17;
 
 /// The numbers that a pair of a sheet is answered by.
 const ANSWERS: [usize; 5] = [0, 7, 8, 9, 10];
+
+/// The numbers that the companion answer gives of the plan, and of the sheet, of a plan with amendments.
+const LOCATED: [(&str, [usize; 8]); 2] = [
+    ("plan", [0, 1, 2, 3, 4, 5, 6, 7]),
+    ("sheet", [0, 1, 2, 3, 4, 5, 6, 16]),
+];
+
+/// The exports that judge a plan with amendments, and what each gives beside the refusals of the two.
+const AMENDED: [(usize, &[usize]); 4] = [(14, &[7]), (15, &[7, 8]), (16, &[]), (17, &[7, 11])];
 
 /// Verdicts, and kinds of answers, and 0 for none.
 const KINDS: usize = 5;
@@ -25,6 +34,8 @@ pub struct Session {
     different: [u64; EXPORTS.len()],
     /// How often a pair of a sheet was answered by each number.
     answers: [u64; NUMBERS],
+    /// How often a companion answer gave each number of the plan, and of the sheet.
+    located: [[u64; NUMBERS]; 2],
     /// Checks that are not one call: their name, how often they held, how often not.
     others: Vec<(&'static str, u64, u64)>,
     /// What else is worth knowing; it is printed, and counts neither as passed nor as failed.
@@ -41,6 +52,7 @@ impl Session {
             kinds: [[0; KINDS]; EXPORTS.len()],
             different: [0; EXPORTS.len()],
             answers: [0; NUMBERS],
+            located: [[0; NUMBERS]; 2],
             others: Vec::new(),
             facts: Vec::new(),
         }
@@ -55,6 +67,9 @@ impl Session {
             self.kinds[export][expected.kind() as usize] += 1;
             for answer in call.answers(&expected) {
                 self.answers[*answer as usize] += 1;
+            }
+            if let Outcome::Located(located) = expected {
+                self.located[located.sheet as usize][located.number as usize] += 1;
             }
         } else {
             self.different[export] += 1;
@@ -81,6 +96,11 @@ impl Session {
     /// Notes that a check held some number of times.
     pub(crate) fn note_many(&mut self, name: &'static str, times: u64) {
         self.other(name).1 += times;
+    }
+
+    /// Whether no call differed and no check failed so far.
+    pub fn found_nothing(&self) -> bool {
+        self.totals().1 == 0
     }
 
     /// Whether a check that is not one call held each time.
@@ -124,33 +144,62 @@ impl Session {
                 println!("no pair of a sheet was answered by {number}");
             }
         }
+        self.each_amended_number_seen();
         self.print_calls();
         for (name, right, wrong) in &self.others {
-            println!("{name:<24} {right:>10}{}", failures(*wrong));
+            println!("{name:<28} {right:>10}{}", failures(*wrong));
         }
         for (name, times) in &self.facts {
-            println!("{name:<24} {times:>10}  (no check)");
+            println!("{name:<28} {times:>10}  (no check)");
         }
         let (passed, failed) = self.totals();
         println!("{passed} passed, {failed} failed");
         failed == 0
     }
 
+    fn each_amended_number_seen(&mut self) {
+        for (whose, (name, numbers)) in LOCATED.into_iter().enumerate() {
+            for number in numbers {
+                let seen = self.located[whose][number] > 0;
+                self.note("each number of both seen", seen);
+                if !seen {
+                    println!("no companion answer gave {number} of the {name}");
+                }
+            }
+        }
+        for (export, own) in AMENDED {
+            for number in LOCATED[1].1.iter().chain(own) {
+                let seen = self.seen[export][*number] > 0;
+                self.note("each number of both seen", seen);
+                if !seen {
+                    println!("{} did not give {number}", EXPORTS[export]);
+                }
+            }
+        }
+    }
+
     fn print_calls(&self) {
-        println!("export                     compared  by refusal (0 is none)");
+        println!("export                         compared  by refusal (0 is none)");
         for (export, name) in EXPORTS.iter().enumerate() {
             let compared: u64 = self.seen[export].iter().sum();
             let each = counts(&self.seen[export], 0);
             let wrong = failures(self.different[export]);
-            println!("{name:<24} {compared:>10}  {each}{wrong}");
+            println!("{name:<28} {compared:>10}  {each}{wrong}");
         }
         let each = counts(&self.answers, 0);
-        println!("{:<35}  {each}", "pairs of sheets by answer");
-        println!("export                                by verdict, or kind of answer");
+        println!("{:<39}  {each}", "pairs of sheets by answer");
+        for ((name, _), numbers) in LOCATED.iter().zip(&self.located) {
+            println!(
+                "{:<39}  {}",
+                format!("companion of the {name}"),
+                counts(numbers, 0)
+            );
+        }
+        println!("export                                    by verdict, or kind of answer");
         for (export, name) in EXPORTS.iter().enumerate() {
             let each = counts(&self.kinds[export], 1);
             if !each.is_empty() {
-                println!("{name:<35}  {each}");
+                println!("{name:<39}  {each}");
             }
         }
     }

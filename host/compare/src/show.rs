@@ -1,6 +1,6 @@
 //! Prints a call and its two outcomes, leaving out what is zero.
 
-use crate::call::{Call, EXPORTS, Outcome};
+use crate::call::{Amended, Call, EXPORTS, Outcome, Question};
 use crate::side::{REFERENCE, Side};
 use reference::dispatcher::{Dispatcher, parts};
 use reference::plan::{Guest, MOST_TASKS, Plan};
@@ -33,7 +33,21 @@ fn input(call: &Call) -> String {
         }
         Call::Tick(of) => format!("{name} {}", state(of)),
         Call::Run(of, ticks) => format!("{name} ticks {ticks} {}", state(of)),
+        Call::Amended(of, question) => format!("{name} {} {}", asked(*question), amended(of)),
     }
+}
+
+fn asked(question: Question) -> String {
+    match question {
+        Question::Find(id) | Question::Guest(id) | Question::Capacity(id) => format!("id {id}"),
+        Question::Task(id, task) => format!("id {id} task {task}"),
+        Question::Accept => String::new(),
+    }
+}
+
+/// The blocks of the plan and of the sheet.
+pub fn amended(of: &Amended) -> String {
+    format!("plan {} sheet {}", blocks(&of.plan), blocks(&of.sheet))
 }
 
 fn outcome(outcome: &Outcome) -> String {
@@ -42,6 +56,7 @@ fn outcome(outcome: &Outcome) -> String {
         Outcome::Refusal(refusal) => format!("{refusal:?}"),
         Outcome::Written(refusal, bytes) => format!("{refusal:?} {}", blocks(bytes)),
         Outcome::Verdict(verdict) => format!("{verdict:?}"),
+        Outcome::Located(located) => format!("{located:?}"),
         Outcome::Start(start) => format!("{:?} {}", start.refusal, state(&start.dispatcher)),
         Outcome::Released(next) => format!("{:?} {}", next.refusal, state(&next.dispatcher)),
         Outcome::Sheet(next, answers) => {

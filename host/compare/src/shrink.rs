@@ -1,5 +1,6 @@
 //! Makes an input smaller as long as the two sides still differ.
 
+mod amended;
 mod sheets;
 mod states;
 
@@ -42,6 +43,9 @@ fn smaller(call: &Call) -> Vec<Call> {
         Call::Sheet(state, pairs, answers) => sheets::smaller(state, pairs, answers),
         Call::Tick(state) => of_state(state, Call::Tick),
         Call::Run(state, ticks) => smaller_runs(state, *ticks),
+        Call::Amended(of, question) => {
+            each(amended::smaller(of), |of| Call::Amended(of, *question))
+        }
     }
 }
 

@@ -1,5 +1,6 @@
 //! The two sides that are compared, behind the same signatures.
 
+use reference::amendment::{self, Located};
 use reference::dispatcher::{self, Dispatcher, Released, Run, Start, Ticked};
 use reference::plan::{self, Guest, Plan, Read, Refusal};
 use reference::verdict::{self, Verdict};
@@ -20,6 +21,11 @@ pub struct Side {
     pub sheet: fn(&Dispatcher, &[u64], &mut [u32]) -> Released,
     pub tick: fn(&Dispatcher) -> Ticked,
     pub run: fn(&Dispatcher, u32) -> Run,
+    pub amended_find: fn(&[u8], &[u8], u32) -> Located,
+    pub amended_guest_verdict: fn(&[u8], &[u8], u32) -> Verdict,
+    pub amended_task_verdict: fn(&[u8], &[u8], u32, u32) -> Verdict,
+    pub amended_accept: fn(&[u8], &[u8]) -> Verdict,
+    pub amended_smallest_capacity: fn(&[u8], &[u8], u32) -> Verdict,
 }
 
 /// The reference: the documents' sentences in plain Rust.
@@ -37,4 +43,9 @@ pub const REFERENCE: Side = Side {
     sheet: dispatcher::sheet,
     tick: dispatcher::tick,
     run: dispatcher::run,
+    amended_find: amendment::find,
+    amended_guest_verdict: amendment::guest_verdict,
+    amended_task_verdict: amendment::task_verdict,
+    amended_accept: amendment::accept,
+    amended_smallest_capacity: amendment::smallest_capacity,
 };

@@ -1,0 +1,197 @@
+//! Small plans with amendment sheets, all of them.
+
+use super::made::block_of;
+use super::questions;
+use crate::call::{Amended, Call, Question};
+use crate::pairs::{pairs, wrong_words};
+use crate::session::Session;
+use reference::plan::{BLOCK, Guest, LONGEST_PLAN, MOST_GUESTS, Plan, blocks_of, seal};
+use reference::samples::{full, plan_a};
+
+pub fn compare(session: &mut Session) {
+    orders(session);
+    capacities(session);
+    numbers_of_blocks(session);
+    lengths(session);
+    flipped_bits(session);
+    pairs_of_damages(session);
+}
+
+/// Every question about each guest and each task, those that are not there included.
+fn every_question(session: &mut Session, of: &Amended) {
+    for guest in [plan_a().guests[0], plan_a().guests[1], Guest::default()] {
+        for task in 0..=guest.tasks + 1 {
+            questions(session, of, guest.id, task);
+        }
+    }
+}
+
+/// Each sheet that has some of four guests, in each order, with other numbers than the plan.
+fn orders(session: &mut Session) {
+    let guest = |id, capacity| Guest::new(id, capacity, 4 + id, &[[1, 40, 30], [id, 50, 50]]);
+    let plan = blocks_of(&Plan::new(&[1, 2, 3, 4].map(|id| guest(id, 1))));
+    for places in some_in_each_order(4) {
+        let blocks = places.iter().map(|place| {
+            let id = *place as u32 + 1;
+            block_of(&guest(id, 2), *place)
+        });
+        let sheet = blocks.collect::<Vec<_>>().concat();
+        let of = Amended {
+            plan: plan.clone(),
+            sheet,
+        };
+        for id in 0..=5 {
+            questions(session, &of, id, 2);
+        }
+    }
+}
+
+/// Each choice of one or more of the first numbers, in each order.
+fn some_in_each_order(count: usize) -> Vec<Vec<usize>> {
+    let mut longest: Vec<Vec<usize>> = vec![Vec::new()];
+    let mut all = Vec::new();
+    for _ in 0..count {
+        let longer = longest.iter().flat_map(|one| {
+            let others = (0..count).filter(|number| !one.contains(number));
+            others.map(|number| [&one[..], &[number]].concat())
+        });
+        longest = longer.collect();
+        all.extend_from_slice(&longest);
+    }
+    all
+}
+
+/// Plan A with each capacity for guest 9, and with a guest for which no capacity works.
+fn capacities(session: &mut Session) {
+    let tight = Guest::new(9, 1, 6, &[[4, 6, 6]]);
+    let tried = (1..=20).map(|capacity| Guest {
+        capacity,
+        ..plan_a().guests[1]
+    });
+    for guest in tried.chain([tight]) {
+        let of = Amended {
+            plan: blocks_of(&plan_a()),
+            sheet: block_of(&guest, 1).to_vec(),
+        };
+        every_question(session, &of);
+    }
+}
+
+/// Sheets of 0 to 9 blocks for a full plan, from the first guest on, from the last one on, and from one in between:
+/// the ninth block has the first one's guest again.
+fn numbers_of_blocks(session: &mut Session) {
+    let plan = blocks_of(&full());
+    let blocks: Vec<&[u8]> = plan.chunks(BLOCK).collect();
+    for (first, step) in [(0, 1), (7, 7), (3, 5)] {
+        for count in 0..=MOST_GUESTS + 1 {
+            let places = (0..count).map(|at| (first + step * at) % MOST_GUESTS);
+            let of = Amended {
+                plan: plan.clone(),
+                sheet: places.flat_map(|place| blocks[place]).copied().collect(),
+            };
+            for id in 0..=9 {
+                session.compare(Call::Amended(of.clone(), Question::Find(id)));
+                session.compare(Call::Amended(of.clone(), Question::Guest(id)));
+            }
+        }
+    }
+}
+
+/// Every length of the sheet and of the plan, from nothing to more than a plan.
+fn lengths(session: &mut Session) {
+    let mut bytes = blocks_of(&full());
+    bytes.resize(LONGEST_PLAN + BLOCK + 2, 0);
+    for length in 0..bytes.len() {
+        let (whole, part) = (&bytes[..LONGEST_PLAN], &bytes[..length]);
+        for (plan, sheet) in [(whole, part), (part, &whole[..BLOCK]), (part, part)] {
+            let of = Amended {
+                plan: plan.to_vec(),
+                sheet: sheet.to_vec(),
+            };
+            questions(session, &of, 8, 1);
+        }
+    }
+}
+
+/// Plan A and a sheet with both of its guests, the second one first and with capacity 7.
+fn plan_a_with_both() -> Amended {
+    let [first, second] = [plan_a().guests[0], plan_a().guests[1]];
+    let less = Guest {
+        capacity: 7,
+        ..second
+    };
+    Amended {
+        plan: blocks_of(&plan_a()),
+        sheet: [block_of(&less, 1), block_of(&first, 0)].concat(),
+    }
+}
+
+/// Every bit of the sheet flipped, the check as it was and made anew; and every bit of the plan, made anew.
+fn flipped_bits(session: &mut Session) {
+    let right = plan_a_with_both();
+    for bit in 0..8 * right.sheet.len() {
+        let with_sheet = |sheet| Amended {
+            sheet,
+            ..right.clone()
+        };
+        let of = with_sheet(flipped(&right.sheet, bit));
+        session.compare(Call::Amended(of, Question::Find(9)));
+        questions(session, &with_sheet(sealed(&right.sheet, bit)), 9, 1);
+        let of = Amended {
+            plan: sealed(&right.plan, bit),
+            ..right.clone()
+        };
+        questions(session, &of, 9, 1);
+    }
+}
+
+fn flipped(bytes: &[u8], bit: usize) -> Vec<u8> {
+    let mut bytes = bytes.to_vec();
+    bytes[bit / 8] ^= 1 << (bit % 8);
+    bytes
+}
+
+/// The same with the checks made anew.
+fn sealed(bytes: &[u8], bit: usize) -> Vec<u8> {
+    let mut bytes = flipped(bytes, bit);
+    bytes.chunks_mut(BLOCK).for_each(seal);
+    bytes
+}
+
+/// Words of the sheet and of the plan, each wrong in a way of its own: the words of the sheet come after the plan's.
+fn wrong_words_of_both() -> Vec<(usize, u32)> {
+    let sheet = 2 * BLOCK;
+    let [second, first] = [wrong_words(1), wrong_words(0)];
+    let mut words = [first.clone(), second.clone()].concat();
+    words.extend(second.iter().map(|(at, word)| (sheet + at - BLOCK, *word)));
+    words.extend(first.iter().map(|(at, word)| (sheet + at + BLOCK, *word)));
+    words.extend([(sheet + 4, 8), (sheet + BLOCK + 4, 8)]);
+    words
+}
+
+/// Every pair of damages, so that every order of refusals is met: all checks are made anew, or all but that of the
+/// second damage's block.
+fn pairs_of_damages(session: &mut Session) {
+    let right = plan_a_with_both();
+    for (first, second) in pairs(&wrong_words_of_both()) {
+        let mut bytes = [&right.plan[..], &right.sheet].concat();
+        for (at, word) in [first, second] {
+            bytes[at..at + 4].copy_from_slice(&word.to_le_bytes());
+        }
+        for left in [None, Some(second.0 / BLOCK)] {
+            let mut bytes = bytes.clone();
+            for (place, block) in bytes.chunks_mut(BLOCK).enumerate() {
+                if left != Some(place) {
+                    seal(block);
+                }
+            }
+            let (plan, sheet) = bytes.split_at(right.plan.len());
+            let of = Amended {
+                plan: plan.to_vec(),
+                sheet: sheet.to_vec(),
+            };
+            questions(session, &of, 9, 1);
+            session.compare(Call::Amended(of, Question::Find(8)));
+        }
+    }
+}
