@@ -24,6 +24,8 @@ static CsPlan wide;         /* the last guest's period is the longest, so that t
 static CsDispatcher states; /* of the full plan, with a job of every task released */
 static uint64_t pairs[CS_MOST_PAIRS]; /* each task of the full plan, and once more */
 static uint32_t answers[CS_MOST_PAIRS];
+static uint8_t amendments[GUESTS * CS_BLOCK];      /* each guest of the full plan, the last one first */
+static uint8_t wide_amendments[GUESTS * CS_BLOCK]; /* the same of the wide plan */
 
 static _Alignas(4096) uint8_t stack[1 << 20];
 static uint8_t *at_call;   /* where the stack ends just before the call, arguments included */
@@ -56,6 +58,17 @@ EXPORT(cs_release, CsReleased, (CsDispatcher d, uint32_t id, uint32_t task), (st
 EXPORT(cs_tick, CsTicked, (CsDispatcher d), (states))
 EXPORT(cs_sheet, CsReleased, (CsDispatcher d, const uint64_t *p, size_t n, uint32_t *a, size_t room),
        (states, pairs, CS_MOST_PAIRS, answers, CS_MOST_PAIRS))
+EXPORT(cs_amended_find, CsLocated, (const uint8_t *p, size_t n, const uint8_t *s, size_t m, uint32_t id),
+       (bytes, sizeof bytes, amendments, sizeof amendments, GUESTS))
+EXPORT(cs_amended_guest_verdict, CsVerdict, (const uint8_t *p, size_t n, const uint8_t *s, size_t m, uint32_t id),
+       (bytes, sizeof bytes, amendments, sizeof amendments, GUESTS))
+EXPORT(cs_amended_task_verdict, CsVerdict,
+       (const uint8_t *p, size_t n, const uint8_t *s, size_t m, uint32_t id, uint32_t task),
+       (bytes, sizeof bytes, amendments, sizeof amendments, GUESTS, TASKS))
+EXPORT(cs_amended_accept, CsVerdict, (const uint8_t *p, size_t n, const uint8_t *s, size_t m),
+       (bytes, sizeof bytes, amendments, sizeof amendments))
+EXPORT(cs_amended_smallest_capacity, CsVerdict, (const uint8_t *p, size_t n, const uint8_t *s, size_t m, uint32_t id),
+       (bytes, sizeof bytes, wide_amendments, sizeof wide_amendments, GUESTS))
 EXPORT(cs_run, CsRun, (CsDispatcher d, uint32_t ticks), (states, 1000000))
 
 static const struct {
@@ -71,6 +84,11 @@ static const struct {
     {"cs_task_verdict", call_cs_task_verdict, sizeof(CsPlan)},
     {"cs_accept", call_cs_accept, sizeof(CsPlan)},
     {"cs_smallest_capacity", call_cs_smallest_capacity, sizeof(CsPlan)},
+    {"cs_amended_find", call_cs_amended_find, 0},
+    {"cs_amended_guest_verdict", call_cs_amended_guest_verdict, 0},
+    {"cs_amended_task_verdict", call_cs_amended_task_verdict, 0},
+    {"cs_amended_accept", call_cs_amended_accept, 0},
+    {"cs_amended_smallest_capacity", call_cs_amended_smallest_capacity, 0},
     {"cs_fresh", call_cs_fresh, sizeof(CsPlan)},
     {"cs_release", call_cs_release, sizeof(CsDispatcher)},
     {"cs_sheet", call_cs_sheet, sizeof(CsDispatcher)},
@@ -101,6 +119,26 @@ static void make_plan(void) {
     wide.guests[GUESTS - 1].period = 1000000;
     if (cs_accept(plan).verdict != 1 || cs_smallest_capacity(wide, GUESTS).verdict != 1) {
         fail("the full plan is not accepted");
+    }
+}
+
+/* A sheet with each guest of a full plan, the last one first. */
+static void write_amendments(const CsPlan *of, uint8_t *sheet) {
+    for (uint32_t g = 0; g < GUESTS; g++) {
+        if (cs_write(of->guests[g], g, sheet + CS_BLOCK * (GUESTS - 1 - g), CS_BLOCK).number != 0) {
+            fail("a block of an amendment sheet is refused");
+        }
+    }
+}
+
+static void make_amendments(void) {
+    write_amendments(&plan, amendments);
+    write_amendments(&wide, wide_amendments);
+    CsVerdict whole = cs_amended_accept(bytes, sizeof bytes, amendments, sizeof amendments);
+    CsVerdict least =
+        cs_amended_smallest_capacity(bytes, sizeof bytes, wide_amendments, sizeof wide_amendments, GUESTS);
+    if (whole.verdict != 1 || least.verdict != 1) {
+        fail("the amended full plan is not accepted");
     }
 }
 
@@ -160,13 +198,14 @@ int main(int count, char **words) {
     size_t most = count > 1 ? strtoull(words[1], NULL, 10) : SIZE_MAX;
     int failed = 0;
     make_plan();
+    make_amendments();
     make_state();
     make_sheet();
-    printf("%-22s %10s %10s %10s\n", "export", "arguments", "below", "together");
+    printf("%-28s %10s %10s %10s\n", "export", "arguments", "below", "together");
     for (size_t at = 0; at < sizeof exports / sizeof exports[0]; at++) {
         size_t taken = below(exports[at].call);
         size_t together = exports[at].arguments + taken;
-        printf("%-22s %10zu %10zu %10zu%s\n", exports[at].name, exports[at].arguments, taken, together,
+        printf("%-28s %10zu %10zu %10zu%s\n", exports[at].name, exports[at].arguments, taken, together,
                together > most ? "  too much" : "");
         failed |= together > most;
     }

@@ -1,6 +1,7 @@
 //! What is measured: the same call on the same input, of the library, of plain Rust behind the same
 //! interface, and of plain Rust by reference and in place.
 
+mod amended;
 mod dispatcher;
 mod sheets;
 
@@ -38,6 +39,13 @@ fn case(
 }
 
 pub fn all() -> Vec<Case> {
+    let mut all = judging();
+    all.extend(amended::all());
+    all.extend(dispatching());
+    all
+}
+
+fn judging() -> Vec<Case> {
     vec![
         read("read-1-block", inputs::near_a_million()[..512].to_vec()),
         read("read-8-blocks", inputs::near_a_million()),
@@ -58,6 +66,11 @@ pub fn all() -> Vec<Case> {
             Ok(500_047),
         ),
         capacity("capacity-none", inputs::no_capacity(), 4, Err(11)),
+    ]
+}
+
+fn dispatching() -> Vec<Case> {
+    vec![
         release("release-full", inputs::endless()),
         singles("release-256-single", inputs::twice()),
         sheet("sheet-256", inputs::twice()),

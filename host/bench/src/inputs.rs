@@ -1,4 +1,5 @@
-//! The plans that are measured, as blocks: each side reads them by its own reader. Beside them the sheets.
+//! The plans that are measured, as blocks: each side reads them by its own reader. Beside them the sheets, of
+//! amendments and of releases.
 
 use coreshare::pair;
 use plain::Guest;
@@ -9,11 +10,31 @@ const PERIODS: [u32; 8] = [
     9_973, 11_003, 13_007, 17_011, 19_013, 23_017, 29_021, 31_019,
 ];
 
+/// A standing plan and an amendment sheet in the plan's order from its first guest on, so that it can be read as a
+/// plan too.
+pub struct Amended {
+    pub plan: Vec<u8>,
+    pub sheet: Vec<u8>,
+}
+
 /// Plan A of document 01.
 pub fn plan_a() -> Vec<u8> {
+    plan_a_with(8)
+}
+
+/// Plan A with a sheet of both guests, the second with its smallest capacity.
+pub fn amended_plan_a() -> Amended {
+    Amended {
+        plan: plan_a(),
+        sheet: plan_a_with(7),
+    }
+}
+
+/// Plan A with this capacity for guest 9.
+fn plan_a_with(capacity: u32) -> Vec<u8> {
     blocks(&[
         guest(7, 2, 5, &[[1, 20, 20]]),
-        guest(9, 8, 20, &[[10, 50, 50], [8, 100, 100]]),
+        guest(9, capacity, 20, &[[10, 50, 50], [8, 100, 100]]),
     ])
 }
 
@@ -33,7 +54,15 @@ pub fn growing() -> Vec<u8> {
     })
 }
 
-/// The same, but for the very last task, which is unmet.
+/// The plan near a million with a sheet of its first guests, as they are in the growing one.
+pub fn amended(count: usize) -> Amended {
+    Amended {
+        plan: near_a_million(),
+        sheet: growing()[..BLOCK * count].to_vec(),
+    }
+}
+
+/// The growing plan, but for the very last task, which is unmet.
 pub fn last_unmet() -> Vec<u8> {
     full(|guest, task| {
         let every = 60_000 + 62_600 * task - 17 * guest;

@@ -6,7 +6,9 @@
 //!
 //! All sides are compiled at level 3 for generic x86-64, with no optimisation across the border of the
 //! library. `same` is plain Rust behind the library's interface, where plans and states cross by value;
-//! `reference` is plain Rust as it is usually written, by reference and in place.
+//! `reference` is plain Rust as it is usually written, by reference and in place. In the cases `amended-by-parts`
+//! one call of the library stands beside its parts: `same` is those by the library's own calls, `reference` by
+//! plain Rust's.
 #![forbid(unsafe_code)]
 
 mod cases;

@@ -52,7 +52,7 @@ pub fn write(guest: &Guest, place: u32, buffer: &mut [u8]) -> Result<(), Refusal
 }
 
 /// The record of a block whose sum, kind, place and head are right, or the refusal's number.
-fn decode(block: &[u8; BLOCK], place: usize) -> Result<Guest, u32> {
+pub(crate) fn decode(block: &[u8; BLOCK], place: usize) -> Result<Guest, u32> {
     if sum(block) != 0 {
         return Err(2);
     }
@@ -78,7 +78,7 @@ fn decode(block: &[u8; BLOCK], place: usize) -> Result<Guest, u32> {
     }
 }
 
-fn zeros_and_tasks(block: &[u8; BLOCK], guest: &Guest) -> Result<(), u32> {
+pub(crate) fn zeros_and_tasks(block: &[u8; BLOCK], guest: &Guest) -> Result<(), u32> {
     let zero = |part: &[u8]| part.iter().fold(0, |all, byte| all | byte) == 0;
     let past = 32 + 12 * guest.tasks as usize;
     if !zero(&block[20..32]) || !zero(&block[past..508]) {
@@ -88,6 +88,11 @@ fn zeros_and_tasks(block: &[u8; BLOCK], guest: &Guest) -> Result<(), u32> {
         true => Ok(()),
         false => Err(6),
     }
+}
+
+/// The place that a block carries.
+pub(crate) fn carried_place(block: &[u8; BLOCK]) -> usize {
+    short(block, 2).into()
 }
 
 fn encode(guest: &Guest, place: u32, block: &mut [u8; BLOCK]) {

@@ -2,6 +2,13 @@
 //! that is not optimised away.
 #![allow(improper_ctypes_definitions)] // slices, as the library takes them: a pointer and a length
 
+mod amended;
+
+pub use amended::{
+    Located, amended_accept, amended_find, amended_guest_verdict, amended_smallest_capacity,
+    amended_task_verdict,
+};
+
 use crate::dispatcher::Tick;
 use crate::verdict::TaskVerdict;
 use crate::{Dispatcher, Guest, Plan, Refusal, block};
@@ -75,28 +82,17 @@ pub extern "C" fn write(guest: Guest, place: u32, buffer: &mut [u8]) -> Refusal 
 
 #[inline(never)]
 pub extern "C" fn guest_verdict(plan: Plan, id: u32) -> Verdict {
-    verdict(
-        plan.guest_verdict(id)
-            .map(|response| response.map_or((2, 0), |ticks| (1, ticks))),
-    )
+    verdict(plan.guest_verdict(id).map(of_guest))
 }
 
 #[inline(never)]
 pub extern "C" fn task_verdict(plan: Plan, id: u32, task: u32) -> Verdict {
-    verdict(plan.task_verdict(id, task).map(|found| match found {
-        TaskVerdict::Met(ticks) => (1, ticks),
-        TaskVerdict::UnmetAt(ticks) => (2, ticks),
-        TaskVerdict::Unmet => (2, 0),
-        TaskVerdict::Unjudged => (3, 0),
-    }))
+    verdict(plan.task_verdict(id, task).map(of_task))
 }
 
 #[inline(never)]
 pub extern "C" fn accept(plan: Plan) -> Verdict {
-    verdict(
-        plan.accepted()
-            .map(|accepted| (if accepted { 1 } else { 2 }, 0)),
-    )
+    verdict(plan.accepted().map(of_plan))
 }
 
 #[inline(never)]
@@ -151,6 +147,23 @@ pub extern "C" fn run(mut dispatcher: Dispatcher, ticks: u32) -> Run {
         answer: last.map(answer).unwrap_or_default(),
         dispatcher,
     }
+}
+
+fn of_guest(response: Option<u32>) -> (u32, u32) {
+    response.map_or((2, 0), |ticks| (1, ticks))
+}
+
+fn of_task(found: TaskVerdict) -> (u32, u32) {
+    match found {
+        TaskVerdict::Met(ticks) => (1, ticks),
+        TaskVerdict::UnmetAt(ticks) => (2, ticks),
+        TaskVerdict::Unmet => (2, 0),
+        TaskVerdict::Unjudged => (3, 0),
+    }
+}
+
+fn of_plan(accepted: bool) -> (u32, u32) {
+    (if accepted { 1 } else { 2 }, 0)
 }
 
 /// A verdict's number and its ticks, or the refusal.

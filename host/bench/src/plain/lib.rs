@@ -2,6 +2,7 @@
 //! idiomatic, with the product's algorithms and its checks, and nothing proved.
 #![forbid(unsafe_code)]
 
+pub mod amended;
 pub mod block;
 pub mod capacity;
 pub mod dispatcher;

@@ -4,6 +4,7 @@ use crate as plain;
 use crate::exports;
 use compare::session::Session;
 use compare::side::Side;
+use reference::amendment::Located;
 use reference::dispatcher as dispatching;
 use reference::plan::{Guest, Plan, Read, Refusal};
 use reference::verdict::Verdict;
@@ -23,6 +24,17 @@ const PLAIN: Side = Side {
     sheet,
     tick,
     run,
+    amended_find: |plan, sheet, id| located(exports::amended_find(plan, sheet, id)),
+    amended_guest_verdict: |plan, sheet, id| {
+        verdict(exports::amended_guest_verdict(plan, sheet, id))
+    },
+    amended_task_verdict: |plan, sheet, id, task| {
+        verdict(exports::amended_task_verdict(plan, sheet, id, task))
+    },
+    amended_accept: |plan, sheet| verdict(exports::amended_accept(plan, sheet)),
+    amended_smallest_capacity: |plan, sheet, id| {
+        verdict(exports::amended_smallest_capacity(plan, sheet, id))
+    },
 };
 
 #[test]
@@ -106,6 +118,14 @@ fn verdict(told: exports::Verdict) -> Verdict {
         place: told.place,
         verdict: told.verdict,
         ticks: told.ticks,
+    }
+}
+
+fn located(told: exports::Located) -> Located {
+    Located {
+        number: told.number,
+        place: told.place,
+        sheet: told.sheet,
     }
 }
 
