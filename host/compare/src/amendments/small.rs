@@ -141,7 +141,7 @@ fn flipped_bits(session: &mut Session) {
             plan: sealed(&right.plan, bit),
             ..right.clone()
         };
-        questions(session, &of, 9, 1);
+        session.compare(Call::Amended(of, Question::Find(9)));
     }
 }
 
@@ -170,28 +170,35 @@ fn wrong_words_of_both() -> Vec<(usize, u32)> {
 }
 
 /// Every pair of damages, so that every order of refusals is met: all checks are made anew, or all but that of the
-/// second damage's block.
+/// second damage's block. The companion answer is asked for a guest that is not there, too.
 fn pairs_of_damages(session: &mut Session) {
-    let right = plan_a_with_both();
     for (first, second) in pairs(&wrong_words_of_both()) {
-        let mut bytes = [&right.plan[..], &right.sheet].concat();
-        for (at, word) in [first, second] {
-            bytes[at..at + 4].copy_from_slice(&word.to_le_bytes());
-        }
         for left in [None, Some(second.0 / BLOCK)] {
-            let mut bytes = bytes.clone();
-            for (place, block) in bytes.chunks_mut(BLOCK).enumerate() {
-                if left != Some(place) {
-                    seal(block);
-                }
+            let of = damaged([first, second], left);
+            // The same pair comes once more with its damages written in the other order.
+            if first <= second {
+                questions(session, &of, 9, 1);
             }
-            let (plan, sheet) = bytes.split_at(right.plan.len());
-            let of = Amended {
-                plan: plan.to_vec(),
-                sheet: sheet.to_vec(),
-            };
-            questions(session, &of, 9, 1);
             session.compare(Call::Amended(of, Question::Find(8)));
         }
+    }
+}
+
+/// Plan A and its sheet with words put in, and the checks made anew but for one block's.
+fn damaged(words: [(usize, u32); 2], left: Option<usize>) -> Amended {
+    let right = plan_a_with_both();
+    let mut bytes = [&right.plan[..], &right.sheet].concat();
+    for (at, word) in words {
+        bytes[at..at + 4].copy_from_slice(&word.to_le_bytes());
+    }
+    for (place, block) in bytes.chunks_mut(BLOCK).enumerate() {
+        if left != Some(place) {
+            seal(block);
+        }
+    }
+    let (plan, sheet) = bytes.split_at(right.plan.len());
+    Amended {
+        plan: plan.to_vec(),
+        sheet: sheet.to_vec(),
     }
 }
