@@ -36,8 +36,10 @@ located-none : (r after : Located) → locatedOr r after .number ≡ 0 → locat
 unfolding locatedOr refusedBy
 located-none r after e = go (r .number) e
   where
-    go : (n : ℕ) → refusedBy (λ number place. record { number = number; place = place; sheet = r .sheet }) n (r .place) after .number ≡ 0
-        → refusedBy (λ number place. record { number = number; place = place; sheet = r .sheet }) n (r .place) after ≡ after
+    at : (number place : ℕ) → Located
+    at number place = record { number = number; place = place; sheet = r .sheet }
+
+    go : (n : ℕ) → refusedBy at n (r .place) after .number ≡ 0 → refusedBy at n (r .place) after ≡ after
     go zero e = refl
     go (suc n) e = absurd (omega arith)
 

@@ -85,7 +85,9 @@ module _ (plan sheet : List ℕ) (r : Located) (e : r ≡ pairRefusal plan sheet
       neither (fileRefusal plan .number) (fileRefusal plan .place) (sheetRefusal plan sheet .number)
       (sheetRefusal plan sheet .place) (omega arith)
 
-  passes : (blocksRefusal false sheet .number ≡ 0) × (firstRefused (foreignNumber plan sheet) (blocksIn sheet) 0 .number ≡ 0)
+  passes :
+      (blocksRefusal false sheet .number ≡ 0)
+      × (firstRefused (foreignNumber plan sheet) (blocksIn sheet) 0 .number ≡ 0)
   unfolding sheetRefusal
   passes = after-zero (blocksRefusal false sheet .number) (blocksRefusal false sheet .place) _ (both .1)
 

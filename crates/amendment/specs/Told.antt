@@ -28,4 +28,5 @@ PairTells plan sheet r = planTold r ≡ pairOr refusing plan sheet (λ p. planTo
 
 -- `smallest_capacity` tells the refusal, or the capacity.
 abbrev pub CapacityTellsIn : (plan sheet : List ℕ) → (id : ℕ) → CapacityAnswer → Type 0
-CapacityTellsIn plan sheet id r = capacityTold r ≡ pairOr refusing plan sheet (λ p. capacityTold (smallestCapacity p id))
+CapacityTellsIn plan sheet id r =
+    capacityTold r ≡ pairOr refusing plan sheet (λ p. capacityTold (smallestCapacity p id))

@@ -75,7 +75,8 @@ module _ (plan sheet : List ℕ) where
       by : (x q : ℕ) → orElse x q (firstRefused (foreignNumber plan sheet) (blocksIn sheet) 0) ≡ refused (suc n) k
           → refused x q ≡ refused (suc n) k
       by zero q e =
-          absurd (other-number n k (λ d. omega arith) (first-is (foreignNumber plan sheet) (blocksIn sheet) 0 n k e .number))
+          absurd
+          (other-number n k (λ d. omega arith) (first-is (foreignNumber plan sheet) (blocksIn sheet) 0 n k e .number))
       by (suc x) q e = e
 
   -- 16 at position k: all blocks of the sheet are read, and block k is the first of no guest of the plan.

@@ -13,7 +13,7 @@ use Rattle.lists.specs.declared.Found.the-variants.{At, Nothing}
 use Rattle.plan.specs.declared.Refusal.{Refusal}
 use Rattle.plan.specs.First.{fine}
 use Rattle.block.specs.Reading.{placeIn}
-use Rattle.blockfile.specs.File.{blockAt, idAt, blocksIn, fileRefusal, firstWith}
+use Rattle.blockfile.specs.File.{blockAt, idAt, blocksIn, blocksRefusal, fileRefusal, firstWith}
 use Rattle.planfile.specs.Finder.{placeOrSeven, foundPlace, partBy, found}
 use Rattle.amendment.specs.declared.Located.{Located}
 use Rattle.amendment.specs.Pair.{inPlan, inSheet, pairRefusal}
@@ -54,14 +54,18 @@ module _ (plan sheet : List ℕ) (ok : fileRefusal plan .number ≡ 0) (i : Pair
       → partIn (standing f g .number) (standing f g .sheet) (standing f g .place) plan sheet ≡ pairFound plan sheet id
   unfolding pairFound
   part-is r e h f g a b =
-      let p = place-stands plan sheet id r (standing f g) e h (ap (λ (x : Found). standing x g) (sym a) ∙ ap (standing (firstWith sheet id)) (sym b)) in
+      let s = ap (λ (x : Found). standing x g) (sym a) ∙ ap (standing (firstWith sheet id)) (sym b) in
+      let p = place-stands plan sheet id r (standing f g) e h s in
       ap (λ (x : Located). partIn (x .number) (x .sheet) (x .place) plan sheet) p
 
   -- What the finder hands back of the replaced bytes, by what it found.
-  block-is : (q : Found) → firstWith plan id ≡ q → partBy (placeOrSeven q .number) (placeOrSeven q .place) (replaced plan sheet) ≡ found (replaced plan sheet) id
+  block-is : (q : Found) → firstWith plan id ≡ q
+      → partBy (placeOrSeven q .number) (placeOrSeven q .place) (replaced plan sheet) ≡ found (replaced plan sheet) id
   unfolding found
   block-is q e =
-      let p = place-found (replaced plan sheet) id fine (placeOrSeven q) (nothing-refused plan sheet ok i) (omega arith) (ap placeOrSeven (sym e ∙ sym same-search)) in
+      let p =
+      place-found (replaced plan sheet) id fine (placeOrSeven q) (nothing-refused plan sheet ok i) (omega arith)
+      (ap placeOrSeven (sym e ∙ sym same-search)) in
       ap (λ (x : Refusal). partBy (x .number) (x .place) (replaced plan sheet)) p
 
   -- Both by cases.
@@ -92,7 +96,8 @@ module _ (plan sheet : List ℕ) (ok : fileRefusal plan .number ≡ 0) (i : Pair
       ∙ block-is (firstWith plan id) refl
 
 -- Found is the block in those bytes.
-pub found-as : (plan sheet : List ℕ) → Fine plan sheet → (id : ℕ) → pairFound plan sheet id ≡ found (replaced plan sheet) id
+pub found-as : (plan sheet : List ℕ) → Fine plan sheet → (id : ℕ)
+    → pairFound plan sheet id ≡ found (replaced plan sheet) id
 found-as plan sheet f id =
     found-same plan sheet (well plan sheet f) (inside plan sheet f) id (pairRefusal plan sheet) refl (omega (arith, f))
 
@@ -100,12 +105,15 @@ module _ (plan sheet : List ℕ) (ok : Fine plan sheet) (id : ℕ) where
   stands : pairPlace plan sheet id ≡ standing (firstWith sheet id) (firstWith plan id)
   stands = sym (place-stands plan sheet id (pairRefusal plan sheet) _ refl (omega (arith, ok)) refl)
 
+  read : blocksRefusal false sheet .number ≡ 0
+  read = blocks-fine plan sheet (pairRefusal plan sheet) refl (omega (arith, ok))
+
   -- A block of the sheet that has the id is the one that is found there.
   only-in-sheet : (j : ℕ) → (j < blocksIn sheet) × (idAt sheet j ≡ id) → firstWith sheet id ≡ At j
   only-in-sheet j h =
       sym
       (count-at _ (blocksIn sheet) j (h .0)
-      (λ z l. ne-eqb _ _ (λ e. apart false sheet (blocks-fine plan sheet (pairRefusal plan sheet) refl (omega (arith, ok))) z j l (h .0) (e ∙ sym (h .1))))
+      (λ z l. ne-eqb _ _ (λ e. apart false sheet read z j l (h .0) (e ∙ sym (h .1))))
       (eq-eqb _ _ (h .1)))
 
   only-in-plan : (k : ℕ) → (k < blocksIn plan) × (idAt plan k ≡ id) → firstWith plan id ≡ At k

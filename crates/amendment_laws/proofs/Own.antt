@@ -55,7 +55,8 @@ module _ (plan sheet : List ℕ) (ok : fileRefusal plan .number ≡ 0) (own : Ow
   unfolding amended recordsOf
   own-plan =
       ap
-      (λ (gs : List Guest). record { count = blocksIn plan; guests = gs ++ drop (blocksIn plan) (replicate mostGuests blank) })
+      (λ (gs : List Guest).
+      record { count = blocksIn plan; guests = gs ++ drop (blocksIn plan) (replicate mostGuests blank) })
       (table-ext _ _ (blocksIn plan) (λ k l. ap (λ (b : List ℕ). guestOf b) (own-block k l)))
       ∙ sym (plan-is plan ok)
 
@@ -73,7 +74,8 @@ module _ (plan sheet : List ℕ) (ok : fileRefusal plan .number ≡ 0) (own : Ow
   pub own-answers : Fine plan sheet → AnsweredAs plan sheet (readOf plan .plan)
   own-answers f = as-same plan sheet f (readOf plan .plan) own-plan
 
-  plan-passes : (k : ℕ) → k < blocksIn plan → BlockIn (blockAt plan k) (ownPlace (blockAt plan k) k) (newId (idAt plan) k)
+  plan-passes : (k : ℕ) → k < blocksIn plan
+      → BlockIn (blockAt plan k) (ownPlace (blockAt plan k) k) (newId (idAt plan) k)
   plan-passes = plan-block plan (file-in plan ok)
 
   -- A sheet of the plan's own blocks, no two of them of one guest, is not refused.
@@ -103,7 +105,8 @@ module _ (plan sheet : List ℕ) (ok : fileRefusal plan .number ≡ 0) (own : Ow
         let d : idAt sheet j ≡ idAt plan k = ap idIn (w .1 .1) in
         let f : At k ≡ firstWith plan (idAt sheet j) =
         count-at _ (blocksIn plan) k (w .1 .0)
-        (λ z m. ne-eqb _ _ (λ e. let q = one-place plan ok z k (omega (arith, w .1 .0)) (w .1 .0) (e ∙ d) in omega arith))
+        (λ z m.
+        ne-eqb _ _ (λ e. let q = one-place plan ok z k (omega (arith, w .1 .0)) (w .1 .0) (e ∙ d) in omega arith))
         (eq-eqb _ _ (sym d)) in
         let p : placeIn (blockAt sheet j) ≡ k =
         ap (λ (b : List ℕ). placeIn b) (w .1 .1)

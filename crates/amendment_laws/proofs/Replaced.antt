@@ -76,7 +76,8 @@ module _ (plan sheet : List ℕ) (ok : fileRefusal plan .number ≡ 0) (i : Pair
   sheet-block j l = block-in _ _ _ (i .sheet .blocks j l)
 
   -- Where the sheet has a block for the guest, that block says the guest's place.
-  passes-or : (k : ℕ) → k < blocksIn plan → (f : Found) → firstWith sheet (idAt plan k) ≡ f → (fresh : Bool) → fresh ≡ true
+  passes-or : (k : ℕ) → k < blocksIn plan → (f : Found) → firstWith sheet (idAt plan k) ≡ f → (fresh : Bool)
+      → fresh ≡ true
       → blockNumber (blockOr f sheet (blockAt plan k)) (ownPlace (blockOr f sheet (blockAt plan k)) k) fresh ≡ 0
   unfolding blockOr
   passes-or k l (At j) e fresh d =
@@ -110,7 +111,9 @@ module _ (plan sheet : List ℕ) (ok : fileRefusal plan .number ≡ 0) (i : Pair
       (λ k l m. number-zero k (omega (arith, count))))
       ∙ sized true (replaced plan sheet) size-right
 
-  records-are : recordsOf (blockAt (replaced plan sheet)) (blocksIn plan) ≡ recordsOf (amendedBlock plan sheet) (blocksIn plan)
+  records-are :
+      recordsOf (blockAt (replaced plan sheet)) (blocksIn plan)
+      ≡ recordsOf (amendedBlock plan sheet) (blocksIn plan)
   unfolding recordsOf
   records-are =
       ap (λ (gs : List Guest). gs ++ drop (blocksIn plan) (replicate mostGuests blank))

@@ -1,1 +1,2 @@
-// Theorems of a plan and an amendment sheet, about the definitions alone: the pair is the plan with those blocks replaced.
+// Theorems of a plan and an amendment sheet, about the definitions alone: the pair is the plan with those blocks
+// replaced.

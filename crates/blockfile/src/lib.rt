@@ -1,4 +1,5 @@
-// Blocks one after the other: the refusal of reading them, one of them by its place or its id, and their records. Inner.
+// Blocks one after the other: the refusal of reading them, one of them by its place or its id, and their records.
+// Inner.
 mod files;
 mod guests;
 

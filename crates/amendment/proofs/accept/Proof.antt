@@ -17,7 +17,8 @@ returns : tie.Need-returns
 returns c =
     let r = c .before .before in
     let a = r .before .before .before .args in
-    pair-refuses plans.Refused (a .plan .now) (a .sheet .now) acceptance _ (r .refusal-of .ensures) (c .if1 .taken)
+    pair-refuses plans.Refused (a .plan .now) (a .sheet .now) acceptance _ (r .refusal-of .ensures)
+    (c .if1 .taken)
 
 amended-requires : tie.Need-amended-requires
 amended-requires c κs =
@@ -37,7 +38,8 @@ returns-2 c =
     let a = r .before .before .before .args in
     c .accept .ensures
     ∙ ap (acceptance) (m .amended .ensures)
-    ∙ pair-answers plans.Refused (a .plan .now) (a .sheet .now) acceptance _ (r .refusal-of .ensures) (o .if1 .left)
+    ∙ pair-answers plans.Refused (a .plan .now) (a .sheet .now) acceptance _ (r .refusal-of .ensures)
+    (o .if1 .left)
 
 pub accept-spec : {M : Type 1} → statement M
 accept-spec =

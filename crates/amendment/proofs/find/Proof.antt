@@ -1,4 +1,5 @@
--- `amendment::find` meets its contract: the block at the place that was found, in the sheet or in the plan. Assumes nothing.
+-- `amendment::find` meets its contract: the block at the place that was found, in the sheet or in the plan. Assumes
+-- nothing.
 use mathlib.Core.Path.{ap, _∙_}
 use native.Mathlib.Omega.{arith}
 use Rattle.amendment.specs.declared.Located.{Located}
@@ -26,8 +27,9 @@ block-at-requires : tie.Need-block-at-requires
 block-at-requires c κs =
     let r = c .before .before .before .before .before in
     let a = r .before .before .before .args in
-    found-within (a .plan .now) (a .sheet .now) (a .id) _ (r .find-place .ensures) (c .before .before .before .if1 .left) .0
-    (c .before .if2 .taken)
+    found-within (a .plan .now) (a .sheet .now) (a .id) _ (r .find-place .ensures)
+    (c .before .before .before .if1 .left)
+    .0 (c .before .if2 .taken)
 
 returns-2 : tie.Need-returns-2
 returns-2 c =

@@ -1,4 +1,5 @@
--- `amendment::smallest_capacity` meets its contract: the pair's refusal, or the answer about the amended plan. Assumes nothing.
+-- `amendment::smallest_capacity` meets its contract: the pair's refusal, or the answer about the amended plan. Assumes
+-- nothing.
 use mathlib.Core.Path.{ap, _∙_}
 use native.Mathlib.Omega.{arith}
 use Rattle.plan.specs.declared.Plan.{Plan}
@@ -17,7 +18,8 @@ returns : tie.Need-returns
 returns c =
     let r = c .before .before in
     let a = r .before .before .before .args in
-    pair-refuses capacity.Refused (a .plan .now) (a .sheet .now) (λ p. smallestCapacity p (a .id)) _ (r .refusal-of .ensures) (c .if1 .taken)
+    pair-refuses capacity.Refused (a .plan .now) (a .sheet .now) (λ p. smallestCapacity p (a .id)) _ (r .refusal-of .ensures)
+    (c .if1 .taken)
 
 amended-requires : tie.Need-amended-requires
 amended-requires c κs =
@@ -37,7 +39,8 @@ returns-2 c =
     let a = r .before .before .before .args in
     c .smallest-capacity .ensures
     ∙ ap (λ (p : Plan). smallestCapacity p (a .id)) (m .amended .ensures)
-    ∙ pair-answers capacity.Refused (a .plan .now) (a .sheet .now) (λ p. smallestCapacity p (a .id)) _ (r .refusal-of .ensures) (o .if1 .left)
+    ∙ pair-answers capacity.Refused (a .plan .now) (a .sheet .now) (λ p. smallestCapacity p (a .id)) _ (r .refusal-of .ensures)
+    (o .if1 .left)
 
 pub smallest-capacity-spec : {M : Type 1} → statement M
 smallest-capacity-spec =

@@ -1,4 +1,5 @@
--- `amendment::task_verdict` meets its contract: the pair's refusal, or the answer about the amended plan. Assumes nothing.
+-- `amendment::task_verdict` meets its contract: the pair's refusal, or the answer about the amended plan. Assumes
+-- nothing.
 use mathlib.Core.Path.{ap, _∙_}
 use native.Mathlib.Omega.{arith}
 use Rattle.plan.specs.declared.Plan.{Plan}
@@ -17,7 +18,8 @@ returns : tie.Need-returns
 returns c =
     let r = c .before .before in
     let a = r .before .before .before .args in
-    pair-refuses task.Refused (a .plan .now) (a .sheet .now) (λ p. taskVerdict p (a .id) (a .task)) _ (r .refusal-of .ensures) (c .if1 .taken)
+    pair-refuses task.Refused (a .plan .now) (a .sheet .now) (λ p. taskVerdict p (a .id) (a .task)) _ (r .refusal-of .ensures)
+    (c .if1 .taken)
 
 amended-requires : tie.Need-amended-requires
 amended-requires c κs =
@@ -37,7 +39,8 @@ returns-2 c =
     let a = r .before .before .before .args in
     c .task-verdict .ensures
     ∙ ap (λ (p : Plan). taskVerdict p (a .id) (a .task)) (m .amended .ensures)
-    ∙ pair-answers task.Refused (a .plan .now) (a .sheet .now) (λ p. taskVerdict p (a .id) (a .task)) _ (r .refusal-of .ensures) (o .if1 .left)
+    ∙ pair-answers task.Refused (a .plan .now) (a .sheet .now) (λ p. taskVerdict p (a .id) (a .task)) _ (r .refusal-of .ensures)
+    (o .if1 .left)
 
 pub task-verdict-spec : {M : Type 1} → statement M
 task-verdict-spec =

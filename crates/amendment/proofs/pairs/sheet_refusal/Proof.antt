@@ -1,4 +1,5 @@
--- `amendment::pairs::sheet_refusal` meets its contract: the blocks' refusal, or else that of the second pass. Assumes nothing.
+-- `amendment::pairs::sheet_refusal` meets its contract: the blocks' refusal, or else that of the second pass. Assumes
+-- nothing.
 use mathlib.Core.Path.{ap}
 use native.Mathlib.Omega.{arith}
 use Rattle.plan.specs.declared.Refusal.{Refusal}

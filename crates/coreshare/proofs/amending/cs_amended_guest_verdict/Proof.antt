@@ -1,4 +1,5 @@
--- `coreshare::amending::cs_amended_guest_verdict` meets its contract: the entry's answer, told in numbers. Assumes nothing.
+-- `coreshare::amending::cs_amended_guest_verdict` meets its contract: the entry's answer, told in numbers. Assumes
+-- nothing.
 use mathlib.Core.Path.{ap, _∙_}
 use Rattle.coreshare.specs.Told.{guestTold}
 use borrow.Author.Needs.{needs}
