@@ -6,6 +6,9 @@ ghost use Rattle.block.specs.Reading.{guestOf};
 ghost use Rattle.blockfile.specs.File.{blocksIn};
 ghost use Rattle.blockfile.specs.Records.{recordsOf};
 ghost use Rattle.amendment.specs.Amended.{amendedBlock, amended};
+ghost use Rattle.amendment.specs.Reading.{ReadsPair};
+use crate::Paired;
+use crate::pairs::refusal_of;
 use block::layout;
 use lists::Found;
 use plan::Guest;
@@ -38,7 +41,7 @@ fn guests_of(plan: &[u8], sheet: &[u8], n: usize) -> [Guest; 8]
 }
 
 // The amended plan.
-pub fn amended(plan: &[u8], sheet: &[u8]) -> Plan
+fn amended(plan: &[u8], sheet: &[u8]) -> Plan
     requires { ⌜ (blocksIn (now plan) ≤ mostGuests) × (blocksIn (now sheet) ≤ mostGuests) ⌝ }
     ensures { λ r. ⌜ r ≡ amended (now (plan .entry)) (now (sheet .entry)) ⌝ }
 {
@@ -47,5 +50,22 @@ pub fn amended(plan: &[u8], sheet: &[u8]) -> Plan
     Plan {
         count: n as u32,
         guests,
+    }
+}
+
+// A pair read; on a refusal a plan of zeros.
+pub fn read(plan: &[u8], sheet: &[u8]) -> Paired
+    ensures { λ r. ⌜ ReadsPair (now (plan .entry)) (now (sheet .entry)) r ⌝ }
+{
+    let refusal = refusal_of(plan, sheet);
+    if 0 < refusal.number {
+        return Paired {
+            refusal,
+            plan: plan::blank_plan(),
+        };
+    }
+    Paired {
+        refusal,
+        plan: amended(plan, sheet),
     }
 }

@@ -1,6 +1,6 @@
 // The verdicts and the smallest capacity, with each case of an answer told as a number.
 ghost use mathlib.Core.Path.{_≡_};
-ghost use Rattle.coreshare.specs.Told.{refusing, saying, guestTold, taskTold, planTold, capacityTold};
+ghost use Rattle.coreshare.specs.Told.{refusing, saying};
 ghost use Rattle.coreshare.specs.Promises.{TellsGuest, TellsTask, TellsPlan, TellsCapacity};
 use crate::Verdict;
 use capacity::CapacityAnswer;
@@ -10,7 +10,7 @@ use verdict::GuestVerdict;
 use verdict::TaskVerdict;
 
 // A refusal is told by its number and place.
-fn refuse(number: u32, place: u32) -> Verdict
+pub fn refuse(number: u32, place: u32) -> Verdict
     ensures { λ r. ⌜ r ≡ refusing number place ⌝ }
 {
     Verdict {
@@ -33,22 +33,22 @@ fn say(verdict: u32, ticks: u32) -> Verdict
     }
 }
 
-// A guest's verdict in numbers.
-pub fn tell_guest(v: GuestVerdict) -> Verdict
-    ensures { λ r. ⌜ r ≡ guestTold v ⌝ }
+#[no_mangle]
+pub extern "C" fn cs_guest_verdict(plan: Plan, id: u32) -> Verdict
+    ensures { λ r. ⌜ TellsGuest plan id r ⌝ }
 {
-    match v {
+    match verdict::guest_verdict(plan, id) {
         GuestVerdict::Refused(number, place) => refuse(number, place),
         GuestVerdict::Fitted(x) => say(1, x),
         GuestVerdict::Unfit => say(2, 0),
     }
 }
 
-// A task's verdict in numbers.
-pub fn tell_task(v: TaskVerdict) -> Verdict
-    ensures { λ r. ⌜ r ≡ taskTold v ⌝ }
+#[no_mangle]
+pub extern "C" fn cs_task_verdict(plan: Plan, id: u32, task: u32) -> Verdict
+    ensures { λ r. ⌜ TellsTask plan id task r ⌝ }
 {
-    match v {
+    match verdict::task_verdict(plan, id, task) {
         TaskVerdict::Refused(number, place) => refuse(number, place),
         TaskVerdict::Met(r) => say(1, r),
         TaskVerdict::UnmetAt(r) => say(2, r),
@@ -57,51 +57,23 @@ pub fn tell_task(v: TaskVerdict) -> Verdict
     }
 }
 
-// A plan's acceptance in numbers.
-pub fn tell_plan(v: Acceptance) -> Verdict
-    ensures { λ r. ⌜ r ≡ planTold v ⌝ }
+#[no_mangle]
+pub extern "C" fn cs_accept(plan: Plan) -> Verdict
+    ensures { λ r. ⌜ TellsPlan plan r ⌝ }
 {
-    match v {
+    match verdict::accept(plan) {
         Acceptance::Refused(number, place) => refuse(number, place),
         Acceptance::Accepted => say(1, 0),
         Acceptance::NotAccepted => say(2, 0),
     }
 }
 
-// A smallest capacity in numbers.
-pub fn tell_capacity(v: CapacityAnswer) -> Verdict
-    ensures { λ r. ⌜ r ≡ capacityTold v ⌝ }
-{
-    match v {
-        CapacityAnswer::Refused(number, place) => refuse(number, place),
-        CapacityAnswer::Smallest(ticks) => say(1, ticks),
-    }
-}
-
-#[no_mangle]
-pub extern "C" fn cs_guest_verdict(plan: Plan, id: u32) -> Verdict
-    ensures { λ r. ⌜ TellsGuest plan id r ⌝ }
-{
-    tell_guest(verdict::guest_verdict(plan, id))
-}
-
-#[no_mangle]
-pub extern "C" fn cs_task_verdict(plan: Plan, id: u32, task: u32) -> Verdict
-    ensures { λ r. ⌜ TellsTask plan id task r ⌝ }
-{
-    tell_task(verdict::task_verdict(plan, id, task))
-}
-
-#[no_mangle]
-pub extern "C" fn cs_accept(plan: Plan) -> Verdict
-    ensures { λ r. ⌜ TellsPlan plan r ⌝ }
-{
-    tell_plan(verdict::accept(plan))
-}
-
 #[no_mangle]
 pub extern "C" fn cs_smallest_capacity(plan: Plan, id: u32) -> Verdict
     ensures { λ r. ⌜ TellsCapacity plan id r ⌝ }
 {
-    tell_capacity(capacity::smallest_capacity(plan, id))
+    match capacity::smallest_capacity(plan, id) {
+        CapacityAnswer::Refused(number, place) => refuse(number, place),
+        CapacityAnswer::Smallest(ticks) => say(1, ticks),
+    }
 }

@@ -1,48 +1,34 @@
--- `amendment::smallest_capacity` meets its contract: the pair's refusal, or the answer about the amended plan. Assumes
--- nothing.
-use mathlib.Core.Path.{ap, _∙_}
-use native.Mathlib.Omega.{arith}
-use Rattle.plan.specs.declared.Plan.{Plan}
+-- `amendment::smallest_capacity` meets its contract: the pair's refusal, or the amended plan's answer. Assumes nothing.
+use mathlib.Core.Path.{_∙_}
 use Rattle.capacity.specs.declared.CapacityAnswer.the-variants as capacity
 use Rattle.capacity.specs.Answer.{smallestCapacity}
-use Rattle.amendment.proofs.Pair.{pair-in}
-use Rattle.amendment.proofs.Verdict.{pair-refuses, pair-answers}
+use Rattle.amendment.proofs.Verdict.{pair-refuses, read-answers}
 use borrow.Author.Needs.{needs}
 use Rattle.amendment.proofs.smallest_capacity.Statement.{statement}
 use Rattle.amendment.proofs.smallest_capacity.Tie as tie
 
-refusal-of-requires : tie.Need-refusal-of-requires
-refusal-of-requires c κs = search needs
+read-requires : tie.Need-read-requires
+read-requires c κs = search needs
 
 returns : tie.Need-returns
 returns c =
-    let r = c .before .before in
+    let r = c .before .before .before in
     let a = r .before .before .before .args in
-    pair-refuses capacity.Refused (a .plan .now) (a .sheet .now) (λ p. smallestCapacity p (a .id)) _ (r .refusal-of .ensures)
+    pair-refuses capacity.Refused (a .plan .now) (a .sheet .now) (λ p. smallestCapacity p (a .id)) _ (r .read .ensures .refusal)
     (c .if1 .taken)
-
-amended-requires : tie.Need-amended-requires
-amended-requires c κs =
-    let z = pair-in _ _ _ (c .before .before .refusal-of .ensures) (c .if1 .left) in
-    let p = z .plan .size in
-    let s = z .sheet .size in
-    omega arith
 
 smallest-capacity-requires : tie.Need-smallest-capacity-requires
 smallest-capacity-requires c κs = search needs
 
 returns-2 : tie.Need-returns-2
 returns-2 c =
-    let m = c .before in
-    let o = m .before in
-    let r = o .before .before in
+    let o = c .before in
+    let r = o .before .before .before in
     let a = r .before .before .before .args in
     c .smallest-capacity .ensures
-    ∙ ap (λ (p : Plan). smallestCapacity p (a .id)) (m .amended .ensures)
-    ∙ pair-answers capacity.Refused (a .plan .now) (a .sheet .now) (λ p. smallestCapacity p (a .id)) _ (r .refusal-of .ensures)
+    ∙ read-answers capacity.Refused (a .plan .now) (a .sheet .now) (λ p. smallestCapacity p (a .id)) _ (r .read .ensures)
     (o .if1 .left)
 
 pub smallest-capacity-spec : {M : Type 1} → statement M
 smallest-capacity-spec =
-    tie.close
-    (tie.spec refusal-of-requires returns amended-requires smallest-capacity-requires returns-2)
+    tie.close (tie.spec read-requires returns smallest-capacity-requires returns-2)

@@ -1,18 +1,39 @@
--- `coreshare::amending::cs_amended_accept` meets its contract: the entry's answer, told in numbers. Assumes nothing.
-use mathlib.Core.Path.{ap, _∙_}
-use Rattle.coreshare.specs.Told.{planTold}
+-- `coreshare::amending::cs_amended_accept` meets its contract: the refusal, or the plan's export. Assumes nothing.
+use mathlib.Core.Path.{_∙_}
+use Rattle.verdict.specs.Verdict.{acceptance}
+use Rattle.coreshare.specs.Told.{refusing, planTold}
+use Rattle.amendment.proofs.Verdict.{pair-refuses, read-answers}
 use borrow.Author.Needs.{needs}
 use Rattle.coreshare.proofs.amending.cs_amended_accept.Statement.{statement}
 use Rattle.coreshare.proofs.amending.cs_amended_accept.Tie as tie
 
-accept-requires : tie.Need-accept-requires
-accept-requires c κs = search needs
+read-requires : tie.Need-read-requires
+read-requires c κs = search needs
 
-tell-plan-requires : tie.Need-tell-plan-requires
-tell-plan-requires c κs = search needs
+refuse-requires : tie.Need-refuse-requires
+refuse-requires c κs = search needs
 
 returns : tie.Need-returns
-returns c = c .tell-plan .ensures ∙ ap planTold (c .before .accept .ensures)
+returns c =
+    let t = c .before in
+    let r = t .before .before .before in
+    let a = r .before .before .before .args in
+    c .refuse .ensures
+    ∙ pair-refuses refusing (a .plan .now) (a .sheet .now) (λ p. planTold (acceptance p)) _ (r .read .ensures .refusal)
+    (t .if1 .taken)
+
+cs-accept-requires : tie.Need-cs-accept-requires
+cs-accept-requires c κs = search needs
+
+returns-2 : tie.Need-returns-2
+returns-2 c =
+    let o = c .before in
+    let r = o .before .before .before in
+    let a = r .before .before .before .args in
+    c .cs-accept .ensures
+    ∙ read-answers refusing (a .plan .now) (a .sheet .now) (λ p. planTold (acceptance p)) _ (r .read .ensures)
+    (o .if1 .left)
 
 pub cs-amended-accept-spec : {M : Type 1} → statement M
-cs-amended-accept-spec = tie.close (tie.spec accept-requires tell-plan-requires returns)
+cs-amended-accept-spec =
+    tie.close (tie.spec read-requires refuse-requires returns cs-accept-requires returns-2)
