@@ -1,3 +1,3 @@
 -- Laws, each file named after the definitions that it is about.
-pub mod Rows
 pub mod Tallies
+pub mod Parts

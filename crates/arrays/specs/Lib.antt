@@ -1,5 +1,5 @@
 pub mod Place
 pub mod Ranges
-pub mod Rows
 pub mod Parts
 pub mod Usage
+pub mod Step

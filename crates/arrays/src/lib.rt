@@ -1,15 +1,14 @@
-// The dispatcher's numbers in lent arrays: the parts of a tick, where ticks went, and the ranges of refusal 14.
+// The dispatcher's numbers in lent arrays: one tick over them, its parts, and where it went.
 mod jobs;
-mod ranges;
 mod server;
+mod stepping;
 mod usage;
 
-pub use jobs::fall;
-pub use jobs::grow;
-pub use jobs::worker;
-pub use ranges::blank_ok;
-pub use ranges::guest_ok;
-pub use server::advance;
-pub use server::holder;
-pub use server::refill;
-pub use usage::tally;
+pub use stepping::step;
+
+// Who had a tick, as a step notes it: the guest's place and its task's, and the run left that the task had.
+pub struct Turn {
+    pub guest: usize,
+    pub task: usize,
+    pub had: u32,
+}

@@ -15,16 +15,16 @@ use Rattle.plan.specs.declared.Plan.{Plan}
 use Rattle.plan.specs.Records.{guestAt}
 use Rattle.plan.specs.Order.{planRefusal}
 use Rattle.dispatcher.specs.declared.Dispatcher.{Dispatcher}
-use Rattle.dispatcher.specs.declared.Turn.{Turn}
+use Rattle.arrays.specs.declared.Turn.{Turn}
 use Rattle.arrays.specs.Place.{placeAt}
 use Rattle.dispatcher.specs.Tick.{lessAt, refilled, holder, isHeld, leftAfter, worker, isWorked, restAfter, ageAfter, waitAfter, positionAfter, next}
 use Rattle.arrays.specs.Ranges.{noJob}
 use Rattle.dispatcher.specs.Valid.{guestInRange, taskInRange, rowOk, stateOk}
-use Rattle.arrays.specs.Rows.{blankAt}
-use Rattle.dispatcher.specs.Lent.{stateOf, Small, Quiet, Telling, Ending, Refilled, Served, Stepped, turnBy, turn}
+use Rattle.refusals.specs.Rows.{blankAt}
+use Rattle.dispatcher.specs.Lent.{stateOf, Quiet, Telling, Ending, Refilled, Served, Stepped, turnBy, turn}
 use Rattle.plan.specs.declared.Columns.{Columns}
 use Rattle.plan.specs.Filled.{ColumnsOf}
-use Rattle.arrays.specs.Usage.{tallied}
+use Rattle.arrays.specs.Step.{Small, Serves, nobody, idles, works, Numbers, Steps}
 use Rattle.arrays.specs.Parts.{filled, onward, grown, fallen, hasLeft, hasRun}
 use Rattle.lists.proofs.All.{and-left, and-right, and-true, and-false-right, all-at}
 use Rattle.lists.proofs.Places.{upTo-get, upTo-ext, upTo-short}
@@ -32,18 +32,6 @@ use Rattle.lists.proofs.Search.{first-found}
 use Rattle.plan.proofs.Order.{plan-in}
 use Rattle.dispatcher.proofs.LentCheck.{past-task-is}
 use Rattle.dispatcher.proofs.Tick.{tick-counted}
-
--- The guest that was found has capacity left.
-pub has-left : (left : List ℕ) (n k : ℕ) → k ≡ firstFrom (hasLeft left) n 0 → k < n → 1 ≤ nth left k
-has-left left n k e h =
-    let p : hasLeft left k ≡ true = rw e (first-found (hasLeft left) n 0 (omega arith)) in
-    omega (arith, ltb-true 0 (nth left k) p)
-
--- The task that was found has run left.
-pub has-run : (rest : List ℕ) (k n t : ℕ) → t ≡ firstFrom (hasRun rest k) n 0 → t < n → 1 ≤ nth rest (placeAt k t)
-has-run rest k n t e h =
-    let p : hasRun rest k t ≡ true = rw e (first-found (hasRun rest k) n 0 (omega arith)) in
-    omega (arith, ltb-true 0 (nth rest (placeAt k t)) p)
 
 module _ {d : Dispatcher} {n : ℕ} {tasks left rest : List ℕ} (l : Refilled d n tasks left rest) {k : ℕ} (e : k ≡ firstFrom (hasLeft left) n 0) where
   -- The code's guest is the rule's.
@@ -63,9 +51,9 @@ module _ {d : Dispatcher} {n : ℕ} {tasks left rest : List ℕ} (l : Refilled d
     not-worked = rw not-held refl
 
     -- Where no guest was found, nothing is served.
-    pub nobody : Served d left rest (record { guest = k; task = 0; had = 0 })
+    with-nobody : Served d left rest (record { guest = k; task = 0; had = 0 })
     unfolding leftAfter restAfter lessAt turn turnBy
-    nobody = record {
+    with-nobody = record {
       lefts = rw not-held (l .filled);
       runs = rw not-worked (l .runs);
       had = rw (not-held, holder-is) refl;
@@ -94,9 +82,9 @@ module _ {d : Dispatcher} {n : ℕ} {tasks left rest : List ℕ} (l : Refilled d
       idle = and-false-right (isHeld d) (rw (← worker-is, ← holder-is) (le-ltb t _ (rw (← l .many k h) g)))
 
       -- Where no task was found, the guest idles the tick away.
-      pub idles : Served d (set left k (nth left k - 1)) rest (record { guest = k; task = t; had = 0 })
+      with-idle : Served d (set left k (nth left k - 1)) rest (record { guest = k; task = t; had = 0 })
       unfolding restAfter lessAt turn turnBy
-      idles = record {
+      with-idle = record {
         lefts = lefts-is;
         runs = rw idle (l .runs);
         had = rw (held, idle, holder-is, worker-is) refl;
@@ -109,15 +97,21 @@ module _ {d : Dispatcher} {n : ℕ} {tasks left rest : List ℕ} (l : Refilled d
       busy = and-true held (rw (← worker-is, ← holder-is) (lt-ltb t _ (rw (← l .many k h) g)))
 
       -- The task that was found has the tick.
-      pub works :
+      with-work :
           Served d (set left k (nth left k - 1)) (set rest (placeAt k t) (nth rest (placeAt k t) - 1))
           (record { guest = k; task = t; had = nth rest (placeAt k t) })
       unfolding restAfter lessAt turn turnBy
-      works = record {
+      with-work = record {
         lefts = lefts-is;
         runs = rw (busy, l .runs, ← holder-is, ← worker-is) refl;
         had = rw (held, busy, l .runs, ← holder-is, ← worker-is) refl;
       }
+
+-- Serving the lent arrays is the rule's, whoever has the tick.
+served-is : {d : Dispatcher} {n : ℕ} {tasks left rest l r : List ℕ} {t : Turn} → Refilled d n tasks left rest → Serves n tasks left rest l r t → Served d l r t
+served-is f (nobody e h) = with-nobody f e h
+served-is f (idles e h g m) = with-idle f e h g m
+served-is f (works e h g m) = with-work f e h g m
 
 module _ {n : ℕ} {rest wait : List ℕ} (few : n ≤ 8) (z : Quiet n rest wait) where
   -- No wait falls past the guests.
@@ -139,18 +133,17 @@ module _ {p : Plan} {n : ℕ} {c : Columns} (counts : p .count ≡ n) (u : Colum
   unfolding positionAfter
   onward-is = rw counts (upTo-ext _ _ n position (λ k x b. rw (u .periods .holds k b) refl))
 
-  -- The parts of a tick make the tick.
-  pub stepped : {l l' q r' w a v : List ℕ} {t : Turn} → l ≡ upTo (filled position (c .capacities)) n left → q ≡ upTo (onward (c .periods)) n position
-      → w ≡ upTo fallen (n * 16) wait → a ≡ upTo (grown rest) (n * 16) age → n ≤ 8 → Quiet n rest wait
-      → ((d : Dispatcher) → Refilled d n (c .tasks) l rest → Served d l' r' t)
-      → v ≡ tallied (ltb (t .guest) n) (ltb 0 (t .had)) (t .guest) usage
-      → Stepped (stateOf p left position rest wait age usage) (stateOf p l' q r' w a v) t
+  -- A tick over the lent arrays is the rule's.
+  pub stepped : {a : Numbers} {t : Turn} → n ≤ 8 → Quiet n rest wait
+      → Steps n (c .capacities) (c .periods) (c .tasks)
+      (record { left = left; position = position; rest = rest; wait = wait; age = age; usage = usage }) a t
+      → Stepped (stateOf p left position rest wait age usage) (stateOf p (a .left) (a .position) (a .rest) (a .wait) (a .age) (a .usage)) t
   unfolding next waitAfter ageAfter
-  stepped e f g h few z serves i =
-      let s = serves (stateOf p left position rest wait age usage) record { count = counts; many = u .tasks .holds; filled = e ∙ refilled-is; runs = refl } in
+  stepped few z s =
+      let v = served-is {d = stateOf p left position rest wait age usage} record { count = counts; many = u .tasks .holds; filled = refilled-is; runs = refl } (s .served) in
       record {
-        state = rw (s .lefts, f, onward-is, s .runs, g, h, fallen-short few z, grown-short few z age, i, tick-counted _ (s .had) counts) refl;
-        had = s .had;
+        state = rw (v .lefts, s .moved, onward-is, v .runs, s .fell, s .grew, fallen-short few z, grown-short few z age, s .counted, tick-counted _ (v .had) counts) refl;
+        had = v .had;
       }
 
   module _ (m : Small n (c .tasks)) (z : Quiet n rest wait) where

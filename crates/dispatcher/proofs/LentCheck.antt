@@ -1,61 +1,37 @@
--- How one pass over the records comes to refusal 14's test and to the columns. Assumes nothing.
+-- How the check over lent arrays comes to refusal 14's test. Assumes nothing.
 use mathlib.Core.Path.{_≡_, refl, ap, sym, _∙_}
-use mathlib.Core.Bool.{Bool, true, false, false≢true, _&&_}
+use mathlib.Core.Bool.{Bool, true, false, _&&_}
 use mathlib.Core.List.{List, []}
-use Prim.Native.Nat.{ℕ, _+_, _≤_, _<_}
-use native.Mathlib.Decide.{decLt}
+use Prim.Native.Nat.{ℕ, _≤_, _<_}
+use native.Mathlib.Decide.{decLe, decLt}
 use native.Mathlib.Omega.{arith}
-use lib.Dec.{ltb, eqb}
-use borrow.Author.Tests.{lt-ltb, le-ltb, eq-eqb, eqb-true}
-use Rattle.lists.specs.Choice.{pick}
+use lib.Dec.{leb, eqb}
+use borrow.Author.Tests.{lt-ltb, le-ltb, le-leb, lt-leb, eq-eqb, eqb-true}
 use Rattle.lists.specs.Places.{nth}
 use Rattle.lists.specs.All.{allTo}
 use Rattle.plan.specs.declared.Plan.{Plan}
 use Rattle.plan.specs.declared.Refusal.{Refusal}
-use Rattle.plan.specs.Records.{guestAt}
-use Rattle.plan.specs.Ranges.{tasksOk}
+use Rattle.plan.specs.Ranges.{within, tasksOk}
 use Rattle.plan.specs.First.{refused}
 use Rattle.plan.specs.Order.{newId, numberOf, guestNumber, planRefusal}
-use Rattle.plan.specs.declared.Columns.{Columns}
-use Rattle.plan.specs.Filled.{Filled, ColumnsOf}
-use Rattle.dispatcher.specs.declared.Dispatcher.{Dispatcher}
-use Rattle.dispatcher.specs.declared.Checked.{Checked}
-use Rattle.dispatcher.specs.State.{guestIn}
 use Rattle.arrays.specs.Ranges.{serverOk, noServer}
+use Rattle.refusals.specs.declared.Checked.{Checked}
+use Rattle.refusals.specs.Rows.{jobIn, blankAt, guestIsOk, rowIsBlank}
+use Rattle.refusals.specs.Check.{goes, pastOk, passes, Examined}
+use Rattle.dispatcher.specs.declared.Dispatcher.{Dispatcher}
+use Rattle.dispatcher.specs.State.{guestIn}
 use Rattle.dispatcher.specs.Valid.{tasksIn, guestInRange, taskInRange, rowOk, stateOk}
-use Rattle.arrays.specs.Rows.{jobIn, blankAt, guestIsOk, rowIsBlank}
-use Rattle.dispatcher.specs.LentCheck.{Examines, guestGoes}
-use Rattle.lists.proofs.All.{and-left, and-right, and-true, all-turn, all-by, all-at, all-ext}
+use Rattle.dispatcher.specs.Lent.{stateOf}
+use Rattle.dispatcher.specs.LentCheck.{Examines}
+use Rattle.lists.proofs.All.{and-left, and-right, and-true, and-false-left, and-false-right, all-by, all-at, all-ext}
 use Rattle.lists.proofs.Refusals.{passed}
 use Rattle.plan.proofs.First.{none-refused, first-fine}
-use Rattle.plan.proofs.Order.{none, counted}
+use Rattle.plan.proofs.Order.{none, counted, count-few, count-many}
 use Rattle.plan.specs.Ranges as ranges
 
--- The ids in the column are the records'.
-new-is : (p : Plan) (ids : List ℕ) (k : ℕ) → Filled ids (λ j. guestAt (p .guests) j .id) (k + 1) → newId (nth ids) k ≡ newId (λ j. guestAt (p .guests) j .id) k
-unfolding newId
-new-is p ids k f = all-ext _ _ k (λ j l. rw (f .holds j (omega arith), f .holds k (omega arith)) refl)
-
--- The loop's turn: one guest more goes.
-pub goes-turn : (d : Dispatcher) {ids : List ℕ} (k : ℕ) {ok new good : Bool} → Filled ids (λ j. guestIn d j .id) (k + 1) → ok ≡ allTo (guestGoes d) k
-    → new ≡ newId (nth ids) k
-    → good ≡ guestIsOk (guestIn d k) k (nth (d .left) k) (nth (d .position) k) (d .rest) (d .wait) (d .age)
-    → (ok && (new && good)) ≡ allTo (guestGoes d) (k + 1)
-goes-turn d {ids} k {ok} {new} {good} f e g h = all-turn (guestGoes d) k ok (new && good) e (rw (g, new-is (d .plan) ids k f, h) refl)
-
--- whether row k, if past the n guests, is blank
-abbrev pub pastOk : (n : ℕ) (left position rest wait age : List ℕ) → ℕ → Bool
-pastOk n left position rest wait age k = pick (ltb k n) true (rowIsBlank k (nth left k) (nth position k) rest wait age)
-
-module _ (n : ℕ) (left position rest wait age : List ℕ) where
-  -- The rows of the guests are not looked at.
-  pub past-none : true ≡ allTo (pastOk n left position rest wait age) n
-  past-none = sym (all-by _ n (λ k h. rw (lt-ltb k n h) refl))
-
-  -- The loop's turn: one row more is blank.
-  pub past-turn : (k : ℕ) {ok r : Bool} → n ≤ k → ok ≡ allTo (pastOk n left position rest wait age) k → r ≡ rowIsBlank k (nth left k) (nth position k) rest wait age
-      → (ok && r) ≡ allTo (pastOk n left position rest wait age) (k + 1)
-  past-turn k {ok} {r} h e f = all-turn _ k ok r e (rw (le-ltb k n h) f)
+-- whether guest k of a state goes
+abbrev guestGoes : Dispatcher → ℕ → Bool
+guestGoes d = goes (d .plan) (d .left) (d .position) (d .rest) (d .wait) (d .age)
 
 module _ (d : Dispatcher) (k : ℕ) where
   -- The test of a task, or of a place past the tasks of a guest, is the definition's.
@@ -129,9 +105,9 @@ module _ (d : Dispatcher) (some : 1 ≤ d .plan .count) (few : d .plan .count �
   past = pastOk (d .plan .count) (d .left) (d .position) (d .rest) (d .wait) (d .age)
 
   -- A state that passes is in its ranges.
-  passes : (allTo (guestGoes d) (d .plan .count) && allTo past 8) ≡ true → stateOk d ≡ true
+  in-ranges : (allTo (guestGoes d) (d .plan .count) && allTo past 8) ≡ true → stateOk d ≡ true
   unfolding stateOk
-  passes e =
+  in-ranges e =
       let each : (k : ℕ) → k < d .plan .count → guestGoes d k ≡ true = λ k h. all-at (guestGoes d) (d .plan .count) k h (and-left _ (allTo past 8) e) in
       and-true
       (eq-eqb (planRefusal (d .plan) .number) 0 (numbers-none (λ k h. goes-number k h (each k h) .0)))
@@ -162,20 +138,32 @@ module _ (d : Dispatcher) (some : 1 ≤ d .plan .count) (few : d .plan .count �
           ]
 
   -- Guests that go and blank rows are a state in its ranges.
-  pub pass-is : (allTo (guestGoes d) (d .plan .count) && allTo past 8) ≡ stateOk d
-  pass-is = same _ (stateOk d) passes stands
+  pass-is : (allTo (guestGoes d) (d .plan .count) && allTo past 8) ≡ stateOk d
+  pass-is = same _ (stateOk d) in-ranges stands
 
--- A plan of no guest, or of more than 8, is outside its ranges.
-pub uncounted : (d : Dispatcher) (r : Checked) → r .ok ≡ false → refused 1 0 ≡ planRefusal (d .plan) → Examines d r
+-- A state whose plan has no guest, or more than 8, is outside its ranges.
+uncounted : (d : Dispatcher) → refused 1 0 ≡ planRefusal (d .plan) → stateOk d ≡ false
 unfolding stateOk
-uncounted d r e f =
-    let s : stateOk d ≡ false = rw (← f) refl in
-    record { okay = e ∙ sym s; columns = λ t. absurd (false≢true (sym s ∙ t)) }
+uncounted d f = rw (← f) refl
 
--- The pass over the guests and the rows past them examines the state.
-pub examined : (d : Dispatcher) {ok b : Bool} {c : Columns} → 1 ≤ d .plan .count → d .plan .count ≤ 8
-    → ok ≡ allTo (guestGoes d) (d .plan .count)
-    → ColumnsOf (d .plan .guests) (d .plan .count) c
-    → b ≡ allTo (pastOk (d .plan .count) (d .left) (d .position) (d .rest) (d .wait) (d .age)) 8
-    → Examines d (record { ok = ok && b; columns = c })
-examined d s f e u p = record { okay = rw (e, p) (pass-is d s f); columns = λ t. u }
+-- The check over lent arrays is refusal 14's test.
+pub passes-is : (d : Dispatcher) → passes (d .plan) (d .left) (d .position) (d .rest) (d .wait) (d .age) ≡ stateOk d
+unfolding passes
+passes-is d =
+    elim (decLe 1 (d .plan .count)) [
+      | yes s ↦
+          elim (decLe (d .plan .count) 8) [
+            | yes f ↦ rw (le-leb 1 (d .plan .count) s, le-leb (d .plan .count) 8 f) (pass-is d s f)
+            | no f ↦
+                and-false-left _ (and-false-right (leb 1 (d .plan .count)) (lt-leb (d .plan .count) 8 (omega arith)))
+                ∙ sym (uncounted d (count-many (d .plan) s (omega arith)))
+          ]
+      | no s ↦ and-false-left _ (and-false-left _ (lt-leb 1 (d .plan .count) (omega arith))) ∙ sym (uncounted d (count-few (d .plan) (omega arith)))
+    ]
+
+-- The check over lent arrays examines the state, wherever its ticks went.
+pub examines : {p : Plan} {left position rest wait age : List ℕ} {r : Checked} → Examined p left position rest wait age r → (usage : List ℕ)
+    → Examines (stateOf p left position rest wait age usage) r
+examines {p} {left} {position} {rest} {wait} {age} e usage =
+    let q = passes-is (stateOf p left position rest wait age usage) in
+    record { okay = e .okay ∙ q; columns = λ t. e .columns (q ∙ t) }

@@ -5,7 +5,7 @@ use native.Mathlib.Numerals.{add-one}
 use native.Mathlib.Omega.{arith}
 use Rattle.lists.specs.Choice.{pick}
 use Rattle.dispatcher.specs.declared.Dispatcher.{Dispatcher}
-use Rattle.dispatcher.specs.declared.Turn.{Turn}
+use Rattle.arrays.specs.declared.Turn.{Turn}
 use Rattle.dispatcher.specs.declared.Answer.{Answer}
 use Rattle.dispatcher.specs.Tick.{next}
 use Rattle.dispatcher.specs.Answer.{answer, finishes}

@@ -8,10 +8,10 @@ use Rattle.lists.specs.Choice.{pick}
 use Rattle.lists.specs.Places.{nth}
 use Rattle.plan.specs.declared.Plan.{Plan}
 use Rattle.plan.specs.Order.{planRefusal}
+use Rattle.arrays.specs.declared.Turn.{Turn}
 use Rattle.dispatcher.specs.declared.Dispatcher.{Dispatcher}
 use Rattle.dispatcher.specs.declared.Answer.{Answer}
 use Rattle.dispatcher.specs.declared.Answer.the-variants.{Silent}
-use Rattle.dispatcher.specs.declared.Turn.{Turn}
 use Rattle.dispatcher.specs.State.{guestIn, restAt}
 use Rattle.dispatcher.specs.Tick.{refilled, holder, isHeld, leftAfter, worker, isWorked, restAfter, ageAfter, next}
 use Rattle.dispatcher.specs.Answer.{answer}
@@ -21,11 +21,6 @@ use Rattle.dispatcher.specs.Run.{ranTo, runFor}
 abbrev pub stateOf : Plan → (left position rest wait age usage : List ℕ) → Dispatcher
 stateOf p left position rest wait age usage =
     record { plan = p; left = left; position = position; rest = rest; wait = wait; age = age; usage = usage }
-
--- n guests of at most 16 tasks each
-pub record Small (n : ℕ) (tasks : List ℕ) : Type 0 where
-  pub guests : n ≤ 8
-  pub each : (k : ℕ) → k < n → nth tasks k ≤ 16
 
 -- arrays where no job runs or waits past the first n guests
 pub record Quiet (n : ℕ) (rest wait : List ℕ) : Type 0 where

@@ -7,6 +7,5 @@ pub mod Answer
 pub mod Run
 pub mod Lent
 pub mod LentCheck
-pub mod LentRelease
 pub mod Entries
 pub mod Promises

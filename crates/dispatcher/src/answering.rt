@@ -5,7 +5,7 @@ ghost use Rattle.dispatcher.specs.declared.Dispatcher.{Dispatcher};
 ghost use Rattle.dispatcher.specs.Answer.{marginOf, answer};
 ghost use Rattle.dispatcher.specs.Lent.{Telling, Ending};
 use crate::Answer;
-use crate::Turn;
+use arrays::Turn;
 use plan::Plan;
 
 // Who had a tick that finished no job, by the ids of the n guests.

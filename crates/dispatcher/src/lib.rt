@@ -3,14 +3,11 @@ mod answering;
 mod releasing;
 mod running;
 mod starting;
-mod stepping;
 mod ticking;
-mod validating;
 
-use plan::Columns;
+use arrays::Turn;
 use plan::Plan;
 use plan::Refusal;
-pub use validating::examine; // Inner: calls built above this crate check a state by it.
 
 // The plan's records; for each guest the capacity left and the position in its period;
 // for task t of guest g, at place 16 g + t, the run left, the wait and the age.
@@ -41,19 +38,6 @@ pub enum Answer {
     },
 }
 
-// Who had a tick, as a step notes it: the guest's place and its task's, and the run left that the task had.
-pub struct Turn {
-    pub guest: usize,
-    pub task: usize,
-    pub had: u32,
-}
-
-// Whether a state is in its ranges, and the columns that the check read on its way.
-pub struct Checked {
-    pub ok: bool,
-    pub columns: Columns,
-}
-
 // What a run over lent arrays gives beside them.
 pub struct RunOutcome {
     pub number: u32,
@@ -65,15 +49,6 @@ pub struct RunOutcome {
 pub struct Went {
     pub done: u32,
     pub turn: Turn,
-}
-
-// The number that a release is refused by, or 0, and then the place that it is for, with the run and the wait that it
-// sets there.
-pub struct Aim {
-    pub number: u32,
-    pub at: usize,
-    pub run: u32,
-    pub every: u32,
 }
 
 #[repr(C)]

@@ -6,20 +6,21 @@ ghost use Rattle.plan.specs.declared.Plan as declared;
 ghost use Rattle.plan.specs.First.{refused};
 ghost use Rattle.plan.specs.Filled.{ColumnsOf};
 ghost use Rattle.dispatcher.specs.declared.Answer.the-variants.{Silent};
-ghost use Rattle.dispatcher.specs.Lent.{stateOf, Small, Quiet, Gone};
+ghost use Rattle.arrays.specs.Step.{Small};
+ghost use Rattle.dispatcher.specs.Lent.{stateOf, Quiet, Gone};
 ghost use Rattle.dispatcher.specs.Promises.{Runs};
 use crate::Answer;
 use crate::Dispatcher;
 use crate::Ran;
 use crate::RunOutcome;
-use crate::Turn;
 use crate::Went;
 use crate::answering::finished;
 use crate::answering::unfinished;
-use crate::stepping::step;
-use crate::validating::examine;
+use arrays::Turn;
+use arrays::step;
 use plan::Plan;
 use plan::Refusal;
+use refusals::examine;
 
 // Steps until one finishes a job or the number is used up.
 fn steps(

@@ -12,17 +12,21 @@ use Rattle.plan.specs.declared.Plan.{Plan}
 use Rattle.plan.specs.Place.{placeOf}
 use Rattle.plan.specs.Records.{guestAt}
 use Rattle.arrays.specs.Place.{placeAt}
+use Rattle.arrays.specs.Step.{Small}
+use Rattle.refusals.specs.declared.Aim.{Aim}
+use Rattle.refusals.specs.Check.{passes}
+use Rattle.refusals.specs.Aims.{AimsAt, Aims}
 use Rattle.dispatcher.specs.declared.Dispatcher.{Dispatcher}
 use Rattle.dispatcher.specs.declared.Released.{Released}
-use Rattle.dispatcher.specs.declared.Aim.{Aim}
 use Rattle.dispatcher.specs.Valid.{stateOk}
 use Rattle.dispatcher.specs.Release.{release}
-use Rattle.dispatcher.specs.Lent.{stateOf, Small}
-use Rattle.dispatcher.specs.LentRelease.{AimsAt, Aims}
+use Rattle.dispatcher.specs.Lent.{stateOf}
 use Rattle.sheet.specs.Sheet.{pairGuest, pairTask}
 use Rattle.sheet.specs.Lent.{SheetColumns, PairTaken}
 use Rattle.lists.proofs.Search.{first-ext}
-use Rattle.dispatcher.proofs.Release.{release-refused, release-taken, no-task, past-tasks, too-soon, unfinished, takes-it, aims-none, aims-on}
+use Rattle.refusals.proofs.Aims.{no-task, past-tasks, too-soon, unfinished, takes-it, aims-none, aims-on}
+use Rattle.dispatcher.proofs.LentCheck.{passes-is}
+use Rattle.dispatcher.proofs.Release.{release-refused, release-taken}
 
 -- Where a release is refused by x.
 abbrev missed : ℕ → Aim
@@ -53,7 +57,7 @@ pub of-pair :
 of-pair e f T = record { answer = rw (← e, ← f) (T .answer); state = rw (← e, ← f) (T .state) }
 
 -- A refused release is told by its number, and the state is as it was.
-refused-told : (d : Dispatcher) (id task x : ℕ) → 1 ≤ x → Aims d id task (missed x) → ReleaseTold d d id task x
+refused-told : (d : Dispatcher) (id task x : ℕ) → 1 ≤ x → Aims (d .plan) (d .left) (d .position) (d .rest) (d .wait) (d .age) id task (missed x) → ReleaseTold d d id task x
 refused-told d id task x h a =
     let e = release-refused d id task a h in
     record { answer = ap (λ (r : Released). r .refusal .number) e; state = ap (λ (r : Released). r .state) e }
@@ -62,6 +66,10 @@ module _ (p : Plan) (left position rest wait age usage : List ℕ) {n : ℕ} {id
     (S : SheetColumns p n ids tasks runs periods)
     (ok : stateOk (stateOf p left position rest wait age usage) ≡ true)
     (id task : ℕ) {k : ℕ} (found : k ≡ firstFrom (λ j. eqb (nth ids j) id) n 0) where
+  -- The state passes the check.
+  passing : passes p left position rest wait age ≡ true
+  passing = passes-is (stateOf p left position rest wait age usage) ∙ ok
+
   -- The place in the column of ids is the plan's.
   place-here : k ≡ placeOf p id
   unfolding placeOf
@@ -73,14 +81,14 @@ module _ (p : Plan) (left position rest wait age usage : List ℕ) {n : ℕ} {id
       → ReleaseTold (stateOf p left position rest wait age usage) (stateOf p left position rest wait age usage) id task 7
   told-7 h =
       refused-told _ id task 7 (omega arith)
-      (aims-none _ id task (missed 7) ok place-here refl (omega (arith, S .count)))
+      (aims-none _ _ _ _ _ _ id task (missed 7) passing place-here refl (omega (arith, S .count)))
 
   module _ (h : k < n) where
     -- The guest's own refusals.
     own : {x : ℕ} → 1 ≤ x → AimsAt (guestAt (p .guests) k) k task rest wait (missed x)
         → ReleaseTold (stateOf p left position rest wait age usage) (stateOf p left position rest wait age usage) id task x
     own {x} l a =
-        refused-told _ id task x l (aims-on _ id task (missed x) ok place-here (omega (arith, S .count)) a)
+        refused-told _ id task x l (aims-on _ _ _ _ _ _ id task (missed x) passing place-here (omega (arith, S .count)) a)
 
     -- No task has number 0.
     pub told-8 :
@@ -127,5 +135,5 @@ module _ (p : Plan) (left position rest wait age usage : List ℕ) {n : ℕ} {id
             let t : task - 1 < guestAt (p .guests) k .tasks = omega (arith, inside) in
             let a = takes-it (guestAt (p .guests) k) k task rest wait r one inside due refl free
             record { place = refl; inside = l; run = S .jobs .run k (task - 1) in-plan t; period = S .jobs .period k (task - 1) in-plan t } in
-            let e = release-taken _ id task (aims-on (stateOf p left position rest wait age usage) id task r ok place-here in-plan a) (omega arith) in
+            let e = release-taken (stateOf p left position rest wait age usage) id task (aims-on p left position rest wait age id task r passing place-here in-plan a) (omega arith) in
             record { answer = ap (λ (z : Released). z .refusal .number) e; state = ap (λ (z : Released). z .state) e }

@@ -11,11 +11,11 @@ use Rattle.lists.specs.Refusals.{refusal, _orRefuse_}
 use Rattle.plan.specs.Filled.{ColumnsOf}
 use Rattle.plan.specs.First.{refused}
 use Rattle.plan.specs.Order.{planRefusal}
+use Rattle.arrays.specs.Step.{Small}
+use Rattle.refusals.specs.declared.Checked.{Checked}
 use Rattle.dispatcher.specs.declared.Dispatcher.{Dispatcher}
 use Rattle.dispatcher.specs.declared.Released.{Released}
-use Rattle.dispatcher.specs.declared.Checked.{Checked}
 use Rattle.dispatcher.specs.Valid.{stateOk}
-use Rattle.dispatcher.specs.Lent.{Small}
 use Rattle.dispatcher.specs.LentCheck.{Examines}
 use Rattle.sheet.specs.Sheet.{mostPairs, sheetNumber, sheetBy, sheet, answeredBy, answered}
 use Rattle.sheet.specs.Lent.{JobsOf, SheetColumns, AllTaken}

@@ -7,8 +7,8 @@ ghost use Rattle.sheet.specs.Sheet.{mostPairs};
 ghost use Rattle.sheet.specs.Promises.{Sheets};
 use dispatcher::Dispatcher;
 use dispatcher::Released;
-use dispatcher::examine;
 use plan::Refusal;
+use refusals::examine;
 
 mod columns;
 mod pairs;

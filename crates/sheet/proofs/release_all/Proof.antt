@@ -1,6 +1,7 @@
 -- `sheet::release_all` meets its promise: the check once, then the whole refusals in order, then the pairs. Assumes
 -- nothing.
 use borrow.Author.Needs.{needs}
+use Rattle.dispatcher.proofs.LentCheck.{examines}
 use Rattle.sheet.proofs.Whole.{whole-refused, whole-taken, state-in, room-enough, plan-fine, small, sheet-columns}
 use Rattle.sheet.proofs.release_all.Statement.{statement}
 use Rattle.sheet.proofs.release_all.Tie as tie
@@ -12,7 +13,7 @@ whole-number-requires : tie.Need-whole-number-requires
 whole-number-requires c κs = search needs
 
 returns : tie.Need-returns
-returns c = whole-refused _ _ _ (c .before .before .examine .ensures _) (c .before .whole-number .ensures) (c .if1 .taken)
+returns c = whole-refused _ _ _ (examines (c .before .before .examine .ensures) _) (c .before .whole-number .ensures) (c .if1 .taken)
 
 cast-n : tie.Need-cast-n
 cast-n c = search needs
@@ -21,13 +22,13 @@ jobs-of-requires : tie.Need-jobs-of-requires
 jobs-of-requires c κs =
     let e = c .before .before .before .before in
     let a = e .before .before .before .before .before .before .before .before .before .before .before .before .before .before .before .args in
-    plan-fine (a .state) (a .pairs .now) (a .answers .now) (e .before .before .examine .ensures (a .state .usage)) (e .before .whole-number .ensures) (e .if1 .left)
+    plan-fine (a .state) (a .pairs .now) (a .answers .now) (examines (e .before .before .examine .ensures) (a .state .usage)) (e .before .whole-number .ensures) (e .if1 .left)
 
 take-all-requires : tie.Need-take-all-requires
 take-all-requires c κs =
     let e = c .before .before .before .before .before .before .before .before .before .before .before .before .before .before .before in
     let a = e .before .before .before .before .before .before .before .before .before .before .before .before .before .before .before .args in
-    let E = e .before .before .examine .ensures (a .state .usage) in
+    let E = examines (e .before .before .examine .ensures) (a .state .usage) in
     (small (a .state) (a .pairs .now) (a .answers .now) E (e .before .whole-number .ensures) (e .if1 .left), room-enough (a .state) (a .pairs .now) (a .answers .now) E (e .before .whole-number .ensures) (e .if1 .left))
 
 same-length : tie.Need-same-length
@@ -38,7 +39,7 @@ returns-2 c =
     let t = c .before .before in
     let e = t .before .before .before .before .before .before .before .before .before .before .before .before .before .before .before .before in
     let a = e .before .before .before .before .before .before .before .before .before .before .before .before .before .before .before .args in
-    let E = e .before .before .examine .ensures (a .state .usage) in
+    let E = examines (e .before .before .examine .ensures) (a .state .usage) in
     let N = e .before .whole-number .ensures in
     whole-taken (a .state) (a .pairs .now) (a .answers .now) E N (e .if1 .left)
     (t .take-all .ensures (a .state .plan) (a .state .left) (a .state .position) (a .state .usage) (sheet-columns (a .state) (a .pairs .now) (a .answers .now) E N (e .if1 .left) (t .before .before .before .before .before .before .before .before .before .before .before .jobs-of .ensures)) (state-in (a .state) (a .pairs .now) (a .answers .now) E N (e .if1 .left)))

@@ -4,6 +4,7 @@ use borrow.Author.Needs.{needs}
 use borrow.Author.Tests.{not-true, not-false}
 use Rattle.dispatcher.specs.Lent.{stateOf}
 use Rattle.dispatcher.proofs.Valid.{ok-plan}
+use Rattle.dispatcher.proofs.LentCheck.{examines}
 use Rattle.dispatcher.proofs.Lent.{small-tasks, quiet, telling, ending}
 use Rattle.dispatcher.proofs.Entries.{run-refused, run-long, run-idle, run-done}
 use Rattle.dispatcher.proofs.running.ran.Statement.{statement}
@@ -18,7 +19,7 @@ unmoved-requires c κs = search needs
 returns : tie.Need-returns
 returns c =
     rw (c .unmoved .ensures)
-    (run-refused _ _ (sym (c .before .before .before .examine .ensures _ .okay) ∙ not-true _ (c .before .if1 .taken)))
+    (run-refused _ _ (sym (examines (c .before .before .before .examine .ensures) _ .okay) ∙ not-true _ (c .before .if1 .taken)))
 
 unmoved-requires-2 : tie.Need-unmoved-requires-2
 unmoved-requires-2 c κs = search needs
@@ -26,7 +27,7 @@ unmoved-requires-2 c κs = search needs
 returns-2 : tie.Need-returns-2
 returns-2 c =
     rw (c .unmoved2 .ensures)
-    (run-long _ _ (sym (c .before .before .before .before .examine .ensures _ .okay) ∙ not-false _ (c .before .before .if1 .left))
+    (run-long _ _ (sym (examines (c .before .before .before .before .examine .ensures) _ .okay) ∙ not-false _ (c .before .before .if1 .left))
     (c .before .if2 .taken))
 
 cast-n : tie.Need-cast-n
@@ -36,7 +37,7 @@ steps-requires : tie.Need-steps-requires
 steps-requires c κs =
     let e = c .before .before .before .before .before .before .before .before .before .before .before .before .before .before .before .before in
     let a = e .before .before .before .before .before .before .before .before .args in
-    let x = e .before .before .examine .ensures (a .usage .now) in
+    let x = examines (e .before .before .examine .ensures) (a .usage .now) in
     let k = sym (x .okay) ∙ not-false _ (e .if1 .left) in
     small-tasks (ok-plan _ k) (x .columns k)
 
@@ -47,7 +48,7 @@ returns-3 : tie.Need-returns-3
 returns-3 c =
     let e = c .before .before .before .before .before .before .before .before .before .before .before .before .before .before .before .before .before .before .before .before in
     let a = e .before .before .before .before .before .before .before .before .args in
-    let x = e .before .before .examine .ensures (a .usage .now) in
+    let x = examines (e .before .before .examine .ensures) (a .usage .now) in
     let k = sym (x .okay) ∙ not-false _ (e .if1 .left) in
     let g = c .before .before .before .steps .ensures (a .plan) _ refl (x .columns k) (quiet _ k) in
     rw (c .unmoved3 .ensures) (run-idle k (c .before .before .before .before .before .before .before .before .before .before .before .before .before .before .before .before .before .before .before .if2 .left) g (c .before .if3 .taken))
@@ -56,7 +57,7 @@ finished-requires : tie.Need-finished-requires
 finished-requires c κs =
     let e = c .before .before .before .before .before .before .before .before .before .before .before .before .before .before .before .before .before .before .before .before .before .before in
     let a = e .before .before .before .before .before .before .before .before .args in
-    let x = e .before .before .examine .ensures (a .usage .now) in
+    let x = examines (e .before .before .examine .ensures) (a .usage .now) in
     let k = sym (x .okay) ∙ not-false _ (e .if1 .left) in
     let d = stateOf (a .plan) (a .left .now) (a .position .now) (a .rest .now) (a .wait .now) (a .age .now) (a .usage .now) in
     let g = c .before .before .before .before .before .steps .ensures (a .plan) _ refl (x .columns k) (quiet _ k) in
@@ -66,7 +67,7 @@ returns-4 : tie.Need-returns-4
 returns-4 c =
     let e = c .before .before .before .before .before .before .before .before .before .before .before .before .before .before .before .before .before .before .before .before .before .before .before in
     let a = e .before .before .before .before .before .before .before .before .args in
-    let x = e .before .before .examine .ensures (a .usage .now) in
+    let x = examines (e .before .before .examine .ensures) (a .usage .now) in
     let k = sym (x .okay) ∙ not-false _ (e .if1 .left) in
     let d = stateOf (a .plan) (a .left .now) (a .position .now) (a .rest .now) (a .wait .now) (a .age .now) (a .usage .now) in
     let t = c .before .before .before .before in
@@ -78,7 +79,7 @@ unfinished-requires : tie.Need-unfinished-requires
 unfinished-requires c κs =
     let e = c .before .before .before .before .before .before .before .before .before .before .before .before .before .before .before .before .before .before .before .before .before .before in
     let a = e .before .before .before .before .before .before .before .before .args in
-    let x = e .before .before .examine .ensures (a .usage .now) in
+    let x = examines (e .before .before .examine .ensures) (a .usage .now) in
     let k = sym (x .okay) ∙ not-false _ (e .if1 .left) in
     let d = stateOf (a .plan) (a .left .now) (a .position .now) (a .rest .now) (a .wait .now) (a .age .now) (a .usage .now) in
     let g = c .before .before .before .before .before .steps .ensures (a .plan) _ refl (x .columns k) (quiet _ k) in
@@ -88,7 +89,7 @@ returns-5 : tie.Need-returns-5
 returns-5 c =
     let e = c .before .before .before .before .before .before .before .before .before .before .before .before .before .before .before .before .before .before .before .before .before .before .before in
     let a = e .before .before .before .before .before .before .before .before .args in
-    let x = e .before .before .examine .ensures (a .usage .now) in
+    let x = examines (e .before .before .examine .ensures) (a .usage .now) in
     let k = sym (x .okay) ∙ not-false _ (e .if1 .left) in
     let d = stateOf (a .plan) (a .left .now) (a .position .now) (a .rest .now) (a .wait .now) (a .age .now) (a .usage .now) in
     let t = c .before .before .before .before in

@@ -7,7 +7,7 @@ use borrow.Author.Needs.{needs}
 use Rattle.plan.specs.declared.Plan.{Plan}
 use Rattle.plan.specs.Filled.{ColumnsOf}
 use Rattle.dispatcher.specs.Lent.{stateOf, Quiet}
-use Rattle.dispatcher.proofs.Lent.{quiet-kept}
+use Rattle.dispatcher.proofs.Lent.{stepped, quiet-kept}
 use Rattle.dispatcher.proofs.Run.{Going, starts, goes-on, stops, used-up}
 use Rattle.dispatcher.proofs.running.steps.Statement.{statement}
 use Rattle.dispatcher.proofs.running.steps.Tie as tie
@@ -40,7 +40,7 @@ returns c =
     let t = c .before .before .before .before .before .before .before .before .before in
     λ p i n u z.
     let g = t .before .loop .inv .1 p i n u z in
-    stops (g .0) (t .loop-test .taken) (c .before .before .step .ensures p i n u (g .1)) (c .if1 .taken)
+    stops (g .0) (t .loop-test .taken) (stepped n u _ _ _ _ _ _ (t .before .before .pre .guests) (g .1) (c .before .before .step .ensures)) (c .if1 .taken)
 
 loop-less : tie.Need-loop-less Inv-loop μ-loop
 loop-less c = search needs
@@ -51,7 +51,7 @@ loop-again c =
       search needs,
       λ p i n u z.
           let g = t .before .loop .inv .1 p i n u z in
-          let s = c .before .before .step .ensures p i n u (g .1) in
+          let s = stepped n u _ _ _ _ _ _ (t .before .before .pre .guests) (g .1) (c .before .before .step .ensures) in
           (goes-on (g .0) (t .loop-test .taken) s (c .if1 .left), quiet-kept n u _ _ _ _ _ _ (t .before .before .pre) (g .1) s),
     )
 

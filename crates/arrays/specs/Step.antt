@@ -1,0 +1,45 @@
+-- One tick over lent arrays: what is lent, and what each array holds after it. Inner: the rule of a tick
+-- (`dispatcher/specs/Tick`) does not name this.
+use mathlib.Core.Path.{_≡_}
+use mathlib.Core.List.{List}
+use Prim.Native.Nat.{ℕ, _-_, _*_, _≤_, _<_}
+use lib.ListN.{set}
+use lib.Dec.{ltb}
+use Rattle.lists.specs.Places.{nth, upTo}
+use Rattle.lists.specs.Search.{firstFrom}
+use Rattle.arrays.specs.declared.Turn.{Turn}
+use Rattle.arrays.specs.Place.{placeAt}
+use Rattle.arrays.specs.Parts.{filled, onward, grown, fallen, hasLeft, hasRun}
+use Rattle.arrays.specs.Usage.{tallied}
+
+-- n guests of at most 16 tasks each
+pub record Small (n : ℕ) (tasks : List ℕ) : Type 0 where
+  pub guests : n ≤ 8
+  pub each : (k : ℕ) → k < n → nth tasks k ≤ 16
+
+-- what serving the arrays gives: nobody has the tick; the first guest with capacity left, k, idles it away; or its first
+-- task with run left, t, has it
+pub data Serves (n : ℕ) (tasks left rest : List ℕ) : (left' rest' : List ℕ) → Turn → Type 0 where
+  nobody : {k : ℕ} → k ≡ firstFrom (hasLeft left) n 0 → n ≤ k → Serves n tasks left rest left rest (record { guest = k; task = 0; had = 0 })
+  idles : {k t : ℕ} → k ≡ firstFrom (hasLeft left) n 0 → k < n → t ≡ firstFrom (hasRun rest k) (nth tasks k) 0 → nth tasks k ≤ t
+      → Serves n tasks left rest (set left k (nth left k - 1)) rest (record { guest = k; task = t; had = 0 })
+  works : {k t : ℕ} → k ≡ firstFrom (hasLeft left) n 0 → k < n → t ≡ firstFrom (hasRun rest k) (nth tasks k) 0 → t < nth tasks k
+      → Serves n tasks left rest (set left k (nth left k - 1)) (set rest (placeAt k t) (nth rest (placeAt k t) - 1))
+      (record { guest = k; task = t; had = nth rest (placeAt k t) })
+
+-- the numbers that a state holds beside its plan
+pub record Numbers : Type 0 where
+  pub left : List ℕ
+  pub position : List ℕ
+  pub rest : List ℕ
+  pub wait : List ℕ
+  pub age : List ℕ
+  pub usage : List ℕ
+
+-- one tick of n guests: the numbers before it and after it, and who had it
+pub record Steps (n : ℕ) (capacities periods tasks : List ℕ) (b a : Numbers) (r : Turn) : Type 0 where
+  pub served : Serves n tasks (upTo (filled (b .position) capacities) n (b .left)) (b .rest) (a .left) (a .rest) r
+  pub moved : a .position ≡ upTo (onward periods) n (b .position)
+  pub fell : a .wait ≡ upTo fallen (n * 16) (b .wait)
+  pub grew : a .age ≡ upTo (grown (b .rest)) (n * 16) (b .age)
+  pub counted : a .usage ≡ tallied (ltb (r .guest) n) (ltb 0 (r .had)) (r .guest) (b .usage)

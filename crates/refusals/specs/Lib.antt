@@ -1,0 +1,3 @@
+pub mod Rows
+pub mod Check
+pub mod Aims

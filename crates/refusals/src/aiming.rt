@@ -1,0 +1,78 @@
+// A release's refusals, and what a release that is taken sets.
+ghost use mathlib.Core.Path.{_≡_};
+ghost use mathlib.Core.Bool.{true};
+ghost use Prim.Native.Nat.{_<_};
+ghost use Rattle.plan.specs.Ranges.{guestOk, tasksOk};
+ghost use Rattle.refusals.specs.Aims.{AimsAt, Aims};
+use crate::Aim;
+use crate::validating::examine;
+use plan::Guest;
+use plan::Plan;
+
+// A release refused by a number.
+fn missed(number: u32) -> Aim
+    ensures { λ r. ⌜ r .number ≡ number ⌝ }
+{
+    Aim {
+        number,
+        at: 0,
+        run: 0,
+        every: 0,
+    }
+}
+
+// The release of a task of guest g at place k: 8, 9, 10, or what the task of that number gets.
+fn aim_at(g: Guest, k: usize, task: u32, rest: &[u32; 128], wait: &[u32; 128]) -> Aim
+    requires { ⌜ (k < 8) × ((guestOk g ≡ true) × (tasksOk g ≡ true)) ⌝ }
+    ensures { λ r. ⌜ AimsAt g k task (now (rest .entry)) (now (wait .entry)) r ⌝ }
+{
+    if task < 1 {
+        return missed(8);
+    }
+    if g.tasks < task {
+        return missed(8);
+    }
+    let t = (task - 1) as usize;
+    let at = k * 16 + t;
+    if 0 < wait[at] {
+        return missed(9);
+    }
+    if 0 < rest[at] {
+        return missed(10);
+    }
+    Aim {
+        number: 0,
+        at,
+        run: plan::charged_run(g.run[t], g.charge) as u32,
+        every: g.every[t],
+    }
+}
+
+// The release of a task of a guest by its id: 14, 7, 8, 9, 10, or what the task of that number gets.
+pub fn aim_by_id(
+    plan: Plan,
+    left: &[u32; 8],
+    position: &[u32; 8],
+    rest: &[u32; 128],
+    wait: &[u32; 128],
+    age: &[u32; 128],
+    guest: u32,
+    task: u32,
+) -> Aim
+    ensures { λ r. ⌜
+        Aims plan (now (left .entry)) (now (position .entry)) (now (rest .entry)) (now (wait .entry)) (now (age .entry)) guest task r
+        ⌝ }
+{
+    let found = examine(plan, left, position, rest, wait, age);
+    if !found.ok {
+        return missed(14);
+    }
+    let columns = found.columns;
+    let ids = columns.ids;
+    let n = plan.count as usize;
+    let k = plan::place_of(&ids, n, guest);
+    if n <= k {
+        return missed(7);
+    }
+    aim_at(plan.guests[k], k, task, rest, wait)
+}
