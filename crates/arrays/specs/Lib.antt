@@ -2,4 +2,3 @@ pub mod Place
 pub mod Ranges
 pub mod Parts
 pub mod Usage
-pub mod Step

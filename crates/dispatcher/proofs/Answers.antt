@@ -14,7 +14,7 @@ use Rattle.lists.specs.Places.{nth, upTo}
 use Rattle.plan.specs.declared.Plan.{Plan}
 use Rattle.plan.specs.Records.{guestAt, deadlineOf}
 use Rattle.dispatcher.specs.declared.Dispatcher.{Dispatcher}
-use Rattle.arrays.specs.declared.Turn.{Turn}
+use Rattle.steps.specs.declared.Turn.{Turn}
 use Rattle.dispatcher.specs.declared.Answer.the-variants.{Nobody, Idled, Worked, Finished}
 use Rattle.arrays.specs.Place.{placeAt}
 use Rattle.dispatcher.specs.State.{guestIn, restAt}

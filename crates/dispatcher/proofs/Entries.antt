@@ -8,7 +8,7 @@ use borrow.Author.Tests.{le-leb, lt-leb}
 use Rattle.lists.specs.Choice.{pick}
 use Rattle.plan.specs.First.{refused, fine}
 use Rattle.dispatcher.specs.declared.Dispatcher.{Dispatcher}
-use Rattle.arrays.specs.declared.Turn.{Turn}
+use Rattle.steps.specs.declared.Turn.{Turn}
 use Rattle.dispatcher.specs.declared.Answer.{Answer}
 use Rattle.dispatcher.specs.declared.Answer.the-variants.{Silent}
 use Rattle.dispatcher.specs.declared.Ticked.{Ticked}

@@ -15,7 +15,7 @@ use Rattle.plan.specs.declared.Plan.{Plan}
 use Rattle.plan.specs.Records.{guestAt}
 use Rattle.plan.specs.Order.{planRefusal}
 use Rattle.dispatcher.specs.declared.Dispatcher.{Dispatcher}
-use Rattle.arrays.specs.declared.Turn.{Turn}
+use Rattle.steps.specs.declared.Turn.{Turn}
 use Rattle.arrays.specs.Place.{placeAt}
 use Rattle.dispatcher.specs.Tick.{lessAt, refilled, holder, isHeld, leftAfter, worker, isWorked, restAfter, ageAfter, waitAfter, positionAfter, next}
 use Rattle.arrays.specs.Ranges.{noJob}
@@ -24,7 +24,7 @@ use Rattle.refusals.specs.Rows.{blankAt}
 use Rattle.dispatcher.specs.Lent.{stateOf, Quiet, Telling, Ending, Refilled, Served, Stepped, turnBy, turn}
 use Rattle.plan.specs.declared.Columns.{Columns}
 use Rattle.plan.specs.Filled.{ColumnsOf}
-use Rattle.arrays.specs.Step.{Small, Serves, nobody, idles, works, Numbers, Steps}
+use Rattle.steps.specs.Step.{Small, Serves, nobody, idles, works, Numbers, Steps}
 use Rattle.arrays.specs.Parts.{filled, onward, grown, fallen, hasLeft, hasRun}
 use Rattle.lists.proofs.All.{and-left, and-right, and-true, and-false-right, all-at}
 use Rattle.lists.proofs.Places.{upTo-get, upTo-ext, upTo-short}

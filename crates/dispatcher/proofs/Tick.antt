@@ -6,7 +6,7 @@ use lib.Dec.{ltb}
 use borrow.Author.Tests.{lt-ltb}
 use Rattle.arrays.specs.Usage.{tallied}
 use Rattle.dispatcher.specs.declared.Dispatcher.{Dispatcher}
-use Rattle.arrays.specs.declared.Turn.{Turn}
+use Rattle.steps.specs.declared.Turn.{Turn}
 use Rattle.dispatcher.specs.State.{restAt}
 use Rattle.dispatcher.specs.Tick.{holder, isHeld, worker, isWorked, usageAfter}
 use Rattle.dispatcher.specs.Lent.{turnBy, turn}

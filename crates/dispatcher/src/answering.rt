@@ -5,8 +5,8 @@ ghost use Rattle.dispatcher.specs.declared.Dispatcher.{Dispatcher};
 ghost use Rattle.dispatcher.specs.Answer.{marginOf, answer};
 ghost use Rattle.dispatcher.specs.Lent.{Telling, Ending};
 use crate::Answer;
-use arrays::Turn;
 use plan::Plan;
+use steps::Turn;
 
 // Who had a tick that finished no job, by the ids of the n guests.
 pub fn unfinished(ids: &[u32; 16], n: usize, turn: Turn) -> Answer

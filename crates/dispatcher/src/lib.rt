@@ -5,7 +5,6 @@ mod running;
 mod starting;
 mod ticking;
 
-use arrays::Turn;
 use plan::Plan;
 use plan::Refusal;
 
@@ -43,12 +42,6 @@ pub struct RunOutcome {
     pub number: u32,
     pub done: u32,
     pub answer: Answer,
-}
-
-// How many steps were done, and who had the last of them.
-pub struct Went {
-    pub done: u32,
-    pub turn: Turn,
 }
 
 #[repr(C)]

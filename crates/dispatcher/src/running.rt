@@ -1,79 +1,19 @@
 // A run of ticks: its checks once, then steps over the state's arrays.
 ghost use mathlib.Core.Path.{_≡_};
-ghost use mathlib.Core.List.{List};
-ghost use Prim.Native.Nat.{ℕ};
-ghost use Rattle.plan.specs.declared.Plan as declared;
 ghost use Rattle.plan.specs.First.{refused};
-ghost use Rattle.plan.specs.Filled.{ColumnsOf};
 ghost use Rattle.dispatcher.specs.declared.Answer.the-variants.{Silent};
-ghost use Rattle.arrays.specs.Step.{Small};
-ghost use Rattle.dispatcher.specs.Lent.{stateOf, Quiet, Gone};
+ghost use Rattle.dispatcher.specs.Lent.{stateOf};
 ghost use Rattle.dispatcher.specs.Promises.{Runs};
 use crate::Answer;
 use crate::Dispatcher;
 use crate::Ran;
 use crate::RunOutcome;
-use crate::Went;
 use crate::answering::finished;
 use crate::answering::unfinished;
-use arrays::Turn;
-use arrays::step;
 use plan::Plan;
 use plan::Refusal;
 use refusals::examine;
-
-// Steps until one finishes a job or the number is used up.
-fn steps(
-    left: &mut [u32; 8],
-    position: &mut [u32; 8],
-    rest: &mut [u32; 128],
-    wait: &mut [u32; 128],
-    age: &mut [u32; 128],
-    usage: &mut [u64; 17],
-    capacities: &[u32; 16],
-    periods: &[u32; 16],
-    tasks: &[u32; 16],
-    n: usize,
-    ticks: u32,
-) -> Went
-    requires { ⌜ Small n (now tasks) ⌝ }
-    ensures { λ r. ⌜
-        ((p : declared.Plan) (ids : List ℕ)
-        → p .count ≡ n
-        → ColumnsOf (p .guests) n
-        (record { ids = ids; capacities = now (capacities .entry); periods = now (periods .entry); tasks = now (tasks .entry) })
-        → Quiet n (now (rest .entry)) (now (wait .entry))
-        → Gone (stateOf p (now (left .entry)) (now (position .entry)) (now (rest .entry)) (now (wait .entry)) (now (age .entry)) (now (usage .entry)))
-        ticks (r .done) (r .turn)
-        (stateOf p (now (left .exit)) (now (position .exit)) (now (rest .exit)) (now (wait .exit)) (now (age .exit)) (now (usage .exit))))
-        ⌝ }
-{
-    let mut turn = Turn {
-        guest: 0,
-        task: 0,
-        had: 0,
-    };
-    let mut done: u32 = 0;
-    while done < ticks {
-        turn = step(
-            left,
-            position,
-            rest,
-            wait,
-            age,
-            usage,
-            capacities,
-            periods,
-            tasks,
-            n,
-        );
-        done += 1;
-        if turn.had == 1 {
-            return Went { done, turn };
-        }
-    }
-    Went { done, turn }
-}
+use steps::steps;
 
 // A run that did no tick, refused by a number or not.
 fn unmoved(number: u32) -> RunOutcome

@@ -12,7 +12,7 @@ use Rattle.plan.specs.declared.Plan.{Plan}
 use Rattle.plan.specs.Place.{placeOf}
 use Rattle.plan.specs.Records.{guestAt}
 use Rattle.arrays.specs.Place.{placeAt}
-use Rattle.arrays.specs.Step.{Small}
+use Rattle.steps.specs.Step.{Small}
 use Rattle.refusals.specs.declared.Aim.{Aim}
 use Rattle.refusals.specs.Check.{passes}
 use Rattle.refusals.specs.Aims.{AimsAt, Aims}

@@ -6,7 +6,7 @@ ghost use Prim.Native.Nat.{ℕ, _≤_, _<_};
 ghost use lib.ListN.{length};
 ghost use Rattle.plan.specs.declared.Plan.{Plan};
 ghost use Rattle.dispatcher.specs.Valid.{stateOk};
-ghost use Rattle.arrays.specs.Step.{Small};
+ghost use Rattle.steps.specs.Step.{Small};
 ghost use Rattle.dispatcher.specs.Lent.{stateOf};
 ghost use Rattle.sheet.specs.Sheet.{pairGuest, pairTask};
 ghost use Rattle.sheet.specs.Lent.{SheetColumns, PairTaken, AllTaken};

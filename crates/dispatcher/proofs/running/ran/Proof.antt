@@ -6,6 +6,7 @@ use Rattle.dispatcher.specs.Lent.{stateOf}
 use Rattle.dispatcher.proofs.Valid.{ok-plan}
 use Rattle.dispatcher.proofs.LentCheck.{examines}
 use Rattle.dispatcher.proofs.Lent.{small-tasks, quiet, telling, ending}
+use Rattle.dispatcher.proofs.Run.{gone}
 use Rattle.dispatcher.proofs.Entries.{run-refused, run-long, run-idle, run-done}
 use Rattle.dispatcher.proofs.running.ran.Statement.{statement}
 use Rattle.dispatcher.proofs.running.ran.Tie as tie
@@ -50,7 +51,7 @@ returns-3 c =
     let a = e .before .before .before .before .before .before .before .before .args in
     let x = examines (e .before .before .examine .ensures) (a .usage .now) in
     let k = sym (x .okay) ∙ not-false _ (e .if1 .left) in
-    let g = c .before .before .before .steps .ensures (a .plan) _ refl (x .columns k) (quiet _ k) in
+    let g = gone refl (x .columns k) (small-tasks (ok-plan _ k) (x .columns k)) _ (quiet _ k) (c .before .before .before .steps .ensures) in
     rw (c .unmoved3 .ensures) (run-idle k (c .before .before .before .before .before .before .before .before .before .before .before .before .before .before .before .before .before .before .before .if2 .left) g (c .before .if3 .taken))
 
 finished-requires : tie.Need-finished-requires
@@ -60,7 +61,7 @@ finished-requires c κs =
     let x = examines (e .before .before .examine .ensures) (a .usage .now) in
     let k = sym (x .okay) ∙ not-false _ (e .if1 .left) in
     let d = stateOf (a .plan) (a .left .now) (a .position .now) (a .rest .now) (a .wait .now) (a .age .now) (a .usage .now) in
-    let g = c .before .before .before .before .before .steps .ensures (a .plan) _ refl (x .columns k) (quiet _ k) in
+    let g = gone refl (x .columns k) (small-tasks (ok-plan _ k) (x .columns k)) _ (quiet _ k) (c .before .before .before .before .before .steps .ensures) in
     (g .before, ending (ok-plan d k) (g .last (c .before .before .before .if3 .left)) (c .before .if4 .taken))
 
 returns-4 : tie.Need-returns-4
@@ -71,7 +72,7 @@ returns-4 c =
     let k = sym (x .okay) ∙ not-false _ (e .if1 .left) in
     let d = stateOf (a .plan) (a .left .now) (a .position .now) (a .rest .now) (a .wait .now) (a .age .now) (a .usage .now) in
     let t = c .before .before .before .before in
-    let g = t .before .before .steps .ensures (a .plan) _ refl (x .columns k) (quiet _ k) in
+    let g = gone refl (x .columns k) (small-tasks (ok-plan _ k) (x .columns k)) _ (quiet _ k) (t .before .before .steps .ensures) in
     run-done k (c .before .before .before .before .before .before .before .before .before .before .before .before .before .before .before .before .before .before .before .before .before .before .if2 .left) g (t .if3 .left)
     (c .finished .ensures (g .before) (ending (ok-plan d k) (g .last (t .if3 .left)) (c .before .before .if4 .taken)))
 
@@ -82,7 +83,7 @@ unfinished-requires c κs =
     let x = examines (e .before .before .examine .ensures) (a .usage .now) in
     let k = sym (x .okay) ∙ not-false _ (e .if1 .left) in
     let d = stateOf (a .plan) (a .left .now) (a .position .now) (a .rest .now) (a .wait .now) (a .age .now) (a .usage .now) in
-    let g = c .before .before .before .before .before .steps .ensures (a .plan) _ refl (x .columns k) (quiet _ k) in
+    let g = gone refl (x .columns k) (small-tasks (ok-plan _ k) (x .columns k)) _ (quiet _ k) (c .before .before .before .before .before .steps .ensures) in
     (g .before, telling (ok-plan d k) (g .last (c .before .before .before .if3 .left)) (x .columns k) (c .before .if4 .left))
 
 returns-5 : tie.Need-returns-5
@@ -93,7 +94,7 @@ returns-5 c =
     let k = sym (x .okay) ∙ not-false _ (e .if1 .left) in
     let d = stateOf (a .plan) (a .left .now) (a .position .now) (a .rest .now) (a .wait .now) (a .age .now) (a .usage .now) in
     let t = c .before .before .before .before in
-    let g = t .before .before .steps .ensures (a .plan) _ refl (x .columns k) (quiet _ k) in
+    let g = gone refl (x .columns k) (small-tasks (ok-plan _ k) (x .columns k)) _ (quiet _ k) (t .before .before .steps .ensures) in
     run-done k (c .before .before .before .before .before .before .before .before .before .before .before .before .before .before .before .before .before .before .before .before .before .before .if2 .left) g (t .if3 .left)
     (c .unfinished .ensures (g .before)
     (telling (ok-plan d k) (g .last (t .if3 .left)) (x .columns k) (c .before .before .if4 .left)))

@@ -1,7 +1,7 @@
 -- Each part ensures its sentence, of arrays that no part before it has changed but by its own sentence.
 use borrow.Author.Needs.{needs}
-use Rattle.arrays.proofs.stepping.step.Statement.{statement}
-use Rattle.arrays.proofs.stepping.step.Tie as tie
+use Rattle.steps.proofs.stepping.step.Statement.{statement}
+use Rattle.steps.proofs.stepping.step.Tie as tie
 
 refill-requires : tie.Need-refill-requires
 refill-requires c κs = search needs

@@ -1,13 +1,13 @@
 // One tick over lent arrays: it copies neither record nor array, so a run of ticks costs no more than its loops.
-ghost use Rattle.arrays.specs.Step.{Small, Serves, Steps};
+ghost use Rattle.steps.specs.Step.{Small, Serves, Steps};
 use crate::Turn;
-use crate::jobs::fall;
-use crate::jobs::grow;
-use crate::jobs::worker;
-use crate::server::advance;
-use crate::server::holder;
-use crate::server::refill;
-use crate::usage::tally;
+use arrays::advance;
+use arrays::fall;
+use arrays::grow;
+use arrays::holder;
+use arrays::refill;
+use arrays::tally;
+use arrays::worker;
 
 // The first guest with capacity left has the tick, inside it the first task with run left: each loses one.
 fn serve(left: &mut [u32; 8], rest: &mut [u32; 128], tasks: &[u32; 16], n: usize) -> Turn

@@ -2,10 +2,10 @@
 -- nothing falls below 0.
 use native.Mathlib.Omega.{arith}
 use borrow.Author.Needs.{needs}
-use Rattle.arrays.specs.Step.{nobody, idles, works}
-use Rattle.arrays.proofs.Parts.{has-left, has-run}
-use Rattle.arrays.proofs.stepping.serve.Statement.{statement}
-use Rattle.arrays.proofs.stepping.serve.Tie as tie
+use Rattle.steps.specs.Step.{nobody, idles, works}
+use Rattle.steps.proofs.Parts.{has-left, has-run}
+use Rattle.steps.proofs.stepping.serve.Statement.{statement}
+use Rattle.steps.proofs.stepping.serve.Tie as tie
 
 holder-requires : tie.Need-holder-requires
 holder-requires c κs = search needs

@@ -1,16 +1,17 @@
--- One tick over lent arrays: what is lent, and what each array holds after it. Inner: the rule of a tick
+-- Ticks over lent arrays: what is lent, and what each array holds after one and after several. Inner: the rule of a tick
 -- (`dispatcher/specs/Tick`) does not name this.
 use mathlib.Core.Path.{_≡_}
 use mathlib.Core.List.{List}
-use Prim.Native.Nat.{ℕ, _-_, _*_, _≤_, _<_}
+use Prim.Native.Nat.{ℕ, _+_, _-_, _*_, _≤_, _<_}
 use lib.ListN.{set}
 use lib.Dec.{ltb}
 use Rattle.lists.specs.Places.{nth, upTo}
 use Rattle.lists.specs.Search.{firstFrom}
-use Rattle.arrays.specs.declared.Turn.{Turn}
 use Rattle.arrays.specs.Place.{placeAt}
 use Rattle.arrays.specs.Parts.{filled, onward, grown, fallen, hasLeft, hasRun}
 use Rattle.arrays.specs.Usage.{tallied}
+use Rattle.steps.specs.declared.Turn.{Turn}
+use Rattle.steps.specs.declared.Went.{Went}
 
 -- n guests of at most 16 tasks each
 pub record Small (n : ℕ) (tasks : List ℕ) : Type 0 where
@@ -43,3 +44,16 @@ pub record Steps (n : ℕ) (capacities periods tasks : List ℕ) (b a : Numbers)
   pub fell : a .wait ≡ upTo fallen (n * 16) (b .wait)
   pub grew : a .age ≡ upTo (grown (b .rest)) (n * 16) (b .age)
   pub counted : a .usage ≡ tallied (ltb (r .guest) n) (ltb 0 (r .had)) (r .guest) (b .usage)
+
+-- ticks one after the other, of which none but the last may have finished a job: how many, the numbers after them, and
+-- who had the last
+pub data StepsTo (n : ℕ) (capacities periods tasks : List ℕ) (b : Numbers) : (done : ℕ) → Numbers → Turn → Type 0 where
+  none : StepsTo n capacities periods tasks b 0 b (record { guest = 0; task = 0; had = 0 })
+  more : {done : ℕ} {m a : Numbers} {t u : Turn} → StepsTo n capacities periods tasks b done m t → (t .had ≡ 1 → ⊥) → Steps n capacities periods tasks m a u
+      → StepsTo n capacities periods tasks b (done + 1) a u
+
+-- ticks until one finishes a job or their number is used up
+pub record StepsOn (n : ℕ) (capacities periods tasks : List ℕ) (b a : Numbers) (ticks : ℕ) (r : Went) : Type 0 where
+  pub steps : StepsTo n capacities periods tasks b (r .done) a (r .turn)
+  pub most : r .done ≤ ticks
+  pub over : (r .turn .had ≡ 1 → ⊥) → r .done ≡ ticks

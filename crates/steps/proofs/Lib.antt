@@ -1,0 +1,2 @@
+-- Laws, each file named after the definitions that it is about.
+pub mod Parts
