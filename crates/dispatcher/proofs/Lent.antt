@@ -28,7 +28,6 @@ use Rattle.steps.specs.Step.{Small, Serves, nobody, idles, works, Numbers, Step
 use Rattle.arrays.specs.Parts.{filled, onward, grown, fallen, hasLeft, hasRun}
 use Rattle.lists.proofs.All.{and-left, and-right, and-true, and-false-right, all-at}
 use Rattle.lists.proofs.Places.{upTo-get, upTo-ext, upTo-short}
-use Rattle.lists.proofs.Search.{first-found}
 use Rattle.plan.proofs.Order.{plan-in}
 use Rattle.dispatcher.proofs.LentCheck.{past-task-is}
 use Rattle.dispatcher.proofs.Tick.{tick-counted}

@@ -11,7 +11,7 @@ use Rattle.lists.specs.Places.{nth}
 use Rattle.lists.specs.All.{allTo}
 use Rattle.plan.specs.declared.Plan.{Plan}
 use Rattle.plan.specs.declared.Refusal.{Refusal}
-use Rattle.plan.specs.Ranges.{within, tasksOk}
+use Rattle.plan.specs.Ranges.{tasksOk}
 use Rattle.plan.specs.First.{refused}
 use Rattle.plan.specs.Order.{newId, numberOf, guestNumber, planRefusal}
 use Rattle.arrays.specs.Ranges.{serverOk, noServer}

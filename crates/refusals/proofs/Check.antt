@@ -18,7 +18,7 @@ use Rattle.plan.specs.Filled.{Filled, ColumnsOf}
 use Rattle.refusals.specs.declared.Checked.{Checked}
 use Rattle.refusals.specs.Rows.{guestIsOk, rowIsBlank}
 use Rattle.refusals.specs.Check.{goes, pastOk, passes, Examined}
-use Rattle.lists.proofs.All.{and-left, and-right, and-true, and-false-left, and-false-right, all-turn, all-by, all-at, all-ext}
+use Rattle.lists.proofs.All.{and-left, and-right, and-false-left, and-false-right, all-turn, all-by, all-at, all-ext}
 
 -- The ids in the column are the records'.
 new-is : (p : Plan) (ids : List ℕ) (k : ℕ) → Filled ids (λ j. guestAt (p .guests) j .id) (k + 1) → newId (nth ids) k ≡ newId (λ j. guestAt (p .guests) j .id) k

@@ -1,5 +1,4 @@
 -- Laws, each file named after what it is about.
-pub mod Rows
 pub mod Pair
 pub mod Sheet
 pub mod Whole

@@ -13,12 +13,13 @@ use Rattle.plan.specs.First.{refused}
 use Rattle.plan.specs.Order.{planRefusal}
 use Rattle.steps.specs.Step.{Small}
 use Rattle.refusals.specs.declared.Checked.{Checked}
+use Rattle.jobs.specs.Rows.{JobsOf}
 use Rattle.dispatcher.specs.declared.Dispatcher.{Dispatcher}
 use Rattle.dispatcher.specs.declared.Released.{Released}
 use Rattle.dispatcher.specs.Valid.{stateOk}
 use Rattle.dispatcher.specs.LentCheck.{Examines}
 use Rattle.sheet.specs.Sheet.{mostPairs, sheetNumber, sheetBy, sheet, answeredBy, answered}
-use Rattle.sheet.specs.Lent.{JobsOf, SheetColumns, AllTaken}
+use Rattle.sheet.specs.Lent.{SheetColumns, AllTaken}
 use Rattle.sheet.specs.Promises.{Sheets}
 use Rattle.lists.proofs.Refusals.{passed}
 use Rattle.plan.proofs.Order.{plan-in}

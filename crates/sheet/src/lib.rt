@@ -7,17 +7,11 @@ ghost use Rattle.sheet.specs.Sheet.{mostPairs};
 ghost use Rattle.sheet.specs.Promises.{Sheets};
 use dispatcher::Dispatcher;
 use dispatcher::Released;
+use jobs::jobs_of;
 use plan::Refusal;
 use refusals::examine;
 
-mod columns;
 mod pairs;
-
-// What a taken release sets, at each task's place: its charged run and its period.
-pub struct Jobs {
-    pub runs: [u32; 128],
-    pub periods: [u32; 128],
-}
 
 // The number that a sheet is refused by as a whole: 14, 15, 12, or 0.
 fn whole_number(ok: bool, pairs: usize, room: usize) -> u32
@@ -56,7 +50,7 @@ pub fn release_all(state: Dispatcher, pairs: &[u64], answers: &mut [u32]) -> Rel
     let ids = columns.ids;
     let tasks = columns.tasks;
     let n = state.plan.count as usize;
-    let set = columns::jobs_of(state.plan);
+    let set = jobs_of(state.plan);
     let runs = set.runs;
     let periods = set.periods;
     pairs::take_all(

@@ -3,8 +3,8 @@ use mathlib.Core.Path.{_≡_}
 use Prim.Native.Nat.{_≤_, _-_}
 use borrow.Author.Needs.{needs}
 use Rattle.lists.specs.All.{allTo}
-use Rattle.lists.proofs.All.{all-end}
 use Rattle.refusals.specs.Check.{pastOk}
+use Rattle.lists.proofs.All.{all-end}
 use Rattle.refusals.proofs.Check.{past-none, past-turn}
 use Rattle.refusals.proofs.validating.blanks_ok.Statement.{statement}
 use Rattle.refusals.proofs.validating.blanks_ok.Tie as tie

@@ -3,7 +3,7 @@ use mathlib.Core.Path.{_≡_}
 use Prim.Native.Nat.{_≤_, _-_}
 use native.Mathlib.Omega.{arith}
 use borrow.Author.Needs.{needs}
-use Rattle.steps.specs.Step.{none, more, StepsTo, StepsOn}
+use Rattle.steps.specs.Step.{none, more, StepsTo}
 use Rattle.steps.proofs.running.steps.Statement.{statement}
 use Rattle.steps.proofs.running.steps.Tie as tie
 

@@ -3,7 +3,7 @@ ghost use mathlib.Core.Path.{_≡_};
 ghost use Prim.Native.Nat.{_<_};
 ghost use Rattle.plan.specs.Order.{planRefusal};
 ghost use Rattle.plan.specs.Ranges.{mostGuests};
-ghost use Rattle.sheet.specs.Lent.{RunsIn, Long, RowTo, JobsOf};
+ghost use Rattle.jobs.specs.Rows.{RunsIn, Long, RowTo, JobsOf};
 use crate::Jobs;
 use plan::Guest;
 use plan::Plan;

@@ -4,11 +4,11 @@ use Prim.Native.Nat.{_≤_, _-_}
 use native.Mathlib.Omega.{arith}
 use borrow.Author.Needs.{needs}
 use Rattle.lists.specs.Places.{nth}
-use Rattle.sheet.specs.Lent.{RowTo}
+use Rattle.jobs.specs.Rows.{RowTo}
 use Rattle.plan.proofs.Charge.{charged-most}
-use Rattle.sheet.proofs.Rows.{row-none, row-next, all-tasks}
-use Rattle.sheet.proofs.columns.put_row.Statement.{statement}
-use Rattle.sheet.proofs.columns.put_row.Tie as tie
+use Rattle.jobs.proofs.Rows.{row-none, row-next, all-tasks}
+use Rattle.jobs.proofs.columns.put_row.Statement.{statement}
+use Rattle.jobs.proofs.columns.put_row.Tie as tie
 
 abbrev Inv-loop : tie.InvT-loop
 Inv-loop k runs₀ periods₀ run every charge many base t₀ runs periods t = (t ≤ many) × RowTo run every charge k t runs₀ periods₀ runs periods

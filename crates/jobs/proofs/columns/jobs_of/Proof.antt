@@ -5,9 +5,9 @@ use Prim.Native.Nat.{_≤_, _-_}
 use native.Mathlib.Omega.{arith}
 use borrow.Author.Needs.{needs}
 use Rattle.plan.proofs.Order.{PlanIn, plan-in}
-use Rattle.sheet.proofs.Rows.{RowsTo, rows-none, rows-next, rows-done, runs-in-range}
-use Rattle.sheet.proofs.columns.jobs_of.Statement.{statement}
-use Rattle.sheet.proofs.columns.jobs_of.Tie as tie
+use Rattle.jobs.proofs.Rows.{RowsTo, rows-none, rows-next, rows-done, runs-in-range}
+use Rattle.jobs.proofs.columns.jobs_of.Statement.{statement}
+use Rattle.jobs.proofs.columns.jobs_of.Tie as tie
 
 abbrev Inv-loop : tie.InvT-loop
 Inv-loop plan n runs₀ periods₀ k₀ runs periods k = (k ≤ n) × (PlanIn plan × RowsTo plan k runs periods)

@@ -11,7 +11,7 @@ use Rattle.plan.specs.declared.Plan.{Plan}
 use Rattle.plan.specs.Records.{guestAt, everyOf}
 use Rattle.plan.specs.Charge.{chargedRun, charged}
 use Rattle.arrays.specs.Place.{placeAt}
-use Rattle.sheet.specs.Lent.{RunsIn, Long, RowTo, JobsOf}
+use Rattle.jobs.specs.Rows.{RunsIn, Long, RowTo, JobsOf}
 use Rattle.plan.proofs.Order.{PlanIn}
 
 module _ (run every : List ℕ) (charge k : ℕ) (runs₀ periods₀ : List ℕ) where

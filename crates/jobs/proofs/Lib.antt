@@ -1,0 +1,2 @@
+-- Laws, each file named after what it is about.
+pub mod Rows
