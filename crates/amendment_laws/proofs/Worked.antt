@@ -15,7 +15,7 @@ use Rattle.plan.specs.Ranges.{headOk, taskOk, tasksOk}
 use Rattle.plan.specs.First.{orElse, firstRefused, refusedBy}
 use Rattle.plan.specs.Order.{newId}
 use Rattle.block.specs.Reading.{column, zeroBetween, blockNumber}
-use Rattle.block.specs.Writing.{withHead, withEntry, withEntries, wordsOf, withCheck, blockOf}
+use Rattle.blockwriter.specs.Writing.{withHead, withEntry, withEntries, wordsOf, withCheck, blockOf}
 use Rattle.blockfile.specs.File.{sizeOk, numberAt, sizedBy, blocksRefusal, fileRefusal}
 use Rattle.blockfile.specs.Records.{recordsOf}
 use Rattle.planfile.specs.declared.Reading.{Reading}

@@ -1,5 +1,3 @@
 -- Laws, each file named after the definition file that it is about.
 pub mod Reading
-pub mod Writing
 pub mod Table
-pub mod Promises

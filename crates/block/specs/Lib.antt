@@ -1,5 +1,3 @@
 pub mod Layout
 pub mod Reading
-pub mod Writing
 pub mod Table
-pub mod Promises

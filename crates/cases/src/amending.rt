@@ -14,7 +14,7 @@ fn put(g: Guest, k: usize, place: u32, buf: &mut [u8]) {
     if k < 8 {
         let a = block::layout::SIZE * k;
         if a <= buf.len() {
-            block::write(g, place, &mut buf[a..]);
+            blockwriter::write(g, place, &mut buf[a..]);
         }
     }
 }

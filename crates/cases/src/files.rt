@@ -60,7 +60,7 @@ fn blocks(p: Plan, row: Row) {
 // The writer, lent the first n bytes.
 fn lend(g: Guest, place: u32, buf: &mut [u8], n: usize) {
     if n <= buf.len() {
-        say::refusal(block::write(g, place, &mut buf[..n]));
+        say::refusal(blockwriter::write(g, place, &mut buf[..n]));
     }
 }
 

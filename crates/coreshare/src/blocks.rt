@@ -1,6 +1,6 @@
 // Plan blocks and records. A found part of the bytes does not cross to C; its place does.
 ghost use Rattle.plan.specs.Promises.{Checks};
-ghost use Rattle.block.specs.Promises.{Writes};
+ghost use Rattle.blockwriter.specs.Promises.{Writes};
 ghost use Rattle.planfile.specs.Promises.{Reads, FindsPlace};
 use plan::Guest;
 use plan::Plan;
@@ -25,7 +25,7 @@ pub extern "C" fn cs_check(plan: Plan) -> Refusal
 pub extern "C" fn cs_write(guest: Guest, place: u32, buf: &mut [u8]) -> Refusal
     ensures { λ r. ⌜ Writes guest place (now (buf .entry)) r (now (buf .exit)) ⌝ }
 {
-    block::write(guest, place, buf)
+    blockwriter::write(guest, place, buf)
 }
 
 #[no_mangle]

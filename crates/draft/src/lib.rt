@@ -54,7 +54,7 @@ fn write_block(g: Guest, place: usize, buf: &mut [u8]) -> Refusal {
     if place < 8 {
         let a = block::layout::SIZE * place;
         if a <= buf.len() {
-            return block::write(g, place as u32, &mut buf[a..]);
+            return blockwriter::write(g, place as u32, &mut buf[a..]);
         }
     }
     Refusal {

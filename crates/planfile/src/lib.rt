@@ -11,7 +11,7 @@ use plan::Refusal;
 
 mod finding;
 
-pub use block::write;
+pub use blockwriter::write;
 pub use plan::check;
 
 // A plan read: the refusal, number 0 for none, and the records, or on a refusal zeros.

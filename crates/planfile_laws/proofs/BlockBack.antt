@@ -19,7 +19,7 @@ use Rattle.lists.specs.Places.{nth}
 use Rattle.lists.specs.Sum.{sumTo}
 use Rattle.words.specs.Wrap.{wrapped}
 use Rattle.plan.specs.declared.Guest.{Guest}
-use Rattle.block.specs.Writing.{wordsOf, withCheck, blockOf}
+use Rattle.blockwriter.specs.Writing.{wordsOf, withCheck, blockOf}
 use Rattle.planfile_laws.specs.File.{firstTasks, clearedGuest}
 use Rattle.planfile_laws.specs.Fits.{GuestInTypes}
 use Rattle.lists.proofs.All.{and-true, all-by, all-ext}
@@ -29,7 +29,7 @@ use Rattle.words.proofs.Bytes.{word-bytesOf, length-bytesOf}
 use Rattle.words.proofs.Wrap.{complement-sum}
 use Rattle.plan.proofs.RangesLaws.{head-says}
 use Rattle.block.proofs.Reading.{none}
-use Rattle.block.proofs.Writing.{words-length}
+use Rattle.blockwriter.proofs.Writing.{words-length}
 use Rattle.planfile_laws.proofs.Words.{WordsAt, words-at, words-fit, check-other, check-at, check-fits}
 
 -- A block has 512 bytes.

@@ -18,14 +18,14 @@ use Rattle.block.specs.Reading.{kindIn, placeIn, taskCount, guestOf, kindOk, ow
 use Rattle.lists.specs.Places.{nth}
 use Rattle.lists.specs.Sum.{sumTo}
 use Rattle.words.specs.Wrap.{wrapped}
-use Rattle.block.specs.Writing.{wordsOf, withCheck, blockOf}
+use Rattle.blockwriter.specs.Writing.{wordsOf, withCheck, blockOf}
 use Rattle.lists.proofs.All.{and-left, and-right}
 use Rattle.lists.proofs.Sum.{sum-last, sum-same}
 use Rattle.words.proofs.Word.{word-fits}
 use Rattle.words.proofs.Bytes.{bytes-ext, bytesOf-word}
 use Rattle.words.proofs.Wrap.{complement-only}
 use Rattle.block.proofs.Reading.{BlockIn, block-in, few-in-block, zero-at, column-at}
-use Rattle.block.proofs.Writing.{words-length}
+use Rattle.blockwriter.proofs.Writing.{words-length}
 use Rattle.planfile_laws.proofs.Words.{WordsAt, words-at, check-other, check-at}
 
 -- A word of the head is one of five.

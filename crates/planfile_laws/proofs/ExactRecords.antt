@@ -13,7 +13,7 @@ use Rattle.plan.specs.First.{refused, firstRefused}
 use Rattle.plan.specs.Order.{newId, numberOf, guestNumber, countedBy, planRefusal}
 use Rattle.lists.specs.Exactly.{_exactlyWhen_, _notBut_}
 use Rattle.block.specs.Layout.{blockSize, lastPlace}
-use Rattle.block.specs.Writing.{writeNumber}
+use Rattle.blockwriter.specs.Writing.{writeNumber}
 use Rattle.planfile_laws.specs.Exact.{FirstAt}
 use Rattle.planfile_laws.specs.Causes.{Outside, WrongHead, WrongGuest, WrongTask}
 use Rattle.planfile_laws.proofs.Causes.{leb-fails, within-fails, head-fails, guest-fails, tasks-fail}

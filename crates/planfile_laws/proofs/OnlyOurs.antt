@@ -14,7 +14,7 @@ use Rattle.plan.specs.declared.Guest.{Guest}
 use Rattle.plan.specs.Records.{guestAt, absent, blank}
 use Rattle.plan.specs.First.{fine}
 use Rattle.plan.specs.Order.{newId, numberOf, guestNumber, planRefusal}
-use Rattle.block.specs.Writing.{blockOf}
+use Rattle.blockwriter.specs.Writing.{blockOf}
 use Rattle.blockfile.specs.File.{blockAt, idAt, blocksIn, numberAt, fileRefusal}
 use Rattle.blockfile.specs.Records.{recordsOf}
 use Rattle.planfile.specs.Records.{planBy, readOf}

@@ -15,7 +15,7 @@ use Rattle.plan.specs.declared.Plan.{Plan}
 use Rattle.plan.specs.Records.{guestAt, blank}
 use Rattle.plan.specs.First.{fine}
 use Rattle.plan.specs.Order.{newId, planRefusal}
-use Rattle.block.specs.Writing.{blockOf, writeNumber, writeRefusal, written}
+use Rattle.blockwriter.specs.Writing.{blockOf, writeNumber, writeRefusal, written}
 use Rattle.blockfile.specs.File.{blockAt, idAt, blocksIn, mostBytes, sizeOk, numberAt, fileRefusal}
 use Rattle.blockfile.specs.Records.{recordsOf}
 use Rattle.planfile.specs.Records.{readOf}
@@ -26,7 +26,7 @@ use Rattle.lists.proofs.Table.{table-ext}
 use Rattle.plan.proofs.RangesLaws.{TaskIn, HeadIn, GuestIn}
 use Rattle.plan.proofs.First.{first-fine}
 use Rattle.plan.proofs.Order.{PlanIn, plan-in}
-use Rattle.block.proofs.Writing.{none, by-none}
+use Rattle.blockwriter.proofs.Writing.{none, by-none}
 use Rattle.blockfile.proofs.File.{sized}
 use Rattle.planfile.proofs.Records.{reading, read-fine}
 use Rattle.planfile_laws.proofs.BlockBack.{block-length, number-back, guest-back}

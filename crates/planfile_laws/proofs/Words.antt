@@ -15,10 +15,10 @@ use Rattle.words.specs.Bytes.{Below}
 use Rattle.lists.specs.Places.{nth}
 use Rattle.words.specs.Wrap.{wrapped, complement}
 use Rattle.plan.specs.declared.Guest.{Guest}
-use Rattle.block.specs.Writing.{withHead, withEntry, withEntries, wordsOf, withCheck}
+use Rattle.blockwriter.specs.Writing.{withHead, withEntry, withEntries, wordsOf, withCheck}
 use Rattle.planfile_laws.specs.Fits.{GuestInTypes}
 use Rattle.lists.proofs.Places.{set-get}
-use Rattle.block.proofs.Writing.{head-length, entries-length}
+use Rattle.blockwriter.proofs.Writing.{head-length, entries-length}
 
 -- An entry that stands.
 pub record EntryAt (x : List ℕ) (i r e d : ℕ) : Type 0 where

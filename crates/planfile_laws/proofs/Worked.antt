@@ -13,7 +13,7 @@ use Rattle.plan.specs.Ranges.{headOk, taskOk, tasksOk}
 use Rattle.plan.specs.First.{refused, fine, orElse, firstRefused}
 use Rattle.plan.specs.Order.{newId}
 use Rattle.block.specs.Reading.{column, zeroBetween, blockNumber}
-use Rattle.block.specs.Writing.{withHead, withEntry, withEntries, wordsOf, withCheck, blockOf}
+use Rattle.blockwriter.specs.Writing.{withHead, withEntry, withEntries, wordsOf, withCheck, blockOf}
 use Rattle.blockfile.specs.File.{numberAt, sizedBy, blocksRefusal}
 use Rattle.worked.specs.Plans.{A}
 use Rattle.blockfile.specs.Records.{recordsOf}

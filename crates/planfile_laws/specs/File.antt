@@ -10,7 +10,7 @@ use Rattle.plan.specs.declared.Guest.{Guest}
 use Rattle.plan.specs.declared.Plan.{Plan}
 use Rattle.plan.specs.Records.{guestAt, blank}
 use Rattle.plan.specs.Ranges.{mostGuests, mostTasks}
-use Rattle.block.specs.Writing.{blockOf}
+use Rattle.blockwriter.specs.Writing.{blockOf}
 
 -- The parts f 0, f 1, … and f (n - 1) one after the other.
 unfoldable pub joined : (ℕ → List ℕ) → ℕ → List ℕ

@@ -15,7 +15,7 @@ use Rattle.plan.specs.Records.{guestAt}
 use Rattle.lists.specs.Exactly.{_exactlyWhen_, _notBut_}
 use Rattle.block.specs.Layout.{blockSize, lastPlace}
 use Rattle.block.specs.Reading.{guestOf}
-use Rattle.block.specs.Writing.{writeNumber}
+use Rattle.blockwriter.specs.Writing.{writeNumber}
 use Rattle.blockfile.specs.File.{blockAt, idAt, blocksIn, numberAt, blocksRefusal, fileRefusal}
 use Rattle.planfile.specs.Finder.{foundPlace, found}
 use Rattle.planfile_laws.specs.Causes.{Outside, WrongLength, WrongSum, WrongOpening, WrongHead, WrongGuest, WrongZero, WrongTask}

@@ -5,7 +5,7 @@ use Rattle.verdict_laws.specs.Guests.{Responds, NoneFits}
 use Rattle.verdict_laws.specs.Tasks.{TaskMet, TaskUnmetAt, TaskUnmet, TaskUnjudged}
 use Rattle.verdict_laws.specs.Acceptances.{AllGood}
 use Rattle.verdict_laws.specs.Capacities.{CapacitySmallest, NoCapacity}
-use Rattle.block.specs.Writing.{blockOf}
+use Rattle.blockwriter.specs.Writing.{blockOf}
 use Rattle.planfile_laws.specs.File.{fileOf}
 use Rattle.capacity.specs.Capacity.{withCapacity}
 use Rattle.amendment_laws.specs.Replaced.{AnsweredAs}

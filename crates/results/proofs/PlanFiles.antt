@@ -11,7 +11,7 @@ use Rattle.plan.specs.Records.{guestAt}
 use Rattle.plan.specs.declared.Plan.{Plan}
 use Rattle.words.specs.Bytes.{Bytes}
 use Rattle.block.specs.Table.{InBytes}
-use Rattle.block.specs.Writing.{blockOf, writeRefusal, written}
+use Rattle.blockwriter.specs.Writing.{blockOf, writeRefusal, written}
 use Rattle.planfile.specs.Records.{readOf}
 use Rattle.planfile_laws.specs.File.{fileOf, cleared}
 use Rattle.planfile_laws.specs.Fits.{PlanInTypes}

@@ -8,10 +8,10 @@ use lib.ListN.{length}
 use Rattle.plan.specs.Order.{planRefusal}
 use Rattle.plan.specs.declared.Guest.{Guest}
 use Rattle.plan.specs.declared.Plan.{Plan}
-use Rattle.block.specs.Writing.{writeRefusal, written}
+use Rattle.blockwriter.specs.Writing.{writeRefusal, written}
 use Rattle.dispatcher.specs.declared.Dispatcher.{Dispatcher}
 use Rattle.history.specs.Calls.{Call, start, after, play, callNumber}
-use Rattle.block.proofs.Writing as writing
+use Rattle.blockwriter.proofs.Writing as writing
 use Rattle.history.proofs.Refused as refusals
 
 -- The writer leaves every byte as it was.

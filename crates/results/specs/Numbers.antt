@@ -3,7 +3,7 @@ use mathlib.Core.Path.{_≡_}
 use mathlib.Core.List.{[], _∷_}
 use lib.IntN.{pos}
 use Rattle.worked.specs.Plans.{planOf, top, nine, planA, A, A35, planB, planC, planD}
-use Rattle.block.specs.Writing.{blockOf}
+use Rattle.blockwriter.specs.Writing.{blockOf}
 use Rattle.planfile_laws.specs.File.{fileOf}
 use Rattle.amendment.specs.Pair.{inPlan, inSheet, pairRefusal}
 use Rattle.amendment.specs.Finder.{pairPlace}

@@ -1,8 +1,8 @@
--- `block::writer::put_head` meets its contract: zero bytes, and the head's words put in. Assumes nothing.
+-- `blockwriter::writer::put_head` meets its contract: zero bytes, and the head's words put in. Assumes nothing.
 use borrow.Author.Needs.{needs}
-use Rattle.block.proofs.Writing.{head-puts}
-use Rattle.block.proofs.writer.put_head.Statement.{statement}
-use Rattle.block.proofs.writer.put_head.Tie as tie
+use Rattle.blockwriter.proofs.Writing.{head-puts}
+use Rattle.blockwriter.proofs.writer.put_head.Statement.{statement}
+use Rattle.blockwriter.proofs.writer.put_head.Tie as tie
 
 put-zeros-requires : tie.Need-put-zeros-requires
 put-zeros-requires c κs = search needs

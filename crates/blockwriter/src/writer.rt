@@ -6,9 +6,9 @@ ghost use lib.ListN.{length, replicate, drop};
 ghost use Rattle.lists.specs.Places.{nth};
 ghost use Rattle.words.specs.Bytes.{withWord, bytesOf};
 ghost use Rattle.plan.specs.Ranges.{mostTasks};
 ghost use Rattle.block.specs.Layout.{blockSize, blockWords, lastPlace, runWord, everyWord, deadlineWord};
-ghost use Rattle.block.specs.Writing.{withHead, wordsOf, blockOf, writeNumber};
-use crate::layout;
+ghost use Rattle.blockwriter.specs.Writing.{withHead, wordsOf, blockOf, writeNumber};
+use block::layout;
 use plan::Guest;
 
 // The number that the writer refuses by, 0 for none, for a buffer of so many bytes.

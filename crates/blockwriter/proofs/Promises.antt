@@ -4,7 +4,7 @@ use mathlib.Core.List.{List}
 use Prim.Native.Nat.{ℕ}
 use Rattle.plan.specs.declared.Guest.{Guest}
 use Rattle.plan.specs.declared.Refusal.{Refusal}
-use Rattle.block.specs.Promises.{Writes}
+use Rattle.blockwriter.specs.Promises.{Writes}
 use Rattle.plan.proofs.Promises.{one-outcome}
 
 -- `write` has one refusal and leaves one content of the lent bytes.

@@ -1,15 +1,15 @@
--- `block::writer::put_entries` meets its contract: a turn puts in one entry. Assumes nothing.
+-- `blockwriter::writer::put_entries` meets its contract: a turn puts in one entry. Assumes nothing.
 use mathlib.Core.Path.{_≡_, refl, _∙_}
 use mathlib.Core.List.{List}
 use Prim.Native.Nat.{ℕ, _-_, _≤_}
 use native.Mathlib.Omega.{arith}
 use lib.ListN.{length, replicate, drop}
 use borrow.Author.Needs.{needs}
 use Rattle.block.specs.Layout.{blockSize, blockWords}
-use Rattle.block.specs.Writing.{withHead, withEntries, wordsOf}
-use Rattle.block.proofs.Writing.{laid, entries-laid, words-count}
-use Rattle.block.proofs.writer.put_entries.Statement.{statement}
-use Rattle.block.proofs.writer.put_entries.Tie as tie
+use Rattle.blockwriter.specs.Writing.{withHead, withEntries, wordsOf}
+use Rattle.blockwriter.proofs.Writing.{laid, entries-laid, words-count}
+use Rattle.blockwriter.proofs.writer.put_entries.Statement.{statement}
+use Rattle.blockwriter.proofs.writer.put_entries.Tie as tie
 
 abbrev Inv-loop : tie.InvT-loop
 Inv-loop place buf₀ run every deadline n i₀ buf i =

@@ -1,11 +1,11 @@
--- `block::writer::put_block` meets its contract: the check is the complement of the sum. Assumes nothing.
+-- `blockwriter::writer::put_block` meets its contract: the check is the complement of the sum. Assumes nothing.
 use mathlib.Core.Path.{_∙_}
 use lib.ListN.{drop}
 use borrow.Author.Needs.{needs}
 use Rattle.block.specs.Layout.{blockSize}
-use Rattle.block.proofs.Writing.{check-laid}
-use Rattle.block.proofs.writer.put_block.Statement.{statement}
-use Rattle.block.proofs.writer.put_block.Tie as tie
+use Rattle.blockwriter.proofs.Writing.{check-laid}
+use Rattle.blockwriter.proofs.writer.put_block.Statement.{statement}
+use Rattle.blockwriter.proofs.writer.put_block.Tie as tie
 
 put-entries-requires : tie.Need-put-entries-requires
 put-entries-requires c κs = search needs

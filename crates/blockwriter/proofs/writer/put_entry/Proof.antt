@@ -1,9 +1,9 @@
--- `block::writer::put_entry` meets its contract: three words put in, one after the other. Assumes nothing.
+-- `blockwriter::writer::put_entry` meets its contract: three words put in, one after the other. Assumes nothing.
 use borrow.Author.Needs.{needs}
 use Rattle.block.specs.Layout.{runWord, everyWord, deadlineWord}
-use Rattle.block.proofs.Writing.{put-three}
-use Rattle.block.proofs.writer.put_entry.Statement.{statement}
-use Rattle.block.proofs.writer.put_entry.Tie as tie
+use Rattle.blockwriter.proofs.Writing.{put-three}
+use Rattle.blockwriter.proofs.writer.put_entry.Statement.{statement}
+use Rattle.blockwriter.proofs.writer.put_entry.Tie as tie
 
 mul-put-word : tie.Need-mul-put-word
 mul-put-word c = search needs

@@ -1,6 +1,6 @@
--- `block::with_place` meets its contract, by whether the number is 2 to 6. Assumes nothing.
-use Rattle.block.proofs.with_place.Statement.{statement}
-use Rattle.block.proofs.with_place.Tie as tie
+-- `blockwriter::with_place` meets its contract, by whether the number is 2 to 6. Assumes nothing.
+use Rattle.blockwriter.proofs.with_place.Statement.{statement}
+use Rattle.blockwriter.proofs.with_place.Tie as tie
 
 returns : tie.Need-returns
 returns c = simp (c .if1 .taken)

@@ -1,4 +1,4 @@
--- `block::writer::write_number` meets its contract: tests in the order 12, 3, 4, 6. Assumes nothing.
+-- `blockwriter::writer::write_number` meets its contract: tests in the order 12, 3, 4, 6. Assumes nothing.
 use mathlib.Core.Path.{_≡_, sym, _∙_}
 use mathlib.Core.Bool.{true}
 use Prim.Native.Nat.{_≤_}
@@ -6,9 +6,9 @@ use borrow.Author.Needs.{needs}
 use borrow.Author.Tests.{not-true, not-false}
 use Rattle.plan.specs.Ranges.{mostTasks, guestOk, tasksOk}
 use Rattle.plan.proofs.RangesLaws.{head-says}
-use Rattle.block.proofs.Writing.{twelve, three, four, six, none}
-use Rattle.block.proofs.writer.write_number.Statement.{statement}
-use Rattle.block.proofs.writer.write_number.Tie as tie
+use Rattle.blockwriter.proofs.Writing.{twelve, three, four, six, none}
+use Rattle.blockwriter.proofs.writer.write_number.Statement.{statement}
+use Rattle.blockwriter.proofs.writer.write_number.Tie as tie
 
 abbrev start : tie.Else3 → tie.Start
 start c = c .before .before .before .before

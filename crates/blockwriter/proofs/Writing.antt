@@ -14,8 +14,8 @@ use Rattle.words.specs.Bytes.{withWord, bytesOf}
 use Rattle.words.specs.Wrap.{wrapped, complement}
 use Rattle.plan.specs.declared.Guest.{Guest}
 use Rattle.plan.specs.Ranges.{guestOk, tasksOk, mostTasks}
 use Rattle.block.specs.Layout.{blockSize, blockWords, kindPlaceWord, guestKind, lastPlace, idWord, capacityWord, periodWord, tasksChargeWord, runWord, everyWord, deadlineWord, checkWord, halves}
-use Rattle.block.specs.Writing.{withHead, withEntry, withEntries, wordsOf, withCheck, blockOf, writeNumber, writeRefusal, writtenBy, written}
+use Rattle.blockwriter.specs.Writing.{withHead, withEntry, withEntries, wordsOf, withCheck, blockOf, writeNumber, writeRefusal, writtenBy, written}
 use Rattle.words.proofs.Bytes.{put-set, bytes-zeros}
 use Rattle.words.proofs.Wrap.{wrapped-bytes}
 use Rattle.lists.proofs.Refusals.{none-left, go-on, stop, passed}

@@ -5,7 +5,7 @@ use Prim.Native.Nat.{ℕ}
 use lib.ListN.{length}
 use Rattle.plan.specs.declared.Guest.{Guest}
 use Rattle.plan.specs.declared.Refusal.{Refusal}
-use Rattle.block.specs.Writing.{writeRefusal, written}
+use Rattle.blockwriter.specs.Writing.{writeRefusal, written}
 
 -- `write` gives the refusal, or number 0, and settles every byte of the lent buffer.
 abbrev pub Writes : Guest → (place : ℕ) → (before : List ℕ) → Refusal → (after : List ℕ) → Type 0

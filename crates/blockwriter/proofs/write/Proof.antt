@@ -1,14 +1,14 @@
--- `block::write` meets its contract: what the number says is written, or nothing. Assumes nothing.
+-- `blockwriter::write` meets its contract: what the number says is written, or nothing. Assumes nothing.
 use mathlib.Core.Path.{_≡_, sym, ap, _∙_}
 use Prim.Native.Nat.{ℕ}
 use native.Mathlib.Omega.{arith}
 use lib.ListN.{length}
 use borrow.Author.Needs.{needs}
-use Rattle.block.specs.Writing.{withPlace, writeNumber, blockOf}
-use Rattle.block.proofs.Writing.{by-refused, by-none, WriteIn, write-in}
+use Rattle.blockwriter.specs.Writing.{withPlace, writeNumber, blockOf}
+use Rattle.blockwriter.proofs.Writing.{by-refused, by-none, WriteIn, write-in}
 use Rattle.plan.proofs.RangesLaws.{head-says}
-use Rattle.block.proofs.write.Statement.{statement}
-use Rattle.block.proofs.write.Tie as tie
+use Rattle.blockwriter.proofs.write.Statement.{statement}
+use Rattle.blockwriter.proofs.write.Tie as tie
 
 abbrev start : tie.Else1 → tie.Start
 start c = c .before .before .before

@@ -1,0 +1,3 @@
+-- Laws, each file named after the definition file that it is about.
+pub mod Writing
+pub mod Promises
