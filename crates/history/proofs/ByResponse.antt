@@ -30,7 +30,7 @@ use Rattle.verdict_laws.proofs.Ids.{idOf}
 use Rattle.verdict_laws.proofs.Guests.{fitted-means}
 use Rattle.history.proofs.Share.{count-old}
 use Rattle.history.proofs.Capacity.{Shares, shares-next, shares-taken, shares-idle}
-use Rattle.history.proofs.Quote.{fitted-of}
+use Rattle.verdict_laws.proofs.Kept.{fitted-of}
 use Rattle.history.proofs.Clocks.{sound-start}
 use Rattle.history.proofs.Sure.{parts-one}
 use Rattle.verdict.specs.declared.GuestVerdict.the-variants as guest

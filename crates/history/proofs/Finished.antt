@@ -22,7 +22,7 @@ use Rattle.history.specs.Share.{answerAt}
 use Rattle.plan.proofs.Order.{PlanIn}
 use Rattle.verdict_laws.proofs.Ids.{idOf}
 use Rattle.history.proofs.Share.{answer-old, answer-new}
-use Rattle.history.proofs.Quote.{gapIn, TaskFits, KeptIn, bounded-of, young-kept, kept-next, kept-release, in-plan, in-guest}
+use Rattle.verdict_laws.proofs.Kept.{gapIn, TaskFits, KeptIn, bounded-of, young-kept, kept-next, kept-release, in-plan, in-guest}
 use Rattle.dispatcher_laws.proofs.Answer.{finishedBy, answer-finished}
 use Rattle.dispatcher_laws.proofs.Release.{Free, taken-else}
 use Rattle.dispatcher_laws.proofs.Seen.{tasksAt, Shaped}

@@ -19,11 +19,11 @@ use Rattle.history.specs.Share.{answerAt}
 use Rattle.history.specs.Finished.{Told, FinishedBy}
 use Rattle.plan.proofs.Order.{PlanIn}
 use Rattle.history.proofs.Play.{Any, any, play-keeps, sound-after, answers-length}
-use Rattle.history.proofs.Quote.{gapIn, KeptIn, bounded-of, young-kept, kept-idle, kept-next, kept-release, in-plan, in-guest}
+use Rattle.verdict_laws.proofs.Kept.{gapIn, KeptIn, bounded-of, young-kept, kept-idle, kept-next, kept-release, in-plan, in-guest}
 use Rattle.history.proofs.Finished.{finishedAt, Job, JobIn, job-next, job-release}
 use Rattle.history.proofs.Finished.Job.{pending, ended}
 use Rattle.history.proofs.Told.{finish-told}
-use Rattle.history.proofs.Verdict.{Judged, quoted-judged}
+use Rattle.verdict_laws.proofs.Quoted.{Judged, quoted-judged}
 use Rattle.history.proofs.Clocks.{sound-start, sound-reached, new-job}
 use Rattle.dispatcher_laws.proofs.Answer.{margin-falls}
 use Rattle.dispatcher_laws.proofs.Fresh.{fresh-idle}

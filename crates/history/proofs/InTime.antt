@@ -20,7 +20,7 @@ use Rattle.history.specs.Share.{answerAt}
 use Rattle.plan.proofs.Order.{PlanIn}
 use Rattle.verdict_laws.proofs.Ids.{idOf, id-one}
 use Rattle.history.proofs.Share.{answer-old, answer-new}
-use Rattle.history.proofs.Quote.{gapIn, TaskFits, KeptIn, young-kept, kept-next, kept-release, in-plan, in-guest}
+use Rattle.verdict_laws.proofs.Kept.{gapIn, TaskFits, KeptIn, young-kept, kept-next, kept-release, in-plan, in-guest}
 use Rattle.dispatcher_laws.proofs.Answer.{finishedBy, answer-nobody, answer-idled, answer-worked, answer-finished}
 use Rattle.dispatcher_laws.proofs.Release.{Free}
 use Rattle.dispatcher_laws.proofs.Sound.{Sound}

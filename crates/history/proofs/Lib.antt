@@ -17,10 +17,8 @@ pub mod Answered
 pub mod Accounts
 pub mod Usage
 pub mod Capacity
-pub mod Quote
 pub mod Finished
 pub mod InTime
-pub mod Verdict
 -- The promises.
 pub mod Sure
 pub mod ByResponse

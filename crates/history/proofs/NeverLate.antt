@@ -15,13 +15,13 @@ use Rattle.verdict.specs.Quoted.{Quoted}
 use Rattle.history.specs.Calls.{Call, start, after, play, singles, ticksOf, answerOf}
 use Rattle.history.specs.Named.{deadlineBy}
 use Rattle.plan.proofs.Order.{PlanIn}
-use Rattle.history.proofs.Quote.{gapIn}
+use Rattle.verdict_laws.proofs.Kept.{gapIn}
 use Rattle.history.proofs.Play.{Any, any-call, after-keeps}
 use Rattle.verdict_laws.proofs.Ids.{idOf}
 use Rattle.history.proofs.InTime.{TimelyIn, timely-next, timely-release}
 use Rattle.history.proofs.Told.{told-last}
 use Rattle.history.proofs.Clocks.{sound-reached}
-use Rattle.history.proofs.Verdict.{Judged, quoted-judged}
+use Rattle.verdict_laws.proofs.Quoted.{Judged, quoted-judged}
 use Rattle.verdict.proofs.Quoted.{met-quoted}
 use Rattle.verdict_laws.proofs.Tasks.{judged-means}
 use Rattle.history.proofs.FinishedBy.{kept-reached}

@@ -15,9 +15,9 @@ use Rattle.history.specs.Named.{everyBy, waitBy}
 use Rattle.plan.proofs.Order.{PlanIn}
 use Rattle.windows.proofs.Kept.{free-when-due}
 use Rattle.history.proofs.Play.{sound-after, sound-play}
-use Rattle.history.proofs.Quote.{KeptIn, bounded-of, in-plan, in-guest}
+use Rattle.verdict_laws.proofs.Kept.{KeptIn, bounded-of, in-plan, in-guest}
 use Rattle.history.proofs.Clocks.{sound-reached, since-then, before-any}
-use Rattle.history.proofs.Verdict.{Judged, quoted-judged}
+use Rattle.verdict_laws.proofs.Quoted.{Judged, quoted-judged}
 use Rattle.history.proofs.FinishedBy.{kept-reached, kept-released}
 use Rattle.dispatcher_laws.proofs.Release.{release-number, free-number, waits-number}
 use Rattle.dispatcher_laws.proofs.Sound.{Sound}

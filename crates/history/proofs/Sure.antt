@@ -27,7 +27,7 @@ use Rattle.plan.proofs.Order.{plan-in}
 use Rattle.history.proofs.Play.{Any, any, play-keeps, answers-length}
 use Rattle.verdict_laws.proofs.Ids.{idOf}
 use Rattle.history.proofs.Capacity.{Shares, shares-next, shares-taken, shares-idle}
-use Rattle.history.proofs.Quote.{fitted-of}
+use Rattle.verdict_laws.proofs.Kept.{fitted-of}
 use Rattle.verdict_laws.proofs.Guests.{fitted-means}
 use Rattle.history.proofs.Clocks.{sound-start, sound-reached}
 use Rattle.dispatcher_laws.proofs.Fresh.{fresh-idle, idle-position}

@@ -6,3 +6,6 @@ pub mod Acceptances
 pub mod Capacities
 pub mod LongRuns
 pub mod StoredCapacity
+-- What a quoted task keeps of a state, at the start and over ticks and releases.
+pub mod Kept
+pub mod Quoted

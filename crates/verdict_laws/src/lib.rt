@@ -1,1 +1,2 @@
-// What the verdicts and the smallest capacity mean. Theorems, and no code.
+// What the verdicts and the smallest capacity mean, and what a quoted task keeps of a dispatcher's state. Theorems, and
+// no code.

@@ -1,4 +1,5 @@
--- A quoted task: the invariant of the windows stands in every state that a history reaches. Assumes nothing.
+-- A quoted task: the invariant of the windows stands at the fresh start, and over a tick and a taken release. Assumes
+-- nothing.
 use mathlib.Core.Path.{subst}
 use Prim.Native.Nat.{ℕ, _≤_, _<_}
 use native.Mathlib.Decide.{ℕ-discrete}
@@ -34,7 +35,9 @@ abbrev pub gapIn : Plan → ℕ → ℕ → ℕ
 gapIn p g j = gap (guestAt (p .guests) g) j
 
 -- A guest of records in order that is fitted with x is fitted with x as the windows have it.
-pub fitted-of : (p : Plan) → PlanIn p → {g x : ℕ} → g < p .count → GuestSolves p g x → GuestFits (capOf p) (perOf p) g x
+pub fitted-of :
+    (p : Plan) → PlanIn p → {g x : ℕ} → g < p .count → GuestSolves p g x
+    → GuestFits (capOf p) (perOf p) g x
 unfolding guestRight interference jitter
 fitted-of p P {g} {x} in-plan G = record {
   some = P .guests g in-plan .head .some;
@@ -62,12 +65,13 @@ module _ (p : Plan) (P : PlanIn p) {g x i w : ℕ} (T : TaskFits p g x i w) wher
   unfolding taskRight interference jitter gap
   bounded-of =
       let G = P .guests g (T .in-plan) in
+      let guest = guestAt (p .guests) g in
       record {
         fitted = fitted-of p P (T .in-plan) (T .fits);
         cap-per = G .head .fits;
         solves = record {
           some = T .solves .low;
-          works = omega (arith, charged-least (runOf (guestAt (p .guests) g) i) (guestAt (p .guests) g .charge), G .tasks i (T .in-guest) .runs);
+          works = omega (arith, charged-least (runOf guest i) (guest .charge), G .tasks i (T .in-guest) .runs);
           equal = T .solves .solves;
           periods = λ j h. G .tasks j (omega (arith, T .in-guest)) .some;
           short = G .tasks i (T .in-guest) .short;
@@ -76,17 +80,20 @@ module _ (p : Plan) (P : PlanIn p) {g x i w : ℕ} (T : TaskFits p g x i w) wher
       }
 
   -- An unfinished job is younger than the response.
-  pub young-kept : (d : Dispatcher) → KeptIn p g x i w d → 0 < restAt d g i → ageAt d g i < responseOf (gapIn p g i) w
+  pub young-kept :
+      (d : Dispatcher) → KeptIn p g x i w d → 0 < restAt d g i → ageAt d g i < responseOf (gapIn p g i) w
   unfolding gap
   young-kept d K r = age-below bounded-of K r
 
   -- The invariant stands at the fresh start.
   pub kept-idle : KeptIn p g x i w (idle p)
   kept-idle =
-      kept-fresh bounded-of (heldAt (idle p)) (posAt (idle p)) (tasksAt (idle p) g) (λ k h. idle-held p k (omega (arith, P .few, T .in-plan)))
+      let few = P .guests g (T .in-plan) .head .few in
+      kept-fresh bounded-of (heldAt (idle p)) (posAt (idle p)) (tasksAt (idle p) g)
+      (λ k h. idle-held p k (omega (arith, P .few, T .in-plan)))
       (λ k h. idle-position p k (omega (arith, P .few, T .in-plan)))
-      (λ j h. idle-rest p g j (omega (arith, P .few, T .in-plan)) (omega (arith, T .in-guest, P .guests g (T .in-plan) .head .few)))
-      (λ j h. idle-wait p g j (omega (arith, P .few, T .in-plan)) (omega (arith, T .in-guest, P .guests g (T .in-plan) .head .few)))
+      (λ j h. idle-rest p g j (omega (arith, P .few, T .in-plan)) (omega (arith, T .in-guest, few)))
+      (λ j h. idle-wait p g j (omega (arith, P .few, T .in-plan)) (omega (arith, T .in-guest, few)))
 
   module _ (d : Dispatcher) (D : Sound p d) where
     -- The guest is in the state's plan.
@@ -101,25 +108,32 @@ module _ (p : Plan) (P : PlanIn p) {g x i w : ℕ} (T : TaskFits p g x i w) wher
     pub kept-next : KeptIn p g x i w d → KeptIn p g x i w (next d)
     kept-next =
         kept-tick bounded-of
-        (subst (λ (z : Plan). GuestTick (capOf z) (perOf z) g (holder d) (heldAt d) (posAt d) (leftAt (next d)) (heldAt (next d)) (posAt (next d)))
+        (subst
+        (λ (z : Plan).
+        GuestTick (capOf z) (perOf z) g (holder d) (heldAt d) (posAt d)
+        (leftAt (next d)) (heldAt (next d)) (posAt (next d)))
         (D .plan) (guest-tick d (D .shaped) g in-plan))
         (task-mine d (D .shaped) g i in-plan in-guest) (task-else d (D .shaped) g i in-plan in-guest)
 
     -- The invariant stands over a taken release, of this guest or another.
-    pub kept-release : (id task k t : ℕ) → Free d id task k t → KeptIn p g x i w d → KeptIn p g x i w (taken d k t)
+    pub kept-release :
+        (id task k t : ℕ) → Free d id task k t → KeptIn p g x i w d → KeptIn p g x i w (taken d k t)
     unfolding taken
     kept-release id task k t F K =
         elim (ℕ-discrete k g) [
           | yes e ↦
               kept-taken bounded-of
               (subst (λ (z : Plan). Taken (runIn z g) (everyIn z g) t (tasksAt d g) (tasksAt (taken d k t) g)) (D .plan)
-              (subst (λ (z : ℕ). Taken (runIn (d .plan) z) (everyIn (d .plan) z) t (tasksAt d z) (tasksAt (taken d k t) z)) e
+              (subst
+              (λ (z : ℕ). Taken (runIn (d .plan) z) (everyIn (d .plan) z) t (tasksAt d z) (tasksAt (taken d k t) z))
+              e
               (taken-here d (D .shaped) k t (F .in-plan) (F .in-guest) (F .due) (F .free))))
               (λ m l o. taken-else d (D .shaped) k t (F .in-plan) (F .in-guest) g m (λ q. o (omega arith))) K
           | no o ↦
               kept-same bounded-of
               (λ m l.
               taken-else d (D .shaped) k t (F .in-plan) (F .in-guest) g m
-              (λ q. o (omega (arith, F .in-guest, D .shaped .tasks k (F .in-plan), D .shaped .tasks g in-plan, in-guest))))
+              (λ q.
+              o (omega (arith, F .in-guest, D .shaped .tasks k (F .in-plan), D .shaped .tasks g in-plan, in-guest))))
               K
         ]

@@ -6,10 +6,10 @@ use Rattle.plan.specs.declared.Plan.{Plan}
 use Rattle.plan.specs.Place.{placeOf}
 use Rattle.verdict.specs.Quoted.{Quoted}
 use Rattle.equation.specs.System.{responseOf}
 use Rattle.verdict_laws.specs.Tasks.{TaskThere}
 use Rattle.plan.proofs.Order.{PlanIn, plan-in}
 use Rattle.verdict_laws.proofs.Tasks.{quoted-means}
-use Rattle.history.proofs.Quote.{gapIn, TaskFits}
+use Rattle.verdict_laws.proofs.Kept.{gapIn, TaskFits}
 
 -- What a quoted R says of the task with that number of the guest with that id.
 pub record Judged (p : Plan) (id number R : ℕ) : Type 0 where
