@@ -16,7 +16,7 @@ use Rattle.equation.specs.System.{responseOf}
 use Rattle.history.specs.Calls.{Call, releasing, start, released, play, ticksIn, answers}
 use Rattle.history.specs.Named.{deadlineBy, restBy, ageBy}
 use Rattle.history.specs.Share.{answerAt}
-use Rattle.history.specs.Finished.{Told, FinishedBy}
+use Rattle.history.specs.Finished.{HandedBack, FinishedBy}
 use Rattle.plan.proofs.Order.{PlanIn}
 use Rattle.history.proofs.Play.{Any, any, play-keeps, sound-after, answers-length}
 use Rattle.verdict_laws.proofs.Kept.{gapIn, KeptIn, bounded-of, young-kept, kept-idle, kept-next, kept-release, in-plan, in-guest}
@@ -106,7 +106,7 @@ module _ (p : Plan) (id number R : ℕ) (quoted : Quoted p id number R) where
     spare = refl;
     least = margin-falls (deadlineBy p id number) (suc m) R (omega (arith, J .quotes));
     told =
-        subst (Told ds d (suc m)) (e ∙ said)
+        subst (HandedBack ds d (suc m)) (e ∙ said)
         (finish-told ds d m D (omega (arith, answers-length ds d D)) (ap finishes e));
   }
     where

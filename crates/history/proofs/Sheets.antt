@@ -13,7 +13,7 @@ use Rattle.dispatcher.specs.Release.{release}
 use Rattle.sheet.specs.Sheet.{pairGuest, pairTask, pairReleased, stateAfter, answerTo, sheet}
 use Rattle.history.specs.Calls.{Call, releasing, sheeting, after, play, ticksOf, ticksIn, EachRelease, answerOf, Throughout, Takes, NoneTaken}
 use Rattle.history.specs.Sheets.{releases, upToPair, NotBefore}
-use Rattle.history.specs.Finished.{Told, FinishedBy}
+use Rattle.history.specs.Finished.{HandedBack, FinishedBy}
 use Rattle.sheet.proofs.Entry.{Sheeted, whole, each, sheet-sheeted}
 
 -- Histories one after the other.
@@ -132,7 +132,7 @@ told-next :
     → releasing id task' ∷ ds ≡ before ++ (call ∷ later)
     → ticksIn before d + ticksOf call (play before d) ≡ n
     → answerOf call (play before d) ≡ Finished guest task age margin
-    → Told ds (after (releasing id task') d) n (Finished guest task age margin)
+    → HandedBack ds (after (releasing id task') d) n (Finished guest task age margin)
 unfolding ticksIn play ticksOf
 told-next id task' ds d n guest task age margin [] call later e done says =
     let q : releasing id task' ≡ call = cc in
@@ -154,8 +154,8 @@ told-next id task' ds d n guest task age margin (c ∷ before) call later e done
 -- A finish that is told in releases and then ds is told in ds.
 told-later :
     (pairs : List ℕ) (ds : List Call) (d : Dispatcher) (n guest task age : ℕ) (margin : ℤ)
-    → Told (releases pairs ++ ds) d n (Finished guest task age margin)
-    → Told ds (play (releases pairs) d) n (Finished guest task age margin)
+    → HandedBack (releases pairs ++ ds) d n (Finished guest task age margin)
+    → HandedBack ds (play (releases pairs) d) n (Finished guest task age margin)
 unfolding releases play
 told-later [] ds d n guest task age margin T = T
 told-later (pair ∷ pairs) ds d n guest task age margin T =

@@ -16,7 +16,7 @@ use Rattle.dispatcher.specs.Answer.{answer, finishes}
 use Rattle.dispatcher.specs.Entries.{run}
 use Rattle.history.specs.Calls.{Call, releasing, ticking, running, sheeting, after, play, singles, ticksOf, ticksIn, answers, answerOf}
 use Rattle.history.specs.Share.{answerAt}
-use Rattle.history.specs.Finished.{Told}
+use Rattle.history.specs.Finished.{HandedBack}
 use Rattle.history.proofs.Ticks.{tick-one, singles-next, RunBy, run-by}
 use Rattle.history.proofs.Play.{sound-after, answers-of}
 use Rattle.history.proofs.Share.{answer-old}
@@ -54,7 +54,7 @@ pub finish-told :
     → Sound p d
     → m < ticksIn ds d
     → finishes (answerAt (answers ds d) m) ≡ true
-    → Told ds d (suc m) (answerAt (answers ds d) m)
+    → HandedBack ds d (suc m) (answerAt (answers ds d) m)
 unfolding ticksIn answers play
 finish-told [] d m D h e = absurd (omega arith)
 finish-told (c ∷ cs) d m D h e =

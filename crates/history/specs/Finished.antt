@@ -11,7 +11,7 @@ use Rattle.dispatcher.specs.Answer.{marginOf}
 use Rattle.history.specs.Calls.{Call, play, ticksOf, ticksIn, answerOf}
 
 -- In the history ds from the state d one of the calls hands back the answer a; with its ticks n ticks are done.
-pub record Told (ds : List Call) (d : Dispatcher) (n : ℕ) (a : Answer) : Type 0 where
+pub record HandedBack (ds : List Call) (d : Dispatcher) (n : ℕ) (a : Answer) : Type 0 where
   pub before : List Call
   pub call : Call
   pub later : List Call
@@ -27,4 +27,4 @@ pub record FinishedBy (R deadline : ℕ) (guest task : ℕ) (ds : List Call) (d 
   pub by-R : age ≤ R
   pub spare : margin ≡ marginOf deadline age
   pub least : marginOf deadline R ≤ℤ margin
-  pub told : Told ds d age (Finished guest task age margin)
+  pub told : HandedBack ds d age (Finished guest task age margin)

@@ -6,7 +6,6 @@ use native.Mathlib.Omega.{arith}
 use lib.Dec.{ltb}
 use Rattle.lists.specs.Choice.{pick}
 use Rattle.lists.specs.Places.{nth}
-use Rattle.lists.specs.Search.{firstFrom}
 use Rattle.plan.specs.declared.Plan.{Plan}
 use Rattle.plan.specs.Ranges.{longest}
 use Rattle.arrays.specs.Place.{placeAt}
@@ -31,14 +30,6 @@ unfolding next ageAfter
 age-at d H g t h l =
     upTo-at (λ k age. pick (ltb 0 (nth (d .rest) k)) (min (age + 1) longest) age) 128 (d .age) (placeAt g t) (omega arith)
     (omega (arith, H .age-long))
-
--- The task that has the tick, where guest g has it, is the first of g's with run left.
-worker-of :
-    (d : Dispatcher) (g : ℕ)
-    → holder d ≡ g
-    → worker d ≡ firstFrom (λ t. ltb 0 (restAt d g t)) (guestIn d g .tasks) 0
-unfolding worker
-worker-of d g e = ap (λ (z : ℕ). firstFrom (λ t. ltb 0 (restAt d z t)) (guestIn d z .tasks) 0) e
 
 -- One tick of two states that are alike.
 module _ {id k : ℕ} {p q : Plan} (S : SameFor id k p q) {d e : Dispatcher} (A : Alike k (tasksOf p k) p q d e) where
@@ -82,12 +73,11 @@ module _ {id k : ℕ} {p q : Plan} (S : SameFor id k p q) {d e : Dispatcher} (A 
 
   -- Where the guest has the tick, the same task of it has it.
   pub same-worker : holder d ≡ k → holder e ≡ k → worker d ≡ worker e
+  unfolding worker
   same-worker x y =
-      worker-of d k x
-      ∙ rw (tasks-one S A, tasks-other S A)
+      rw (x, y, tasks-one S A, tasks-other S A)
       (first-ext (λ t. ltb 0 (restAt d k t)) (λ t. ltb 0 (restAt e k t)) (tasksOf p k) 0
       (λ t l. ap (λ (z : ℕ). ltb 0 z) (A .rest t (omega arith))))
-      ∙ sym (worker-of e k y)
 
   -- Runs left stay the same.
   rest-next : (t : ℕ) → t < tasksOf p k → restAt (next d) k t ≡ restAt (next e) k t

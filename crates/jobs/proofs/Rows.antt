@@ -11,7 +11,7 @@ use Rattle.plan.specs.declared.Plan.{Plan}
 use Rattle.plan.specs.Records.{guestAt, everyOf}
 use Rattle.plan.specs.Charge.{chargedRun, charged}
 use Rattle.arrays.specs.Place.{placeAt}
-use Rattle.jobs.specs.Rows.{RunsIn, Long, RowTo, JobsOf}
+use Rattle.jobs.specs.Rows.{ShortRuns, Long, RowTo, JobsOf}
 use Rattle.plan.proofs.Order.{PlanIn}
 
 module _ (run every : List ℕ) (charge k : ℕ) (runs₀ periods₀ : List ℕ) where
@@ -119,5 +119,5 @@ pub rows-done :
 rows-done p n h R = record { run = λ k t l m. R .run k t (omega arith) m; period = λ k t l m. R .period k t (omega arith) m }
 
 -- A guest of a plan in order has few tasks, with runs in their range.
-pub runs-in-range : (p : Plan) (k : ℕ) → PlanIn p → k < p .count → RunsIn (guestAt (p .guests) k)
-runs-in-range p k P h = let G = P .guests k h in record { few = G .head .few; short = λ t l. G .tasks t l .run-short }
+pub runs-short : (p : Plan) (k : ℕ) → PlanIn p → k < p .count → ShortRuns (guestAt (p .guests) k)
+runs-short p k P h = let G = P .guests k h in record { few = G .head .few; short = λ t l. G .tasks t l .run-short }

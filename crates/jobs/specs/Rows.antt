@@ -12,7 +12,7 @@ use Rattle.plan.specs.Charge.{chargedRun, charged}
 use Rattle.arrays.specs.Place.{placeAt}
 
 -- At most 16 tasks, each with a run in its range.
-pub record RunsIn (g : Guest) : Type 0 where
+pub record ShortRuns (g : Guest) : Type 0 where
   pub few : g .tasks ≤ mostTasks
   pub short : (t : ℕ) → t < g .tasks → runOf g t ≤ longest
 

@@ -3,14 +3,14 @@ ghost use mathlib.Core.Path.{_≡_};
 ghost use Prim.Native.Nat.{_<_};
 ghost use Rattle.plan.specs.Order.{planRefusal};
 ghost use Rattle.plan.specs.Ranges.{mostGuests};
-ghost use Rattle.jobs.specs.Rows.{RunsIn, Long, RowTo, JobsOf};
+ghost use Rattle.jobs.specs.Rows.{ShortRuns, Long, RowTo, JobsOf};
 use crate::Jobs;
 use plan::Guest;
 use plan::Plan;
 
 // The row of guest g, at place k: rows are put from the first on, so those before it stand.
 fn put_row(g: Guest, k: usize, runs: &mut [u32; 128], periods: &mut [u32; 128])
-    requires { ⌜ (k < mostGuests) × (RunsIn g × Long (now runs) (now periods)) ⌝ }
+    requires { ⌜ (k < mostGuests) × (ShortRuns g × Long (now runs) (now periods)) ⌝ }
     ensures { λ r. ⌜
         RowTo (g .run) (g .every) (g .charge) k (g .tasks) (now (runs .entry)) (now (periods .entry)) (now (runs .exit)) (now (periods .exit))
         ⌝ }

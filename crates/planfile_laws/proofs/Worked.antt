@@ -21,9 +21,9 @@ use Rattle.planfile.specs.Records.{planBy, readOf}
 use Rattle.planfile_laws.specs.File.{joined, fileOf}
 
 -- 512 zero bytes: refusal 3, place 0.
-pub zero-bytes : readOf (replicate 512 0) ≡ record { refusal = refused 3 0; plan = blankPlan }
+pub zeros-refused : readOf (replicate 512 0) ≡ record { refusal = refused 3 0; plan = blankPlan }
 unfolding readOf planBy blocksRefusal sizedBy firstRefused orElse numberAt blockNumber refusal unless word sumTo
-zero-bytes = refl
+zeros-refused = refl
 
 -- Empty input: 1.
 pub empty : readOf [] ≡ record { refusal = refused 1 0; plan = blankPlan }

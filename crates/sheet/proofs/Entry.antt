@@ -17,17 +17,17 @@ use Rattle.dispatcher_laws.proofs.Usage.{release-one, ok-one}
 use Rattle.sheet.proofs.Sheet.{ok-after}
 
 -- The number that it goes by is the outcome's.
-number-by : (n : ℕ) (d : Dispatcher) (pairs : List ℕ) → sheetBy n d pairs .refusal .number ≡ n
+sheet-number-by : (n : ℕ) (d : Dispatcher) (pairs : List ℕ) → sheetBy n d pairs .refusal .number ≡ n
 unfolding sheetBy
-number-by zero d pairs = refl
-number-by (suc n) d pairs = refl
+sheet-number-by zero d pairs = refl
+sheet-number-by (suc n) d pairs = refl
 
 -- A sheet's number is that of its first whole refusal.
 pub sheet-number :
     (d : Dispatcher) (pairs : List ℕ) (room : ℕ)
     → sheet d pairs room .refusal .number ≡ sheetNumber d pairs room
 unfolding sheet
-sheet-number d pairs room = number-by (sheetNumber d pairs room) d pairs
+sheet-number d pairs room = sheet-number-by (sheetNumber d pairs room) d pairs
 
 -- From the state d to the outcome r: the sheet is refused whole, or all its pairs are released.
 pub data Sheeted (d : Dispatcher) (pairs : List ℕ) (r : Released) : Type 0 where

@@ -57,8 +57,8 @@ pub of-pair :
 of-pair e f T = record { answer = rw (← e, ← f) (T .answer); state = rw (← e, ← f) (T .state) }
 
 -- A refused release is told by its number, and the state is as it was.
-refused-told : (d : Dispatcher) (id task x : ℕ) → 1 ≤ x → Aims (d .plan) (d .left) (d .position) (d .rest) (d .wait) (d .age) id task (missed x) → ReleaseTold d d id task x
-refused-told d id task x h a =
+told-refused : (d : Dispatcher) (id task x : ℕ) → 1 ≤ x → Aims (d .plan) (d .left) (d .position) (d .rest) (d .wait) (d .age) id task (missed x) → ReleaseTold d d id task x
+told-refused d id task x h a =
     let e = release-refused d id task a h in
     record { answer = ap (λ (r : Released). r .refusal .number) e; state = ap (λ (r : Released). r .state) e }
 
@@ -80,7 +80,7 @@ module _ (p : Plan) (left position rest wait age usage : List ℕ) {n : ℕ} {id
       n ≤ k
       → ReleaseTold (stateOf p left position rest wait age usage) (stateOf p left position rest wait age usage) id task 7
   told-7 h =
-      refused-told _ id task 7 (omega arith)
+      told-refused _ id task 7 (omega arith)
       (aims-none _ _ _ _ _ _ id task (missed 7) passing place-here refl (omega (arith, S .count)))
 
   module _ (h : k < n) where
@@ -88,7 +88,7 @@ module _ (p : Plan) (left position rest wait age usage : List ℕ) {n : ℕ} {id
     own : {x : ℕ} → 1 ≤ x → AimsAt (guestAt (p .guests) k) k task rest wait (missed x)
         → ReleaseTold (stateOf p left position rest wait age usage) (stateOf p left position rest wait age usage) id task x
     own {x} l a =
-        refused-told _ id task x l (aims-on _ _ _ _ _ _ id task (missed x) passing place-here (omega (arith, S .count)) a)
+        told-refused _ id task x l (aims-on _ _ _ _ _ _ id task (missed x) passing place-here (omega (arith, S .count)) a)
 
     -- No task has number 0.
     pub told-8 :

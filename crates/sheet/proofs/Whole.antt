@@ -39,14 +39,14 @@ unfolding answeredBy
 some-answered zero d pairs before h = absurd (omega arith)
 some-answered (suc n) d pairs before h = refl
 
-by-none :
+by-zero :
     (x : ℕ) (d after : Dispatcher) (pairs before answers : List ℕ)
     → x ≤ 0
     → AllTaken d after pairs before answers
     → (_≡_ {A = Released} (record { refusal = refused x 0; state = after }) (sheetBy x d pairs)) × (answers ≡ answeredBy x d pairs before)
 unfolding sheetBy answeredBy
-by-none zero d after pairs before answers h A = (rw (A .state) refl, A .answer)
-by-none (suc n) d after pairs before answers h A = absurd (omega arith)
+by-zero zero d after pairs before answers h A = (rw (A .state) refl, A .answer)
+by-zero (suc n) d after pairs before answers h A = absurd (omega arith)
 
 module _ (d : Dispatcher) (pairs before : List ℕ) {x : ℕ} {found : Checked} (E : Examines d found)
     (e : x ≡ refusal (found .ok orRefuse 14 ∷ leb (length pairs) mostPairs orRefuse 15 ∷ leb (length pairs) (length before) orRefuse 12 ∷ [])) where
@@ -67,7 +67,7 @@ module _ (d : Dispatcher) (pairs before : List ℕ) {x : ℕ} {found : Checked} 
       → AllTaken d after pairs before answers
       → Sheets d pairs before (record { refusal = refused x 0; state = after }) answers
   unfolding sheet answered
-  whole-taken {after} {answers} h A = rw (← number-is) (by-none x d after pairs before answers h A)
+  whole-taken {after} {answers} h A = rw (← number-is) (by-zero x d after pairs before answers h A)
 
   module _ (h : x ≤ 0) where
     -- Its state is in its ranges.

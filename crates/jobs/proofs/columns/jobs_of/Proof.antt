@@ -5,7 +5,7 @@ use Prim.Native.Nat.{_≤_, _-_}
 use native.Mathlib.Omega.{arith}
 use borrow.Author.Needs.{needs}
 use Rattle.plan.proofs.Order.{PlanIn, plan-in}
-use Rattle.jobs.proofs.Rows.{RowsTo, rows-none, rows-next, rows-done, runs-in-range}
+use Rattle.jobs.proofs.Rows.{RowsTo, rows-none, rows-next, rows-done, runs-short}
 use Rattle.jobs.proofs.columns.jobs_of.Statement.{statement}
 use Rattle.jobs.proofs.columns.jobs_of.Tie as tie
 
@@ -31,7 +31,7 @@ put-row-requires : tie.Need-put-row-requires Inv-loop μ-loop
 put-row-requires c κs =
     let t = c .before .before .before in
     let l = t .before .loop in
-    (omega (arith, l .inv .1 .0 .few), (runs-in-range _ _ (l .inv .1 .0) (t .loop-test .taken), l .inv .1 .1 .long))
+    (omega (arith, l .inv .1 .0 .few), (runs-short _ _ (l .inv .1 .0) (t .loop-test .taken), l .inv .1 .1 .long))
 
 add-k : tie.Need-add-k Inv-loop μ-loop
 add-k c = search needs
