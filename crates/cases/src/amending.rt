@@ -101,20 +101,21 @@ fn lend<'a>(plan: &'a [u8], n: u32, sheet: &'a [u8], m: u32, id: u32) {
     }
 }
 
-// How many bytes a plan's blocks have.
-fn length(p: Plan) -> u32 {
-    if p.count <= 8 { 512 * p.count } else { 0 }
-}
-
 // `Offer` a guest of the standing plan the plan in hand as a sheet, its blocks at these places.
 pub fn ask(standing: Plan, p: Plan, row: Row) {
     if row.first != b'O' {
         return;
     }
     let x = row.numbers;
-    let mut plan = [0u8; 4096];
-    let mut sheet = [0u8; 4096];
+    let mut plan = [0u8; draft::MOST_BYTES];
+    let mut sheet = [0u8; draft::MOST_BYTES];
     draft::write(standing, &mut plan);
     blocks(p, row, &mut sheet);
-    lend(&plan, length(standing), &sheet, length(p), x[0]);
+    lend(
+        &plan,
+        draft::length(standing),
+        &sheet,
+        draft::length(p),
+        x[0],
+    );
 }

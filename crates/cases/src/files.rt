@@ -1,9 +1,13 @@
 // The plan's blocks as the writer writes them: printed, cut short, damaged, searched.
 use crate::damage;
 use crate::say;
+use block::layout;
 use draft::text::Row;
 use plan::Guest;
 use plan::Plan;
+
+// The length of 9 blocks, a block more than a plan has.
+const BLOCK_MORE: usize = draft::MOST_BYTES + layout::SIZE;
 
 // The finder's companion, and how many bytes the part found has.
 fn find(bytes: &[u8], id: u32) {
@@ -46,12 +50,12 @@ fn length(p: Plan, row: Row) -> u32 {
     if (row.first == b'f') & (1 < row.count) {
         return x[1];
     }
-    if p.count <= 8 { 512 * p.count } else { 0 }
+    draft::length(p)
 }
 
 // The plan's blocks, zeros past them, and the line's damage to them.
 fn blocks(p: Plan, row: Row) {
-    let mut buf = [0u8; 4608];
+    let mut buf = [0u8; BLOCK_MORE];
     draft::write(p, &mut buf);
     damage::damage(&mut buf, row);
     look_at(&buf, length(p, row), row);
@@ -66,7 +70,7 @@ fn lend(g: Guest, place: u32, buf: &mut [u8], n: usize) {
 
 // The first guest, by the writer.
 fn write(p: Plan, place: u32, n: u32) {
-    let mut buf = [0u8; 512];
+    let mut buf = [0u8; layout::SIZE];
     let guests = p.guests;
     lend(guests[0], place, &mut buf, n as usize);
     say::text(b"\n");

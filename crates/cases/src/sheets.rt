@@ -3,9 +3,12 @@ use crate::say;
 use dispatcher::Dispatcher;
 use draft::text::Row;
 
+// A pair is the guest id times this, plus the task number.
+const PAIR_BASE: u64 = 65536;
+
 // A task as a sheet names it.
 fn pair(guest: u32, task: u32) -> u64 {
-    65536 * (guest as u64) + (task as u64)
+    PAIR_BASE * (guest as u64) + (task as u64)
 }
 
 // Two pairs in turn, 260 in all: more than a sheet may have.

@@ -1,9 +1,13 @@
 // Plans made step by step, and their bytes written block by block.
+use block::layout;
 use plan::Guest;
 use plan::Plan;
 use plan::Refusal;
 
 pub mod text;
+
+// The length of 8 blocks, the most that a plan has.
+pub const MOST_BYTES: usize = 8 * layout::SIZE;
 
 // A guest with no task yet.
 pub fn guest(id: u32, capacity: u32, period: u32, charge: u16) -> Guest {
@@ -49,10 +53,16 @@ pub fn with_guest(p: Plan, g: Guest) -> Plan {
     p
 }
 
+// How many bytes the plan's blocks have; none with more than 8 guests.
+pub fn length(p: Plan) -> u32 {
+    let size = layout::SIZE as u32;
+    if p.count <= 8 { size * p.count } else { 0 }
+}
+
 // A guest's block at its place, by the writer; a place past the buffer's end is a buffer too short.
 fn write_block(g: Guest, place: usize, buf: &mut [u8]) -> Refusal {
     if place < 8 {
-        let a = block::layout::SIZE * place;
+        let a = layout::SIZE * place;
         if a <= buf.len() {
             return blockwriter::write(g, place as u32, &mut buf[a..]);
         }

@@ -4,6 +4,9 @@ use plan::Plan;
 
 mod lines;
 
+// The most bytes of a text.
+const LONGEST: usize = 16384;
+
 // A message and a number after it, to standard error.
 fn complain(words: &[u8], n: u32) {
     io::write_all(2, words);
@@ -19,8 +22,7 @@ fn put(blocks: &[u8], n: usize) {
 
 // The plan's blocks.
 fn write(p: Plan) {
-    let count = p.count as usize;
-    let mut blocks = [0u8; 4096];
+    let mut blocks = [0u8; draft::MOST_BYTES];
     let refusal = draft::write(p, &mut blocks);
     if 0 < refusal.number {
         complain(b"refused ", refusal.number);
@@ -28,15 +30,13 @@ fn write(p: Plan) {
         io::write_all(2, b"\n");
         return;
     }
-    if count <= 8 {
-        put(&blocks, 512 * count);
-    }
+    put(&blocks, draft::length(p) as usize);
 }
 
 fn main() {
-    let mut buf = [0u8; 16385];
+    let mut buf = [0u8; LONGEST + 1];
     let n = io::read_full(0, &mut buf);
-    if 16384 < n {
+    if LONGEST < n {
         io::write_all(2, b"a text of more than 16384 bytes\n");
         return;
     }

@@ -13,6 +13,9 @@ use refusals::examine;
 
 mod pairs;
 
+// The most pairs on a sheet.
+const MOST_PAIRS: usize = 256;
+
 // The number that a sheet is refused by as a whole: 14, 15, 12, or 0.
 fn whole_number(ok: bool, pairs: usize, room: usize) -> u32
     ensures { λ r. ⌜
@@ -22,7 +25,7 @@ fn whole_number(ok: bool, pairs: usize, room: usize) -> u32
     if !ok {
         return 14;
     }
-    if 256 < pairs {
+    if MOST_PAIRS < pairs {
         return 15;
     }
     if room < pairs {

@@ -11,19 +11,25 @@ ghost use Rattle.dispatcher.specs.Lent.{stateOf};
 ghost use Rattle.sheet.specs.Sheet.{pairGuest, pairTask};
 ghost use Rattle.sheet.specs.Lent.{SheetColumns, PairTaken, AllTaken};
 
+// A pair is the guest id times this, plus the task number.
+const PAIR_BASE: u64 = 65536;
+
+// A guest id has 32 bits, so it is below this.
+const ID_BOUND: u64 = 4294967296;
+
 // The guest id that a pair names: a part beyond 32 bits names no guest, as id 0 does.
 fn guest_of(pair: u64) -> u32
     ensures { λ r. ⌜ r ≡ pairGuest pair ⌝ }
 {
-    let guest = pair / 65536;
-    if guest < 4294967296 { guest as u32 } else { 0 }
+    let guest = pair / PAIR_BASE;
+    if guest < ID_BOUND { guest as u32 } else { 0 }
 }
 
 // The task number that a pair names.
 fn task_of(pair: u64) -> u32
     ensures { λ r. ⌜ r ≡ pairTask pair ⌝ }
 {
-    (pair % 65536) as u32
+    (pair % PAIR_BASE) as u32
 }
 
 // One pair: 7, 8, 9, 10, or 0 and the task's run left, wait and age are set.
