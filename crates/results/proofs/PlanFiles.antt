@@ -10,6 +10,7 @@ use Rattle.plan.specs.Order.{planRefusal}
 use Rattle.plan.specs.Records.{guestAt}
 use Rattle.plan.specs.declared.Plan.{Plan}
 use Rattle.words.specs.Bytes.{Bytes}
+use Rattle.block.specs.Layout.{blockSize}
 use Rattle.block.specs.Table.{InBytes}
 use Rattle.blockwriter.specs.Writing.{blockOf, writeRefusal, written}
 use Rattle.planfile.specs.Records.{readOf}
@@ -34,9 +35,9 @@ read-back = back.read-back
 -- Each block of that file is what the writer, which refuses none of them, leaves in the first 512 of the lent bytes.
 pub written-so :
     (p : Plan) → planRefusal p .number ≡ 0
-    → (k : ℕ) → k < p .count → (before : List ℕ) → 512 ≤ length before
+    → (k : ℕ) → k < p .count → (before : List ℕ) → blockSize ≤ length before
     → (writeRefusal (guestAt (p .guests) k) k (length before) ≡ fine)
-    × (written (guestAt (p .guests) k) k before ≡ blockOf (guestAt (p .guests) k) k ++ drop 512 before)
+    × (written (guestAt (p .guests) k) k before ≡ blockOf (guestAt (p .guests) k) k ++ drop blockSize before)
 written-so = back.written-so
 
 -- Bytes that read as a plan are exactly what is written for what was read.
