@@ -96,7 +96,8 @@ unfolding zeroBetween
 zero-at b from to k l h e =
     let q : from + (k - from) ≡ k = omega arith in
     rw q at
-    (eqb-true (word b (from + (k - from))) 0 (all-at (λ i. eqb (word b (from + i)) 0) (to - from) (k - from) (omega arith) e))
+    (eqb-true (word b (from + (k - from))) 0
+    (all-at (λ i. eqb (word b (from + i)) 0) (to - from) (k - from) (omega arith) e))
 
 -- A column's number.
 pub column-at : (b : List ℕ) (at : ℕ → ℕ) (i : ℕ) → i < mostTasks → nth (column b at) i ≡ word b (at i)

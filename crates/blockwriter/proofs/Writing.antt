@@ -50,7 +50,8 @@ module _ (g : Guest) (p n : ℕ) where
         unfolding writeNumber
         none e =
             sym
-            (go-on 12 _ (le-leb blockSize n h) ∙ go-on 3 _ (le-leb p lastPlace l) ∙ go-on 4 _ o ∙ go-on 6 _ e ∙ none-left)
+            (go-on 12 _ (le-leb blockSize n h) ∙ go-on 3 _ (le-leb p lastPlace l) ∙ go-on 4 _ o ∙ go-on 6 _ e
+            ∙ none-left)
 
 -- A refusal writes nothing.
 pub by-refused : (x : ℕ) (block before : List ℕ) → 0 < x → before ≡ writtenBy x block before
@@ -149,7 +150,8 @@ put-three b b1 b2 b3 i j k v w z p q r = rw (← p, ← q) r
 -- An entry put into the bytes.
 entry-laid :
     (i r e d : ℕ) (x t : List ℕ) → i < mostTasks → length x ≡ blockWords
-    → withWord (withWord (withWord (laid x t) (runWord i) r) (everyWord i) e) (deadlineWord i) d ≡ laid (withEntry i r e d x) t
+    → withWord (withWord (withWord (laid x t) (runWord i) r) (everyWord i) e) (deadlineWord i) d
+    ≡ laid (withEntry i r e d x) t
 unfolding withEntry
 entry-laid i r e d x t h l =
     let x0 : List ℕ = set x (runWord i) r in

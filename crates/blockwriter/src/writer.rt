@@ -63,7 +63,8 @@ fn put_entry(buf: &mut [u8], i: usize, run: u32, every: u32, deadline: u32)
     requires { ⌜ (blockSize ≤ length (now buf)) × (i < mostTasks) ⌝ }
     ensures { λ _. ⌜
         now (buf .exit)
-        ≡ withWord (withWord (withWord (now (buf .entry)) (runWord i) run) (everyWord i) every) (deadlineWord i) deadline
+        ≡ withWord (withWord (withWord (now (buf .entry)) (runWord i) run) (everyWord i) every)
+        (deadlineWord i) deadline
         ⌝ }
 {
     words::put_word(buf, layout::RUN + layout::ENTRY * i, run);
@@ -74,7 +75,9 @@ fn put_entry(buf: &mut [u8], i: usize, run: u32, every: u32, deadline: u32)
 // The head and the guest's entries put in: the block's words but for the check.
 fn put_entries(g: Guest, place: u32, buf: &mut [u8])
     requires { ⌜ (blockSize ≤ length (now buf)) × ((place ≤ lastPlace) × (g .tasks ≤ mostTasks)) ⌝ }
-    ensures { λ _. ⌜ now (buf .exit) ≡ bytesOf (nth (wordsOf g place)) blockWords ++ drop blockSize (now (buf .entry)) ⌝ }
+    ensures { λ _. ⌜
+        now (buf .exit) ≡ bytesOf (nth (wordsOf g place)) blockWords ++ drop blockSize (now (buf .entry))
+        ⌝ }
 {
     put_head(g, place, buf);
     let run = g.run;

@@ -33,7 +33,8 @@ returns c =
     let n = c .before .before in
     let a = n .before .before .args in (
       c .with-place .ensures ∙ ap (λ (x : ℕ). withPlace x (a .place)) (n .write-number .ensures),
-      by-refused _ (blockOf (a .guest) (a .place)) (a .buf .now) (rw (n .write-number .ensures) at (c .before .if1 .taken)),
+      by-refused _ (blockOf (a .guest) (a .place)) (a .buf .now)
+          (rw (n .write-number .ensures) at (c .before .if1 .taken)),
     )
 
 put-block-requires : tie.Need-put-block-requires

@@ -65,7 +65,8 @@ returns-2 : tie.Need-returns-2
 returns-2 c =
     let o = c .before .before in
     let a = at1 o .args in
-    three (a .b .now) (a .placed) (a .new) (sums o) (kind-of o (c .before .kind-ok .ensures) ∙ not-true _ (c .if2 .taken))
+    three (a .b .now) (a .placed) (a .new) (sums o)
+    (kind-of o (c .before .kind-ok .ensures) ∙ not-true _ (c .if2 .taken))
 
 head-in-requires : tie.Need-head-in-requires
 head-in-requires c κs = search needs
