@@ -108,7 +108,8 @@ rows-next p n few H R = record {
 
 -- Before the first row nothing is asked.
 pub rows-none : (p : Plan) (runs periods : List ℕ) → Long runs periods → RowsTo p 0 runs periods
-rows-none p runs periods L = record { long = L; run = λ k t h l. absurd (omega arith); period = λ k t h l. absurd (omega arith) }
+rows-none p runs periods L =
+    record { long = L; run = λ k t h l. absurd (omega arith); period = λ k t h l. absurd (omega arith) }
 
 -- All rows are there.
 pub rows-done :
@@ -116,7 +117,8 @@ pub rows-done :
     → p .count ≤ n
     → RowsTo p n runs periods
     → JobsOf p runs periods
-rows-done p n h R = record { run = λ k t l m. R .run k t (omega arith) m; period = λ k t l m. R .period k t (omega arith) m }
+rows-done p n h R =
+    record { run = λ k t l m. R .run k t (omega arith) m; period = λ k t l m. R .period k t (omega arith) m }
 
 -- A guest of a plan in order has few tasks, with runs in their range.
 pub runs-short : (p : Plan) (k : ℕ) → PlanIn p → k < p .count → ShortRuns (guestAt (p .guests) k)

@@ -12,7 +12,8 @@ use plan::Plan;
 fn put_row(g: Guest, k: usize, runs: &mut [u32; 128], periods: &mut [u32; 128])
     requires { ⌜ (k < mostGuests) × (ShortRuns g × Long (now runs) (now periods)) ⌝ }
     ensures { λ r. ⌜
-        RowTo (g .run) (g .every) (g .charge) k (g .tasks) (now (runs .entry)) (now (periods .entry)) (now (runs .exit)) (now (periods .exit))
+        RowTo (g .run) (g .every) (g .charge) k (g .tasks)
+        (now (runs .entry)) (now (periods .entry)) (now (runs .exit)) (now (periods .exit))
         ⌝ }
 {
     let run = g.run;

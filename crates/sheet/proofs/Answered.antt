@@ -25,7 +25,8 @@ module _ (d : Dispatcher) (pairs before : List ℕ) where
       → i < length pairs
       → nth (answered d pairs before) i ≡ answerTo d pairs i
   unfolding answered
-  answered-each z i h = each-by (sheetNumber d pairs (length before)) i (sym (sheet-number d pairs (length before)) ∙ z) h
+  answered-each z i h =
+      each-by (sheetNumber d pairs (length before)) i (sym (sheet-number d pairs (length before)) ∙ z) h
 
   -- A place past a list is one of what stands behind it.
   behind : (l : List ℕ) (i : ℕ) → length l ≤ i → nth (l ++ drop (length l) before) i ≡ nth before i

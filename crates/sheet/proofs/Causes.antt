@@ -30,7 +30,9 @@ module _ (d : Dispatcher) (pairs : List ℕ) (room : ℕ) where
       given-later (stateOk d) 14 15 _ (λ e. omega arith) (λ e. e, λ e. e)
       (given-first (leb (length pairs) mostPairs) 15 _ (omega arith) refl (le-fails (length pairs) mostPairs))
 
-  twelve : (sheetNumber d pairs room ≡ 12) exactlyWhen ((stateOk d ≡ false) notBut ((mostPairs < length pairs) notBut (room < length pairs)))
+  twelve :
+      (sheetNumber d pairs room ≡ 12)
+      exactlyWhen ((stateOk d ≡ false) notBut ((mostPairs < length pairs) notBut (room < length pairs)))
   unfolding sheetNumber among
   twelve =
       given-later (stateOk d) 14 12 _ (λ e. omega arith) (λ e. e, λ e. e)
@@ -38,7 +40,8 @@ module _ (d : Dispatcher) (pairs : List ℕ) (room : ℕ) where
       (given-first (leb (length pairs) room) 12 [] (omega arith) refl (le-fails (length pairs) room)))
 
   -- 15 is given exactly for a state in its ranges and more than 256 pairs.
-  pub fifteen-exactly : (sheet d pairs room .refusal .number ≡ 15) exactlyWhen ((stateOk d ≡ true) × (mostPairs < length pairs))
+  pub fifteen-exactly :
+      (sheet d pairs room .refusal .number ≡ 15) exactlyWhen ((stateOk d ≡ true) × (mostPairs < length pairs))
   fifteen-exactly = (
     λ e. (let h = fifteen .0 (sym (sheet-number d pairs room) ∙ e) in (ok-or-not (stateOk d) (h .0), h .1)),
     λ h. sheet-number d pairs room ∙ fifteen .1 (λ e. false≢true (sym e ∙ h .0), h .1),
@@ -46,7 +49,8 @@ module _ (d : Dispatcher) (pairs : List ℕ) (room : ℕ) where
 
   -- 12 is given exactly for a state in its ranges, at most 256 pairs, and fewer answer places than pairs.
   pub twelve-exactly :
-      (sheet d pairs room .refusal .number ≡ 12) exactlyWhen ((stateOk d ≡ true) × ((length pairs ≤ mostPairs) × (room < length pairs)))
+      (sheet d pairs room .refusal .number ≡ 12)
+      exactlyWhen ((stateOk d ≡ true) × ((length pairs ≤ mostPairs) × (room < length pairs)))
   twelve-exactly = (
     λ e.
         (let h = twelve .0 (sym (sheet-number d pairs room) ∙ e) in

@@ -71,7 +71,8 @@ pub sheet-not-14 :
     → ⊥
 unfolding sheetNumber
 sheet-not-14 d pairs room ok e =
-    other-number _ 15 _ 14 (λ q. omega arith) (other-number _ 12 [] 14 (λ q. omega arith) (λ q. omega (arith, none-left)))
+    other-number _ 15 _ 14 (λ q. omega arith)
+    (other-number _ 12 [] 14 (λ q. omega arith) (λ q. omega (arith, none-left)))
     (sym (go-on 14 _ ok) ∙ sym (sheet-number d pairs room) ∙ e)
 
 -- A state in its ranges stays there over a sheet.
@@ -113,4 +114,6 @@ module _ (d e : Dispatcher) (S : SameButUsage d e) (pairs : List ℕ) where
   -- The answers do not depend on them either.
   pub answers-one : (n : ℕ) → answerTo d pairs n ≡ answerTo e pairs n
   unfolding answerTo
-  answers-one n = ap (λ r. r .number) (release-one _ _ (after-one n) (pairGuest (nth pairs n)) (pairTask (nth pairs n)) .refusal-same)
+  answers-one n =
+      ap (λ r. r .number)
+      (release-one _ _ (after-one n) (pairGuest (nth pairs n)) (pairTask (nth pairs n)) .refusal-same)

@@ -78,7 +78,8 @@ module _ (p : Plan) (left position rest wait age usage : List ℕ) {n : ℕ} {id
   -- No such guest.
   pub told-7 :
       n ≤ k
-      → ReleaseTold (stateOf p left position rest wait age usage) (stateOf p left position rest wait age usage) id task 7
+      → ReleaseTold (stateOf p left position rest wait age usage)
+      (stateOf p left position rest wait age usage) id task 7
   told-7 h =
       told-refused _ id task 7 (omega arith)
       (aims-none _ _ _ _ _ _ id task (missed 7) passing place-here refl (omega (arith, S .count)))
@@ -86,20 +87,23 @@ module _ (p : Plan) (left position rest wait age usage : List ℕ) {n : ℕ} {id
   module _ (h : k < n) where
     -- The guest's own refusals.
     own : {x : ℕ} → 1 ≤ x → AimsAt (guestAt (p .guests) k) k task rest wait (missed x)
-        → ReleaseTold (stateOf p left position rest wait age usage) (stateOf p left position rest wait age usage) id task x
+        → ReleaseTold (stateOf p left position rest wait age usage)
+        (stateOf p left position rest wait age usage) id task x
     own {x} l a =
         told-refused _ id task x l (aims-on _ _ _ _ _ _ id task (missed x) passing place-here (omega (arith, S .count)) a)
 
     -- No task has number 0.
     pub told-8 :
         task < 1
-        → ReleaseTold (stateOf p left position rest wait age usage) (stateOf p left position rest wait age usage) id task 8
+        → ReleaseTold (stateOf p left position rest wait age usage)
+        (stateOf p left position rest wait age usage) id task 8
     told-8 l = own (omega arith) (no-task _ k task rest wait (missed 8) refl l)
 
     -- The guest has fewer tasks.
     pub told-8-past :
         nth tasks k < task
-        → ReleaseTold (stateOf p left position rest wait age usage) (stateOf p left position rest wait age usage) id task 8
+        → ReleaseTold (stateOf p left position rest wait age usage)
+        (stateOf p left position rest wait age usage) id task 8
     told-8-past l = own (omega arith) (past-tasks _ k task rest wait (missed 8) refl (omega (arith, S .many k h)))
 
     module _ (one : 1 ≤ task) (most : task ≤ nth tasks k) where
@@ -109,14 +113,16 @@ module _ (p : Plan) (left position rest wait age usage : List ℕ) {n : ℕ} {id
       -- The task's period has not passed.
       pub told-9 :
           0 < nth wait (placeAt k (task - 1))
-          → ReleaseTold (stateOf p left position rest wait age usage) (stateOf p left position rest wait age usage) id task 9
+          → ReleaseTold (stateOf p left position rest wait age usage)
+          (stateOf p left position rest wait age usage) id task 9
       told-9 w = own (omega arith) (too-soon _ k task rest wait (missed 9) one inside refl w)
 
       module _ (due : nth wait (placeAt k (task - 1)) ≤ 0) where
         -- Its last job is unfinished.
         pub told-10 :
             0 < nth rest (placeAt k (task - 1))
-            → ReleaseTold (stateOf p left position rest wait age usage) (stateOf p left position rest wait age usage) id task 10
+            → ReleaseTold (stateOf p left position rest wait age usage)
+            (stateOf p left position rest wait age usage) id task 10
         told-10 u = own (omega arith) (unfinished _ k task rest wait (missed 10) one inside due refl u)
 
         -- It is taken.
@@ -134,6 +140,13 @@ module _ (p : Plan) (left position rest wait age usage : List ℕ) {n : ℕ} {id
             let in-plan : k < p .count = omega (arith, S .count) in
             let t : task - 1 < guestAt (p .guests) k .tasks = omega (arith, inside) in
             let a = takes-it (guestAt (p .guests) k) k task rest wait r one inside due refl free
-            record { place = refl; inside = l; run = S .jobs .run k (task - 1) in-plan t; period = S .jobs .period k (task - 1) in-plan t } in
-            let e = release-taken (stateOf p left position rest wait age usage) id task (aims-on p left position rest wait age id task r passing place-here in-plan a) (omega arith) in
+            record {
+              place = refl;
+              inside = l;
+              run = S .jobs .run k (task - 1) in-plan t;
+              period = S .jobs .period k (task - 1) in-plan t;
+            } in
+            let e =
+            release-taken (stateOf p left position rest wait age usage) id task
+            (aims-on p left position rest wait age id task r passing place-here in-plan a) (omega arith) in
             record { answer = ap (λ (z : Released). z .refusal .number) e; state = ap (λ (z : Released). z .state) e }

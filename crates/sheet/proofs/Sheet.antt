@@ -21,7 +21,8 @@ unfolding stateAfter
 ok-after d pairs zero ok = ok
 ok-after d pairs (suc n) ok =
     let e = stateAfter d pairs n in
-    ok-took e (pairGuest (nth pairs n)) (pairTask (nth pairs n)) _ (ok-after d pairs n ok) (release-took e (pairGuest (nth pairs n)) (pairTask (nth pairs n)))
+    ok-took e (pairGuest (nth pairs n)) (pairTask (nth pairs n)) _ (ok-after d pairs n ok)
+    (release-took e (pairGuest (nth pairs n)) (pairTask (nth pairs n)))
 
 -- The first i pairs are released and answered.
 pub record TakenTo (i : ℕ) (d after : Dispatcher) (pairs before answers : List ℕ) : Type 0 where

@@ -43,13 +43,15 @@ by-zero :
     (x : ℕ) (d after : Dispatcher) (pairs before answers : List ℕ)
     → x ≤ 0
     → AllTaken d after pairs before answers
-    → (_≡_ {A = Released} (record { refusal = refused x 0; state = after }) (sheetBy x d pairs)) × (answers ≡ answeredBy x d pairs before)
+    → (_≡_ {A = Released} (record { refusal = refused x 0; state = after }) (sheetBy x d pairs))
+    × (answers ≡ answeredBy x d pairs before)
 unfolding sheetBy answeredBy
 by-zero zero d after pairs before answers h A = (rw (A .state) refl, A .answer)
 by-zero (suc n) d after pairs before answers h A = absurd (omega arith)
 
 module _ (d : Dispatcher) (pairs before : List ℕ) {x : ℕ} {found : Checked} (E : Examines d found)
-    (e : x ≡ refusal (found .ok orRefuse 14 ∷ leb (length pairs) mostPairs orRefuse 15 ∷ leb (length pairs) (length before) orRefuse 12 ∷ [])) where
+    (e : x ≡ refusal (found .ok orRefuse 14 ∷ leb (length pairs) mostPairs orRefuse 15
+    ∷ leb (length pairs) (length before) orRefuse 12 ∷ [])) where
   -- The code's number is the sheet's.
   number-is : x ≡ sheetNumber d pairs (length before)
   unfolding sheetNumber
@@ -80,7 +82,8 @@ module _ (d : Dispatcher) (pairs before : List ℕ) {x : ℕ} {found : Checked} 
         let z : x ≡ 0 = omega arith in
         let a = passed (found .ok) 14 _ (omega arith) (sym e ∙ z) in
         let b = passed (leb (length pairs) mostPairs) 15 _ (omega arith) (a .1) in
-        leb-true (length pairs) (length before) (passed (leb (length pairs) (length before)) 12 [] (omega arith) (b .1) .0)
+        leb-true (length pairs) (length before)
+        (passed (leb (length pairs) (length before)) 12 [] (omega arith) (b .1) .0)
 
     -- Its plan is in order.
     pub plan-fine : planRefusal (d .plan) .number ≡ 0

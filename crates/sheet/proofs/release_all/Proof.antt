@@ -6,6 +6,12 @@ use Rattle.sheet.proofs.Whole.{whole-refused, whole-taken, state-in, ro
 use Rattle.sheet.proofs.release_all.Statement.{statement}
 use Rattle.sheet.proofs.release_all.Tie as tie
 
+-- From past the whole refusals to the start.
+abbrev start : tie.Else1 → tie.Start
+start e =
+    let found = e .before .before .before in
+    found .before .before .before .before .before .before .before .before .before .before .before .before
+
 examine-requires : tie.Need-examine-requires
 examine-requires c κs = search needs
 
@@ -13,7 +19,8 @@ whole-number-requires : tie.Need-whole-number-requires
 whole-number-requires c κs = search needs
 
 returns : tie.Need-returns
-returns c = whole-refused _ _ _ (examines (c .before .before .examine .ensures) _) (c .before .whole-number .ensures) (c .if1 .taken)
+returns c =
+    whole-refused _ _ _ (examines (c .before .before .examine .ensures) _) (c .before .whole-number .ensures) (c .if1 .taken)
 
 cast-n : tie.Need-cast-n
 cast-n c = search needs
@@ -21,15 +28,20 @@ cast-n c = search needs
 jobs-of-requires : tie.Need-jobs-of-requires
 jobs-of-requires c κs =
     let e = c .before .before .before .before in
-    let a = e .before .before .before .before .before .before .before .before .before .before .before .before .before .before .before .args in
-    plan-fine (a .state) (a .pairs .now) (a .answers .now) (examines (e .before .before .examine .ensures) (a .state .usage)) (e .before .whole-number .ensures) (e .if1 .left)
+    let a = start e .args in
+    plan-fine (a .state) (a .pairs .now) (a .answers .now) (examines (e .before .before .examine .ensures) (a .state .usage))
+    (e .before .whole-number .ensures) (e .if1 .left)
 
 take-all-requires : tie.Need-take-all-requires
 take-all-requires c κs =
-    let e = c .before .before .before .before .before .before .before .before .before .before .before .before .before .before .before in
-    let a = e .before .before .before .before .before .before .before .before .before .before .before .before .before .before .before .args in
+    let set = c .before .before .before .before .before .before .before .before .before .before in
+    let e = set .before .before .before .before .before in
+    let a = start e .args in
     let E = examines (e .before .before .examine .ensures) (a .state .usage) in
-    (small (a .state) (a .pairs .now) (a .answers .now) E (e .before .whole-number .ensures) (e .if1 .left), room-enough (a .state) (a .pairs .now) (a .answers .now) E (e .before .whole-number .ensures) (e .if1 .left))
+    let N = e .before .whole-number .ensures in (
+      small (a .state) (a .pairs .now) (a .answers .now) E N (e .if1 .left),
+      room-enough (a .state) (a .pairs .now) (a .answers .now) E N (e .if1 .left),
+    )
 
 same-length : tie.Need-same-length
 same-length c = search needs
@@ -37,12 +49,15 @@ same-length c = search needs
 returns-2 : tie.Need-returns-2
 returns-2 c =
     let t = c .before .before in
-    let e = t .before .before .before .before .before .before .before .before .before .before .before .before .before .before .before .before in
-    let a = e .before .before .before .before .before .before .before .before .before .before .before .before .before .before .before .args in
+    let set = t .before .before .before .before .before .before .before .before .before .before .before in
+    let e = set .before .before .before .before .before in
+    let a = start e .args in
     let E = examines (e .before .before .examine .ensures) (a .state .usage) in
     let N = e .before .whole-number .ensures in
     whole-taken (a .state) (a .pairs .now) (a .answers .now) E N (e .if1 .left)
-    (t .take-all .ensures (a .state .plan) (a .state .left) (a .state .position) (a .state .usage) (sheet-columns (a .state) (a .pairs .now) (a .answers .now) E N (e .if1 .left) (t .before .before .before .before .before .before .before .before .before .before .before .jobs-of .ensures)) (state-in (a .state) (a .pairs .now) (a .answers .now) E N (e .if1 .left)))
+    (t .take-all .ensures (a .state .plan) (a .state .left) (a .state .position) (a .state .usage)
+    (sheet-columns (a .state) (a .pairs .now) (a .answers .now) E N (e .if1 .left) (set .jobs-of .ensures))
+    (state-in (a .state) (a .pairs .now) (a .answers .now) E N (e .if1 .left)))
 
 pub release-all-spec : {M : Type 1} → statement M
 release-all-spec =

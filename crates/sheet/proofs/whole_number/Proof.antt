@@ -13,7 +13,10 @@ returns-2 c = sym (go-on 14 _ (not-false _ (c .before .if1 .left)) ∙ stop 15 _
 
 returns-3 : tie.Need-returns-3
 returns-3 c =
-    sym (go-on 14 _ (not-false _ (c .before .before .if1 .left)) ∙ go-on 15 _ (le-leb _ _ (c .before .if2 .left)) ∙ stop 12 _ (lt-leb _ _ (c .if3 .taken)))
+    sym
+    (go-on 14 _ (not-false _ (c .before .before .if1 .left))
+    ∙ go-on 15 _ (le-leb _ _ (c .before .if2 .left))
+    ∙ stop 12 _ (lt-leb _ _ (c .if3 .taken)))
 
 returns-4 : tie.Need-returns-4
 returns-4 c =

@@ -41,8 +41,13 @@ loop-less c = search needs
 
 loop-again : tie.Need-loop-again Inv-loop μ-loop
 loop-again c =
-    let l = c .before .before .before .before .before .loop in
-    (search needs, (l .inv .1 .0, rows-next _ _ (λ j h. l .inv .1 .0 .guests j (omega arith) .head .few) (l .inv .1 .1) (c .put-row .ensures)))
+    let l = c .before .before .before .before .before .loop in (
+      search needs,
+      (
+        l .inv .1 .0,
+        rows-next _ _ (λ j h. l .inv .1 .0 .guests j (omega arith) .head .few) (l .inv .1 .1) (c .put-row .ensures),
+      ),
+    )
 
 returns : tie.Need-returns Inv-loop μ-loop
 returns c = rows-done _ _ (c .loop-test .left) (c .before .loop .inv .1 .1)

@@ -11,7 +11,8 @@ use Rattle.jobs.proofs.columns.put_row.Statement.{statement}
 use Rattle.jobs.proofs.columns.put_row.Tie as tie
 
 abbrev Inv-loop : tie.InvT-loop
-Inv-loop k runs₀ periods₀ run every charge many base t₀ runs periods t = (t ≤ many) × RowTo run every charge k t runs₀ periods₀ runs periods
+Inv-loop k runs₀ periods₀ run every charge many base t₀ runs periods t =
+    (t ≤ many) × RowTo run every charge k t runs₀ periods₀ runs periods
 
 abbrev μ-loop : tie.MeasureT-loop
 μ-loop k runs₀ periods₀ run every charge many base t₀ runs periods t = many - t
@@ -41,7 +42,12 @@ cast-runs : tie.Need-cast-runs Inv-loop μ-loop
 cast-runs c =
     let l = c .before .before in
     let s = l .before .before .before .before in
-    omega (arith, c .charged-run .ensures, charged-most (nth (s .args .g .run) (l .loop .t)) (s .args .g .charge) (s .pre .1 .0 .short (l .loop .t) (omega arith)) (omega arith))
+    omega (
+      arith,
+      c .charged-run .ensures,
+      charged-most (nth (s .args .g .run) (l .loop .t)) (s .args .g .charge)
+          (s .pre .1 .0 .short (l .loop .t) (omega arith)) (omega arith),
+    )
 
 mul-runs : tie.Need-mul-runs Inv-loop μ-loop
 mul-runs c = search needs
@@ -68,8 +74,10 @@ loop-less : tie.Need-loop-less Inv-loop μ-loop
 loop-less c = search needs
 
 loop-again : tie.Need-loop-again Inv-loop μ-loop
-loop-again c =
-    (search needs, row-next _ _ _ _ _ _ (element-write-runs c) (c .charged-run .ensures) refl (c .before .before .loop .inv .1))
+loop-again c = (
+  search needs,
+  row-next _ _ _ _ _ _ (element-write-runs c) (c .charged-run .ensures) refl (c .before .before .loop .inv .1),
+)
 
 returns : tie.Need-returns Inv-loop μ-loop
 returns c = all-tasks _ _ _ _ _ _ (c .before .loop .inv .0) (c .loop-test .left) (c .before .loop .inv .1)

@@ -5,6 +5,16 @@ use Rattle.sheet.proofs.Pair.{place-inside, of-pair, told-7, told-8, to
 use Rattle.sheet.proofs.pairs.take.Statement.{statement}
 use Rattle.sheet.proofs.pairs.take.Tie as tie
 
+-- From past the third test, where the task is one of its guest's, to those before it, to the search, and to the start.
+abbrev past2 : tie.Else3 → tie.Else2
+past2 c = c .before .before
+
+abbrev past1 : tie.Else3 → tie.Else1
+past1 c = past2 c .before
+
+abbrev start : tie.Else3 → tie.Start
+start c = past1 c .before .before .before .before
+
 guest-of-requires : tie.Need-guest-of-requires
 guest-of-requires c κs = search needs
 
@@ -18,7 +28,8 @@ returns : tie.Need-returns
 returns c =
     let f = c .before in
     λ p left position usage S ok.
-    of-pair (f .before .before .guest-of .ensures) (f .before .task-of .ensures) (told-7 p left position _ _ _ usage S ok _ _ (f .place-of .ensures) (c .if1 .taken))
+    of-pair (f .before .before .guest-of .ensures) (f .before .task-of .ensures)
+    (told-7 p left position _ _ _ usage S ok _ _ (f .place-of .ensures) (c .if1 .taken))
 
 returns-2 : tie.Need-returns-2
 returns-2 c =
@@ -38,7 +49,8 @@ returns-3 c =
     let f = c .before .before .before .before in
     λ p left position usage S ok.
     of-pair (f .before .before .guest-of .ensures) (f .before .task-of .ensures)
-    (told-8-past p left position _ _ _ usage S ok _ _ (f .place-of .ensures) (c .before .before .before .if1 .left) (c .if3 .taken))
+    (told-8-past p left position _ _ _ usage S ok _ _ (f .place-of .ensures)
+    (c .before .before .before .if1 .left) (c .if3 .taken))
 
 mul-at : tie.Need-mul-at
 mul-at c = search needs
@@ -53,64 +65,84 @@ mul-if4 : tie.Need-mul-if4
 mul-if4 c = search needs
 
 element-copy-out-if4 : tie.Need-element-copy-out-if4
-element-copy-out-if4 c = place-inside (c .before .before .before .before .before .before .before .pre) (c .before .before .before .if1 .left) (c .before .before .if2 .left) (c .if3 .left)
+element-copy-out-if4 c = place-inside (start c .pre) (past1 c .if1 .left) (past2 c .if2 .left) (c .if3 .left)
 
 returns-4 : tie.Need-returns-4
 returns-4 c =
-    let f = c .before .before .before .before .before .before in
+    let t = c .before .before in
+    let f = past1 t .before in
     λ p left position usage S ok.
     of-pair (f .before .before .guest-of .ensures) (f .before .task-of .ensures)
-    (told-9 p left position _ _ _ usage S ok _ _ (f .place-of .ensures) (c .before .before .before .before .before .if1 .left) (c .before .before .before .before .if2 .left) (c .before .before .if3 .left) (c .if4 .taken))
+    (told-9 p left position _ _ _ usage S ok _ _ (f .place-of .ensures)
+    (past1 t .if1 .left) (past2 t .if2 .left) (t .if3 .left) (c .if4 .taken))
 
 mul-if5 : tie.Need-mul-if5
 mul-if5 c = search needs
 
 element-copy-out-if5 : tie.Need-element-copy-out-if5
-element-copy-out-if5 c = place-inside (c .before .before .before .before .before .before .before .before .before .pre) (c .before .before .before .before .before .if1 .left) (c .before .before .before .before .if2 .left) (c .before .before .if3 .left)
+element-copy-out-if5 c =
+    let t = c .before .before in
+    place-inside (start t .pre) (past1 t .if1 .left) (past2 t .if2 .left) (t .if3 .left)
 
 returns-5 : tie.Need-returns-5
 returns-5 c =
-    let f = c .before .before .before .before .before .before .before .before in
+    let t = c .before .before .before .before in
+    let f = past1 t .before in
     λ p left position usage S ok.
     of-pair (f .before .before .guest-of .ensures) (f .before .task-of .ensures)
-    (told-10 p left position _ _ _ usage S ok _ _ (f .place-of .ensures) (c .before .before .before .before .before .before .before .if1 .left) (c .before .before .before .before .before .before .if2 .left) (c .before .before .before .before .if3 .left) (c .before .before .if4 .left) (c .if5 .taken))
+    (told-10 p left position _ _ _ usage S ok _ _ (f .place-of .ensures)
+    (past1 t .if1 .left) (past2 t .if2 .left) (t .if3 .left) (c .before .before .if4 .left) (c .if5 .taken))
 
 mul-rest : tie.Need-mul-rest
 mul-rest c = search needs
 
 element-copy-out-rest : tie.Need-element-copy-out-rest
-element-copy-out-rest c = place-inside (c .before .before .before .before .before .before .before .before .before .before .before .pre) (c .before .before .before .before .before .before .before .if1 .left) (c .before .before .before .before .before .before .if2 .left) (c .before .before .before .before .if3 .left)
+element-copy-out-rest c =
+    let t = c .before .before .before .before in
+    place-inside (start t .pre) (past1 t .if1 .left) (past2 t .if2 .left) (t .if3 .left)
 
 mul-rest-2 : tie.Need-mul-rest-2
 mul-rest-2 c = search needs
 
 element-write-rest : tie.Need-element-write-rest
-element-write-rest c = place-inside (c .before .before .before .before .before .before .before .before .before .before .before .before .pre) (c .before .before .before .before .before .before .before .before .if1 .left) (c .before .before .before .before .before .before .before .if2 .left) (c .before .before .before .before .before .if3 .left)
+element-write-rest c =
+    let t = c .before .before .before .before .before in
+    place-inside (start t .pre) (past1 t .if1 .left) (past2 t .if2 .left) (t .if3 .left)
 
 mul-wait : tie.Need-mul-wait
 mul-wait c = search needs
 
 element-copy-out-wait : tie.Need-element-copy-out-wait
-element-copy-out-wait c = place-inside (c .before .before .before .before .before .before .before .before .before .before .before .before .pre) (c .before .before .before .before .before .before .before .before .if1 .left) (c .before .before .before .before .before .before .before .if2 .left) (c .before .before .before .before .before .if3 .left)
+element-copy-out-wait c =
+    let t = c .before .before .before .before .before in
+    place-inside (start t .pre) (past1 t .if1 .left) (past2 t .if2 .left) (t .if3 .left)
 
 mul-wait-2 : tie.Need-mul-wait-2
 mul-wait-2 c = search needs
 
 element-write-wait : tie.Need-element-write-wait
-element-write-wait c = place-inside (c .before .before .before .before .before .before .before .before .before .before .before .before .before .pre) (c .before .before .before .before .before .before .before .before .before .if1 .left) (c .before .before .before .before .before .before .before .before .if2 .left) (c .before .before .before .before .before .before .if3 .left)
+element-write-wait c =
+    let t = c .before .before .before .before .before .before in
+    place-inside (start t .pre) (past1 t .if1 .left) (past2 t .if2 .left) (t .if3 .left)
 
 mul-age : tie.Need-mul-age
 mul-age c = search needs
 
 element-write-age : tie.Need-element-write-age
-element-write-age c = place-inside (c .before .before .before .before .before .before .before .before .before .before .before .before .before .pre) (c .before .before .before .before .before .before .before .before .before .if1 .left) (c .before .before .before .before .before .before .before .before .if2 .left) (c .before .before .before .before .before .before .if3 .left)
+element-write-age c =
+    let t = c .before .before .before .before .before .before in
+    place-inside (start t .pre) (past1 t .if1 .left) (past2 t .if2 .left) (t .if3 .left)
 
 returns-6 : tie.Need-returns-6
 returns-6 c =
-    let f = c .before .before .before .before .before .before .before .before .before .before in
+    let l = c .before .before in
+    let t = l .before .before .before .before in
+    let f = past1 t .before in
     λ p left position usage S ok.
     of-pair (f .before .before .guest-of .ensures) (f .before .task-of .ensures)
-    (told-0 p left position _ _ _ usage S ok _ _ (f .place-of .ensures) (c .before .before .before .before .before .before .before .before .before .if1 .left) (c .before .before .before .before .before .before .before .before .if2 .left) (c .before .before .before .before .before .before .if3 .left) (c .before .before .before .before .if4 .left) (element-write-age c) (c .before .before .if5 .left))
+    (told-0 p left position _ _ _ usage S ok _ _ (f .place-of .ensures)
+    (past1 t .if1 .left) (past2 t .if2 .left) (t .if3 .left) (l .before .before .if4 .left)
+    (element-write-age c) (l .if5 .left))
 
 pub take-spec : {M : Type 1} → statement M
 take-spec =

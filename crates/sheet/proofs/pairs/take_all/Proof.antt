@@ -21,7 +21,8 @@ Inv-loop pairs answers₀ ids tasks runs periods n rest₀ wait₀ age₀ i₀ a
     × ((p : Plan) (left position usage : List ℕ)
     → SheetColumns p n ids tasks runs periods
     → stateOk (stateOf p left position rest₀ wait₀ age₀ usage) ≡ true
-    → TakenTo i (stateOf p left position rest₀ wait₀ age₀ usage) (stateOf p left position rest wait age usage) pairs answers₀ answers)
+    → TakenTo i (stateOf p left position rest₀ wait₀ age₀ usage)
+    (stateOf p left position rest wait age usage) pairs answers₀ answers)
 
 abbrev μ-loop : tie.MeasureT-loop
 μ-loop pairs answers₀ ids tasks runs periods n rest₀ wait₀ age₀ i₀ answers rest wait age i = length pairs - i
@@ -59,7 +60,8 @@ loop-again c =
       (search needs, simp length-set (l .inv .0 .1)),
       λ p left position usage S ok.
           let T = l .inv .1 p left position usage S ok in
-          taken-next (omega (arith, t .loop-test .taken, t .before .before .before .before .pre .1)) T (c .take .ensures p left position usage S (ok-meanwhile ok T)),
+          taken-next (omega (arith, t .loop-test .taken, t .before .before .before .before .pre .1)) T
+          (c .take .ensures p left position usage S (ok-meanwhile ok T)),
     )
 
 same-length : tie.Need-same-length Inv-loop μ-loop
