@@ -77,5 +77,10 @@ pub under-turn : (S : System) (i x w : ℕ) → Regular S i x → Climbing S i x
     → Under (right S i) (right S i w)
 under-turn S i x w s c u z h q =
     stays S S i x z record { some = s .some; within = s .within; runs = s .runs; sol = q } s
-    record { period = refl; capacity = le-refl (S .capacity); above = λ v. le-refl (S .above v); load = λ a k. load-grows S i k }
+    record {
+      period = refl;
+      capacity = le-refl (S .capacity);
+      above = λ v. le-refl (S .above v);
+      load = λ a k. load-grows S i k;
+    }
     w (u z h q) c

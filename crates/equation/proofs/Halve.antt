@@ -42,7 +42,10 @@ module _ (fit works : ℕ → Bool) (s : Halving fit works) (lo mid hi : ℕ) (p
   right-says : (r : Found) → ((z : ℕ) → 1 ≤ z → z ≤ mid → works z ≡ false) → Says works (hi - (mid + 1)) (mid + 1) r
       → Says works (hi - lo) lo r
   right-says Nothing n o =
-      record { never = λ z p k. elim (decLe z mid) [ yes q ↦ n z (omega arith) q | no q ↦ o .never z (omega arith) (omega arith) ] }
+      record {
+        never = λ z p k. elim (decLe z mid)
+            [ yes q ↦ n z (omega arith) q | no q ↦ o .never z (omega arith) (omega arith) ];
+      }
   right-says (At y) n o = record {
     low = omega arith;
     high = omega arith;
@@ -61,19 +64,30 @@ module _ (fit works : ℕ → Bool) (s : Halving fit works) (lo mid hi : ℕ) (p
       → least works (hi - (mid + 1)) (mid + 1) ≡ least works (hi - lo) lo
   halve-right f e =
       least-is works (hi - lo) lo _
-      (right-says (least works (hi - (mid + 1)) (mid + 1)) (none-below f e) (least-says works (hi - (mid + 1)) (mid + 1)))
+      (right-says (least works (hi - (mid + 1)) (mid + 1)) (none-below f e)
+      (least-says works (hi - (mid + 1)) (mid + 1)))
 
   -- the middle works, and so does one to the left
   pub halve-lower : {y : ℕ} → least works (mid - lo) lo ≡ At y → At y ≡ least works (hi - lo) lo
   halve-lower {y} e =
       let o : First works (mid - lo) lo y = rw e at (least-says works (mid - lo) lo) in
-      least-is works (hi - lo) lo (At y) record { low = o .low; high = omega (arith, o .high); holds = o .holds; first = o .first }
+      least-is works (hi - lo) lo (At y) record {
+        low = o .low;
+        high = omega (arith, o .high);
+        holds = o .holds;
+        first = o .first;
+      }
 
   -- the middle works, and none does to the left
   pub halve-here : works mid ≡ true → least works (mid - lo) lo ≡ Nothing → At mid ≡ least works (hi - lo) lo
   halve-here w e =
       let o : Nowhere works (mid - lo) lo = rw e at (least-says works (mid - lo) lo) in
-      least-is works (hi - lo) lo (At mid) record { low = l; high = omega arith; holds = w; first = λ z p k. o .never z p (omega arith) }
+      least-is works (hi - lo) lo (At mid) record {
+        low = l;
+        high = omega arith;
+        holds = w;
+        first = λ z p k. o .never z p (omega arith);
+      }
 
 -- an empty interval has none
 pub halve-none : (works : ℕ → Bool) (lo hi : ℕ) → hi ≤ lo → Nothing ≡ least works (hi - lo) lo

@@ -31,7 +31,8 @@ rise f g z p zero x k r =
     (x, omega arith, r .under z p, (let h = r .under z p in let q = g x z h in omega (arith, r .rises)), r)
 rise f g z p (suc d) x k r =
     ⊎-elim (λ e. (x, omega arith, r .under z p, e, r))
-    (λ l. (let y = rise f g z p d (f x) (omega arith) (rise-turn f g x r) in (y .0, omega (arith, y .1), y .2, y .3, y .4)))
+    (λ l. (let y = rise f g z p d (f x) (omega arith) (rise-turn f g x r) in
+    (y .0, omega (arith, y .1), y .2, y .3, y .4)))
     (eq-or-lt-of-le (r .rises))
 
 -- the recurrence climbs to a solution at or below each z that f does not raise

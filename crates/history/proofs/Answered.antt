@@ -32,10 +32,12 @@ module _ (d : Dispatcher) where
   pub names-mine : (g : ℕ) → g < d .plan .count → holder d ≡ g → names (idOf (d .plan) g) (answer d) ≡ 1
   unfolding bit
   names-mine g h e =
-      names-by (idOf (d .plan) g) (rw e h) ∙ ap bit (eq-eqb (holderId d) (idOf (d .plan) g) (ap (λ (k : ℕ). idOf (d .plan) k) e))
+      names-by (idOf (d .plan) g) (rw e h)
+      ∙ ap bit (eq-eqb (holderId d) (idOf (d .plan) g) (ap (λ (k : ℕ). idOf (d .plan) k) e))
 
   -- Where another guest has the tick, or nobody, the answer does not name guest g.
-  pub names-else : (g : ℕ) → PlanIn (d .plan) → g < d .plan .count → (holder d ≡ g → ⊥) → names (idOf (d .plan) g) (answer d) ≡ 0
+  pub names-else :
+      (g : ℕ) → PlanIn (d .plan) → g < d .plan .count → (holder d ≡ g → ⊥) → names (idOf (d .plan) g) (answer d) ≡ 0
   unfolding bit names
   names-else g P h n =
       elim (decLt (holder d) (d .plan .count)) [

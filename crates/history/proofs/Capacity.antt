@@ -87,25 +87,33 @@ module _ (p : Plan) (g x : ℕ) (L : List Answer) (a : Answer) (d : Dispatcher) 
               count-none (names (idOf p g)) (L ++ (a ∷ [])) (suc (S .q) * perOf p g),
               ap (λ (n : ℕ). share (idOf p g) (L ++ (a ∷ [])) (suc (S .q) * perOf p g) n) v,
             );
-        past = λ k h. ⊎-elim (λ (j : k ≡ S .q). rw j whole) (λ (j : k < S .q). stood k j) (eq-or-lt-of-le {n = k} {m = S .q} (omega arith));
+        past =
+            λ k h. ⊎-elim (λ (j : k ≡ S .q). rw j whole) (λ (j : k < S .q). stood k j)
+            (eq-or-lt-of-le {n = k} {m = S .q} (omega arith));
       }
 
 module _ (p : Plan) (P : PlanIn p) (g x : ℕ) (in-plan : g < p .count) (F : GuestFits (capOf p) (perOf p) g x) where
   -- The shares stand over a tick.
-  pub shares-next : (L : List Answer) (d : Dispatcher) → Sound p d → Shares p g x L d → Shares p g x (L ++ (answer d ∷ [])) (next d)
+  pub shares-next :
+      (L : List Answer) (d : Dispatcher) → Sound p d → Shares p g x L d → Shares p g x (L ++ (answer d ∷ [])) (next d)
   shares-next L d D S =
       moved-on p g x L (answer d) d S (leftAt (next d) g) had (next d)
-      (supply-tick (capOf p) (perOf p) g x (holder d) (heldAt d) (posAt d) (leftAt (next d)) (heldAt (next d)) (posAt (next d)) F (S .supply) t)
-      (used-up (capOf p) (perOf p) g x (holder d) (heldAt d) (posAt d) (leftAt (next d)) (heldAt (next d)) (posAt (next d)) F (S .supply) t)
+      (supply-tick (capOf p) (perOf p) g x (holder d) (heldAt d) (posAt d) (leftAt (next d)) (heldAt (next d))
+      (posAt (next d)) F (S .supply) t)
+      (used-up (capOf p) (perOf p) g x (holder d) (heldAt d) (posAt d) (leftAt (next d)) (heldAt (next d))
+      (posAt (next d)) F (S .supply) t)
       (t .moved g (omega arith))
     where
       inside : g < d .plan .count
       inside = rw (D .plan) in-plan
 
-      t : GuestTick (capOf p) (perOf p) g (holder d) (heldAt d) (posAt d) (leftAt (next d)) (heldAt (next d)) (posAt (next d))
+      t :
+          GuestTick (capOf p) (perOf p) g (holder d) (heldAt d) (posAt d) (leftAt (next d)) (heldAt (next d))
+          (posAt (next d))
       t =
           subst
-          (λ (z : Plan). GuestTick (capOf z) (perOf z) g (holder d) (heldAt d) (posAt d) (leftAt (next d)) (heldAt (next d)) (posAt (next d)))
+          (λ (z : Plan). GuestTick (capOf z) (perOf z) g (holder d) (heldAt d) (posAt d) (leftAt (next d))
+          (heldAt (next d)) (posAt (next d)))
           (D .plan) (guest-tick d (D .shaped) g inside)
 
       named : {n : ℕ} → names (idOf (d .plan) g) (answer d) ≡ n → names (idOf p g) (answer d) ≡ n
@@ -132,7 +140,8 @@ module _ (p : Plan) (P : PlanIn p) (g x : ℕ) (in-plan : g < p .count) (F : Gue
   pub shares-idle : Shares p g x [] (idle p)
   shares-idle = record {
     supply =
-        supply-fresh (capOf p) (perOf p) g x (heldAt (idle p)) (posAt (idle p)) F (λ k h. idle-held p k (omega (arith, P .few)))
+        supply-fresh (capOf p) (perOf p) g x (heldAt (idle p)) (posAt (idle p)) F
+        (λ k h. idle-held p k (omega (arith, P .few)))
         (λ k h. idle-position p k (omega (arith, P .few)));
     q = 0;
     time = omega (arith, idle-position p g (omega (arith, P .few)));

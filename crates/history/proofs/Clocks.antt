@@ -30,7 +30,8 @@ pub sound-reached : (p : Plan) → planRefusal p .number ≡ 0 → (cs : List Ca
 sound-reached p e cs = sound-play cs (start p) (sound-start p e)
 
 -- A release that is taken in a state of the plan.
-module _ (p : Plan) (d : Dispatcher) (D : Sound p d) (id number : ℕ) (taken-it : release d id number .refusal .number ≡ 0) where
+module _ (p : Plan) (d : Dispatcher) (D : Sound p d) (id number : ℕ)
+    (taken-it : release d id number .refusal .number ≡ 0) where
   -- The guest of a taken release has the id.
   pub id-is : idOf p (placeOf p id) ≡ id
   id-is = found-id p id (placeOf p id) refl (guest-in p d D id number taken-it)
@@ -41,27 +42,32 @@ module _ (p : Plan) (d : Dispatcher) (D : Sound p d) (id number : ℕ) (taken-it
   new-job =
       let F = free-task p d D id number taken-it in
       ap (λ (n : ℕ). release d id n .state) (F .number)
-      ∙ release-free d id (placeOf p id) (number - 1) (subst (λ (z : ℕ). Free d id z (placeOf p id) (number - 1)) (F .number) F)
+      ∙ release-free d id (placeOf p id) (number - 1)
+      (subst (λ (z : ℕ). Free d id z (placeOf p id) (number - 1)) (F .number) F)
 
   -- No tick is done since a taken release at the moment that it is taken.
   pub since-new : Since p (placeOf p id) (number - 1) 0 (after (releasing id number) d)
   since-new =
       let F = free-task p d D id number taken-it in
       rw new-job
-      (since-taken p (placeOf p id) (number - 1) (guest-in p d D id number taken-it) (task-in p d D id number taken-it) d D
+      (since-taken p (placeOf p id) (number - 1) (guest-in p d D id number taken-it)
+      (task-in p d D id number taken-it) d D
       (F .due) (F .free))
 
   -- After a history without another one taken, the ticks since are the history's.
   pub since-then :
       (ds : List Call)
       → NoneTaken id number ds (after (releasing id number) d)
-      → Since p (placeOf p id) (number - 1) (ticksIn ds (after (releasing id number) d)) (play ds (after (releasing id number) d))
+      → Since p (placeOf p id) (number - 1) (ticksIn ds (after (releasing id number) d))
+      (play ds (after (releasing id number) d))
   since-then ds none =
       rw zero-add at
-      (since-play p (placeOf p id) (number - 1) (guest-in p d D id number taken-it) (task-in p d D id number taken-it) ds 0
+      (since-play p (placeOf p id) (number - 1) (guest-in p d D id number taken-it)
+      (task-in p d D id number taken-it) ds 0
       (after (releasing id number) d) (sound-after (releasing id number) d D)
       (subst (λ (z : ℕ). NoneTaken z (suc (number - 1)) ds (after (releasing id number) d)) (sym id-is)
-      (subst (λ (z : ℕ). NoneTaken id z ds (after (releasing id number) d)) (free-task p d D id number taken-it .number) none))
+      (subst (λ (z : ℕ). NoneTaken id z ds (after (releasing id number) d))
+      (free-task p d D id number taken-it .number) none))
       since-new)
 
 module _ (p : Plan) (order : planRefusal p .number ≡ 0) (id number : ℕ) where
@@ -76,7 +82,8 @@ module _ (p : Plan) (order : planRefusal p .number ≡ 0) (id number : ℕ) wher
     -- The age of an unfinished job is the number of ticks since, capped.
     pub age-since :
         0 < restAt (play ds (released p id number cs)) (placeOf p id) (number - 1)
-        → ageAt (play ds (released p id number cs)) (placeOf p id) (number - 1) ≡ min (ticksIn ds (released p id number cs)) 1000000
+        → ageAt (play ds (released p id number cs)) (placeOf p id) (number - 1)
+        ≡ min (ticksIn ds (released p id number cs)) 1000000
     age-since = since-then p (play cs (start p)) (sound-reached p order cs) id number taken-it ds none .age
 
   -- Before any is taken, a task has no job and no wait.
@@ -95,4 +102,7 @@ module _ (p : Plan) (order : planRefusal p .number ≡ 0) (id number : ℕ) wher
       (subst (λ (z : ℕ). NoneTaken z (suc (number - 1)) cs (start p)) (sym (found-id p id (placeOf p id) refl h))
       (subst (λ (z : ℕ). NoneTaken id z cs (start p)) q none))
       (rw (fresh-idle p order)
-      (record { free = idle-rest p (placeOf p id) (number - 1) g8 t16; due = idle-wait p (placeOf p id) (number - 1) g8 t16 }))
+      (record {
+        free = idle-rest p (placeOf p id) (number - 1) g8 t16;
+        due = idle-wait p (placeOf p id) (number - 1) g8 t16;
+      }))

@@ -34,7 +34,8 @@ abbrev pub finishedAt : Plan → (g i age : ℕ) → Answer
 finishedAt p g i age = Finished (idOf p g) (suc i) age (marginOf (deadlineOf (guestAt (p .guests) g) i) age)
 
 -- The tick that takes a task's last run left answers that it is finished.
-module _ (d : Dispatcher) (H : Shaped d) (g i : ℕ) (inside : g < d .plan .count) (its : i < guestIn d g .tasks) (some : 0 < restAt d g i)
+module _ (d : Dispatcher) (H : Shaped d) (g i : ℕ) (inside : g < d .plan .count) (its : i < guestIn d g .tasks)
+    (some : 0 < restAt d g i)
     (none : restAt (next d) g i ≡ 0) where
   -- The guest has the tick.
   the-guest : holder d ≡ g
@@ -91,9 +92,12 @@ module _ (p : Plan) (P : PlanIn p) {g x i w : ℕ} (T : TaskFits p g x i w) wher
       young : ageAt d g i < responseOf (gapIn p g i) w
       young = young-kept p P T d K some
 
-      by : (a : ℕ) × TaskTick i a (tasksAt d g) (tasksAt (next d) g) → Job p g i (responseOf (gapIn p g i) w) (L ++ (answer d ∷ [])) (next d)
+      by :
+          (a : ℕ) × TaskTick i a (tasksAt d g) (tasksAt (next d) g)
+          → Job p g i (responseOf (gapIn p g i) w) (L ++ (answer d ∷ [])) (next d)
       by (a, t) =
-          let one : ageAt (next d) g i ≡ suc (length L) = omega (arith, young, t .older some, T .in-period, bounded-of p P T .solves .short) in
+          let one : ageAt (next d) g i ≡ suc (length L) =
+          omega (arith, young, t .older some, T .in-period, bounded-of p P T .solves .short) in
           let long : length (L ++ (answer d ∷ [])) ≡ suc (length L) = simp length-append (omega arith) in
           elim (decLt 0 (restAt (next d) g i)) [
             | yes h ↦ pending h (omega arith)
@@ -109,16 +113,23 @@ module _ (p : Plan) (P : PlanIn p) {g x i w : ℕ} (T : TaskFits p g x i w) wher
   pub job-next : (L : List Answer) (d : Dispatcher) → Sound p d → JobIn L d → JobIn (L ++ (answer d ∷ [])) (next d)
   job-next L d D J = record { kept = kept-next p P T d D (J .kept); job = by (J .job) }
     where
-      by : Job p g i (responseOf (gapIn p g i) w) L d → Job p g i (responseOf (gapIn p g i) w) (L ++ (answer d ∷ [])) (next d)
+      by :
+          Job p g i (responseOf (gapIn p g i) w) L d
+          → Job p g i (responseOf (gapIn p g i) w) (L ++ (answer d ∷ [])) (next d)
       by (pending r a) = pending-next L d D (J .kept) r a
       by (ended m h l e) = ended m (simp length-append (omega arith)) l (answer-old L (answer d ∷ []) m h ∙ e)
 
   -- The job stands over a taken release, which is none of this task's while its job is unfinished.
-  pub job-release : (L : List Answer) (d : Dispatcher) (id task k t : ℕ) → Sound p d → Free d id task k t → JobIn L d → JobIn L (taken d k t)
-  job-release L d id task k t D F J = record { kept = kept-release p P T d D id task k t F (J .kept); job = by (J .job) }
+  pub job-release :
+      (L : List Answer) (d : Dispatcher) (id task k t : ℕ) → Sound p d → Free d id task k t → JobIn L d
+      → JobIn L (taken d k t)
+  job-release L d id task k t D F J =
+      record { kept = kept-release p P T d D id task k t F (J .kept); job = by (J .job) }
     where
       by : Job p g i (responseOf (gapIn p g i) w) L d → Job p g i (responseOf (gapIn p g i) w) L (taken d k t)
       by (pending r a) =
-          let E = taken-else d (D .shaped) k t (F .in-plan) (F .in-guest) g i (λ q. (let z : restAt d g i ≡ 0 = rw q (F .free) in omega arith)) in
+          let E =
+          taken-else d (D .shaped) k t (F .in-plan) (F .in-guest) g i
+          (λ q. (let z : restAt d g i ≡ 0 = rw q (F .free) in omega arith)) in
           pending (omega (arith, E .left)) (omega (arith, E .old))
       by (ended m h l e) = ended m h l e

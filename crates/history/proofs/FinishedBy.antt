@@ -42,13 +42,18 @@ module _ (p : Plan) (id number R : ℕ) (quoted : Quoted p id number R) where
   -- The invariant stands in every state that is reached.
   pub kept-reached : (cs : List Call) → KeptIn p (placeOf p id) (J .x) (number - 1) (J .w) (play cs (start p))
   kept-reached cs =
-      play-keeps p (λ L d. KeptIn p (placeOf p id) (J .x) (number - 1) (J .w) d) Any (λ L d D K. kept-next p P (J .fits) d D K)
+      play-keeps p (λ L d. KeptIn p (placeOf p id) (J .x) (number - 1) (J .w) d) Any
+      (λ L d D K. kept-next p P (J .fits) d D K)
       (λ L d id task k t D a F K. kept-release p P (J .fits) d D id task k t F K) cs [] (start p) (any cs (start p))
-      record { sound = sound-start p (J .task .there .order); holds = rw (fresh-idle p (J .task .there .order)) (kept-idle p P (J .fits)) }
+      record {
+        sound = sound-start p (J .task .there .order);
+        holds = rw (fresh-idle p (J .task .there .order)) (kept-idle p P (J .fits));
+      }
       .holds
 
   -- In every state an unfinished job of the task is younger than R.
-  pub younger : (cs : List Call) → 0 < restBy p id number (play cs (start p)) → ageBy p id number (play cs (start p)) < R
+  pub younger :
+      (cs : List Call) → 0 < restBy p id number (play cs (start p)) → ageBy p id number (play cs (start p)) < R
   younger cs h = rw (J .quotes) (young-kept p P (J .fits) (play cs (start p)) (kept-reached cs) h)
 
   -- At a taken release the job is new.
@@ -130,7 +135,8 @@ module _ (p : Plan) (id number R : ℕ) (quoted : Quoted p id number R) where
       D = sound-after (releasing id number) (play cs (start p)) (sound-reached p (J .task .there .order) cs)
 
       by :
-          Job p (placeOf p id) (number - 1) (responseOf (gapIn p (placeOf p id) (number - 1)) (J .w)) (answers ds (released p id number cs))
+          Job p (placeOf p id) (number - 1) (responseOf (gapIn p (placeOf p id) (number - 1)) (J .w))
+          (answers ds (released p id number cs))
           (play ds (released p id number cs))
           → FinishedBy R (deadlineBy p id number) id number ds (released p id number cs)
       by (pending r a) =

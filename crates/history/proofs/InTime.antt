@@ -30,7 +30,8 @@ use Rattle.dispatcher_laws.proofs.TaskTick.{task-served, task-tick}
 -- deadline less the age.
 abbrev pub Timely : Plan → (g i R : ℕ) → Answer → Type 0
 Timely p g i R a =
-    (age : ℕ) (margin : ℤ) → a ≡ Finished (idOf p g) (suc i) age margin → (age ≤ R) × (margin ≡ marginOf (deadlineOf (guestAt (p .guests) g) i) age)
+    (age : ℕ) (margin : ℤ) → a ≡ Finished (idOf p g) (suc i) age margin
+    → (age ≤ R) × (margin ≡ marginOf (deadlineOf (guestAt (p .guests) g) i) age)
 
 -- The tick's answer that names a task finished is of the guest and task that have the tick.
 record Ends (d : Dispatcher) (id task age : ℕ) (margin : ℤ) : Type 0 where
@@ -42,7 +43,8 @@ record Ends (d : Dispatcher) (id task age : ℕ) (margin : ℤ) : Type 0 where
   spare : marginOf (deadlineOf (guestIn d (holder d)) (worker d)) (ageAt (next d) (holder d) (worker d)) ≡ margin
 
 -- An answer that says finished ends a job.
-ends : (d : Dispatcher) (id task age : ℕ) (margin : ℤ) → answer d ≡ Finished id task age margin → Ends d id task age margin
+ends :
+    (d : Dispatcher) (id task age : ℕ) (margin : ℤ) → answer d ≡ Finished id task age margin → Ends d id task age margin
 ends d id task age margin e =
     elim (decLt (holder d) (d .plan .count)) [
       | no h ↦ no-way (answer-nobody d (omega arith))
@@ -83,8 +85,13 @@ module _ (p : Plan) (P : PlanIn p) {g x i w : ℕ} (T : TaskFits p g x i w) wher
   tick-timely : (d : Dispatcher) → Sound p d → KeptIn p g x i w d → Timely p g i (responseOf (gapIn p g i) w) (answer d)
   tick-timely d D K age margin e = by (ends d (idOf p g) (suc i) age margin e)
     where
-      by : Ends d (idOf p g) (suc i) age margin → (age ≤ responseOf (gapIn p g i) w) × (margin ≡ marginOf (deadlineOf (guestAt (p .guests) g) i) age)
-      by E = (omega (arith, old, E .old, aged), sym (E .spare) ∙ said (holder d) (worker d) (ageAt (next d) (holder d) (worker d)) mine its (E .old))
+      by :
+          Ends d (idOf p g) (suc i) age margin
+          → (age ≤ responseOf (gapIn p g i) w) × (margin ≡ marginOf (deadlineOf (guestAt (p .guests) g) i) age)
+      by E = (
+        omega (arith, old, E .old, aged),
+        sym (E .spare) ∙ said (holder d) (worker d) (ageAt (next d) (holder d) (worker d)) mine its (E .old),
+      )
         where
           mine : holder d ≡ g
           mine =
@@ -98,7 +105,8 @@ module _ (p : Plan) (P : PlanIn p) {g x i w : ℕ} (T : TaskFits p g x i w) wher
           some =
               omega (
                 arith,
-                rw its at (task-served d (D .shaped) g i (in-plan p P T d D) (in-guest p P T d D) mine .took (rw its (omega arith))),
+                rw its at (task-served d (D .shaped) g i (in-plan p P T d D) (in-guest p P T d D) mine .took
+                    (rw its (omega arith))),
               )
 
           aged : ageAt (next d) g i ≤ responseOf (gapIn p g i) w
@@ -115,10 +123,12 @@ module _ (p : Plan) (P : PlanIn p) {g x i w : ℕ} (T : TaskFits p g x i w) wher
               → t ≡ i
               → a ≡ age
               → marginOf (deadlineOf (guestIn d h) t) a ≡ marginOf (deadlineOf (guestAt (p .guests) g) i) age
-          said h t a q r s = rw (q, r, s) (ap (λ (z : Plan). marginOf (deadlineOf (guestAt (z .guests) g) i) age) (D .plan))
+          said h t a q r s =
+              rw (q, r, s) (ap (λ (z : Plan). marginOf (deadlineOf (guestAt (z .guests) g) i) age) (D .plan))
 
   -- What stands, stands over a tick.
-  pub timely-next : (L : List Answer) (d : Dispatcher) → Sound p d → TimelyIn L d → TimelyIn (L ++ (answer d ∷ [])) (next d)
+  pub timely-next :
+      (L : List Answer) (d : Dispatcher) → Sound p d → TimelyIn L d → TimelyIn (L ++ (answer d ∷ [])) (next d)
   timely-next L d D I = record { kept = kept-next p P T d D (I .kept); timely = each }
     where
       each : (m : ℕ) → Timely p g i (responseOf (gapIn p g i) w) (answerAt (L ++ (answer d ∷ [])) m)
@@ -130,7 +140,8 @@ module _ (p : Plan) (P : PlanIn p) {g x i w : ℕ} (T : TaskFits p g x i w) wher
                   | yes q ↦ tick-timely d D (I .kept) age margin (sym (answer-new L (answer d) m q) ∙ e)
                   | no q ↦
                       never age margin
-                      (sym (List·getD-eq-default (L ++ (answer d ∷ [])) Silent {n = m} (simp length-append (omega arith))) ∙ e)
+                      (sym (List·getD-eq-default (L ++ (answer d ∷ [])) Silent {n = m}
+                      (simp length-append (omega arith))) ∙ e)
                 ]
           ]
         where
@@ -139,5 +150,8 @@ module _ (p : Plan) (P : PlanIn p) {g x i w : ℕ} (T : TaskFits p g x i w) wher
           never age margin q = (let z : _≡_ {A = ℕ} 0 1 = cc in absurd (omega arith))
 
   -- What stands, stands over a taken release.
-  pub timely-release : (L : List Answer) (d : Dispatcher) (id task k t : ℕ) → Sound p d → Free d id task k t → TimelyIn L d → TimelyIn L (taken d k t)
-  timely-release L d id task k t D F I = record { kept = kept-release p P T d D id task k t F (I .kept); timely = I .timely }
+  pub timely-release :
+      (L : List Answer) (d : Dispatcher) (id task k t : ℕ) → Sound p d → Free d id task k t → TimelyIn L d
+      → TimelyIn L (taken d k t)
+  timely-release L d id task k t D F I =
+      record { kept = kept-release p P T d D id task k t F (I .kept); timely = I .timely }

@@ -42,7 +42,8 @@ module _ (p : Plan) (id number R : ℕ) (quoted : Quoted p id number R) (cs : Li
       (after c (play cs (start p)))
   timely =
       after-keeps p (TimelyIn p P (J .fits)) Any (timely-next p P (J .fits))
-      (λ L e id' task k t D a F I. timely-release p P (J .fits) L e id' task k t D F I) c [] (play cs (start p)) (any-call c (play cs (start p)))
+      (λ L e id' task k t D a F I. timely-release p P (J .fits) L e id' task k t D F I) c [] (play cs (start p))
+      (any-call c (play cs (start p)))
       record {
         sound = sound-reached p (J .task .there .order) cs;
         holds = record { kept = kept-reached p id number R quoted cs; timely = λ m age margin q. none age margin q };
@@ -61,7 +62,8 @@ module _ (p : Plan) (id number R : ℕ) (quoted : Quoted p id number R) (cs : Li
       → (age ≤ R) × (margin ≡ marginOf (deadlineBy p id number) age)
   unfolding finishes
   never-late age margin e =
-      let (m, h, q) = told-last c (play cs (start p)) (sound-reached p (J .task .there .order) cs .ok) (ap finishes e) in
+      let (m, h, q) =
+      told-last c (play cs (start p)) (sound-reached p (J .task .there .order) cs .ok) (ap finishes e) in
       let r = timely .timely m age margin (q ∙ e ∙ named) in (
         omega (arith, r .0, J .quotes),
         r .1,

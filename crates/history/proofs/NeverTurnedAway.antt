@@ -68,10 +68,12 @@ module _ (p : Plan) (id number R : ℕ) (quoted : Quoted p id number R) where
 
   -- Refusal 10 is never given for a quoted task.
   pub never-10 : (cs : List Call) → release (play cs (start p)) id number .refusal .number ≡ 10 → ⊥
-  never-10 cs = not-10 (play cs (start p)) (sound-reached p (J .task .there .order) cs) (kept-reached p id number R quoted cs)
+  never-10 cs =
+      not-10 (play cs (start p)) (sound-reached p (J .task .there .order) cs) (kept-reached p id number R quoted cs)
 
   -- A release of the task is taken if none was taken before.
-  pub first-taken : (cs : List Call) → NoneTaken id number cs (start p) → release (play cs (start p)) id number .refusal .number ≡ 0
+  pub first-taken :
+      (cs : List Call) → NoneTaken id number cs (start p) → release (play cs (start p)) id number .refusal .number ≡ 0
   first-taken cs none =
       due-taken (play cs (start p)) (sound-reached p (J .task .there .order) cs) (kept-reached p id number R quoted cs)
       (before-any p (J .task .there .order) id number (J .fits .in-plan) (J .fits .in-guest)
@@ -88,5 +90,6 @@ module _ (p : Plan) (id number R : ℕ) (quoted : Quoted p id number R) where
   next-taken cs t ds none long =
       let D = sound-reached p (J .task .there .order) cs in
       let I = since-then p (play cs (start p)) D id number t ds none in
-      due-taken (play ds (released p id number cs)) (sound-play ds (released p id number cs) (sound-after (releasing id number) (play cs (start p)) D))
+      due-taken (play ds (released p id number cs))
+      (sound-play ds (released p id number cs) (sound-after (releasing id number) (play cs (start p)) D))
       (kept-released p id number R quoted cs t ds) (omega (arith, I .waits))

@@ -23,16 +23,21 @@ pub as-release :
     (d : Dispatcher) (cs : List Call) (pairs : List ℕ) (room i : ℕ) {id number : ℕ}
     → PairOf (play cs d) pairs room i id number
     → answerTo (play cs d) pairs i ≡ release (play (upToPair cs pairs i) d) id number .refusal .number
-as-release d cs pairs room i Q = rw (← Q .names-guest, ← Q .names-task) (pair-is-release d cs pairs i (omega (arith, Q .there)))
+as-release d cs pairs room i Q =
+    rw (← Q .names-guest, ← Q .names-task) (pair-is-release d cs pairs i (omega (arith, Q .there)))
 
-module _ (p : Plan) (cs : List Call) (pairs : List ℕ) (room i : ℕ) {id number : ℕ} (Q : PairOf (play cs (start p)) pairs room i id number) where
+module _ (p : Plan) (cs : List Call) (pairs : List ℕ) (room i : ℕ) {id number : ℕ}
+    (Q : PairOf (play cs (start p)) pairs room i id number) where
   -- After the pair come the releases of those behind it, and then the sheet is done.
-  pub rest-done : after (sheeting pairs room) (play cs (start p)) ≡ play (releases (drop (suc i) pairs)) (released p id number (upToPair cs pairs i))
+  pub rest-done :
+      after (sheeting pairs room) (play cs (start p))
+      ≡ play (releases (drop (suc i) pairs)) (released p id number (upToPair cs pairs i))
   unfolding play
   rest-done =
       sheet-is-releases (play cs (start p)) pairs room (Q .whole)
       ∙ ap (λ (l : List Call). play l (play cs (start p))) (around pairs i (Q .there))
-      ∙ play-append (releases (take i pairs)) (releasing (pairGuest (nth pairs i)) (pairTask (nth pairs i)) ∷ releases (drop (suc i) pairs)) (play cs (start p))
+      ∙ play-append (releases (take i pairs))
+      (releasing (pairGuest (nth pairs i)) (pairTask (nth pairs i)) ∷ releases (drop (suc i) pairs)) (play cs (start p))
       ∙ rw (Q .names-guest, Q .names-task, play-append cs (releases (take i pairs)) (start p)) refl
 
 module _ (p : Plan) (id number R : ℕ) (quoted : Quoted p id number R) (cs : List Call) (pairs : List ℕ) (room i : ℕ)
@@ -50,7 +55,8 @@ module _ (p : Plan) (id number R : ℕ) (quoted : Quoted p id number R) (cs : Li
       let long : R ≤ ticksIn ds (play later e) = rw done at h in
       rw done
       (finished-later (drop (suc i) pairs) ds e
-      (finished-by-R p id number R quoted (upToPair cs pairs i) (sym (as-release (start p) cs pairs room i Q) ∙ taken) (later ++ ds)
+      (finished-by-R p id number R quoted (upToPair cs pairs i) (sym (as-release (start p) cs pairs room i Q) ∙ taken)
+      (later ++ ds)
       (omega (arith, ticks-append later ds e, releases-none (drop (suc i) pairs) e))))
 
   -- A pair is taken if no release of the task was taken before, in the history or in the sheet.
@@ -60,11 +66,13 @@ module _ (p : Plan) (id number R : ℕ) (quoted : Quoted p id number R) (cs : Li
       → answerTo (play cs (start p)) pairs i ≡ 0
   pair-first-taken none not =
       as-release (start p) cs pairs room i Q
-      ∙ turned.first-taken p id number R quoted (upToPair cs pairs i) (none-up-to cs pairs i (start p) (omega (arith, Q .there)) none not)
+      ∙ turned.first-taken p id number R quoted (upToPair cs pairs i)
+      (none-up-to cs pairs i (start p) (omega (arith, Q .there)) none not)
 
   -- A pair is never refused by 10.
   pub pair-never-10 : answerTo (play cs (start p)) pairs i ≡ 10 → ⊥
-  pair-never-10 e = turned.never-10 p id number R quoted (upToPair cs pairs i) (sym (as-release (start p) cs pairs room i Q) ∙ e)
+  pair-never-10 e =
+      turned.never-10 p id number R quoted (upToPair cs pairs i) (sym (as-release (start p) cs pairs room i Q) ∙ e)
 
 module _ (p : Plan) (id number R : ℕ) (quoted : Quoted p id number R) where
   -- A pair is taken if at least the task's period of ticks was done since the last release of it that was taken, and
@@ -82,5 +90,6 @@ module _ (p : Plan) (id number R : ℕ) (quoted : Quoted p id number R) where
   pair-next-taken cs taken ds none long pairs room i Q not =
       let e = released p id number cs in
       as-release e ds pairs room i Q
-      ∙ turned.next-taken p id number R quoted cs taken (upToPair ds pairs i) (none-up-to ds pairs i e (omega (arith, Q .there)) none not)
+      ∙ turned.next-taken p id number R quoted cs taken (upToPair ds pairs i)
+      (none-up-to ds pairs i e (omega (arith, Q .there)) none not)
       (omega (arith, ticks-append ds (releases (take i pairs)) e, releases-none (take i pairs) (play ds e)))

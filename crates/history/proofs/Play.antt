@@ -63,7 +63,8 @@ module _ (p : Plan) (I : List Answer → Dispatcher → Type 0) (Allowed : (id t
   ticks-keep zero L d S = rw (singles-none d, append-nil L) S
   ticks-keep (suc m) L d S =
       rw (singles-next m d (S .sound .ok), ← append-assoc L (answer d ∷ []) (singles m (next d)))
-      (ticks-keep m (L ++ (answer d ∷ [])) (next d) (record { sound = sound-next d (S .sound); holds = on-tick L d (S .sound) (S .holds) }))
+      (ticks-keep m (L ++ (answer d ∷ [])) (next d)
+      (record { sound = sound-next d (S .sound); holds = on-tick L d (S .sound) (S .holds) }))
 
   -- It stands over a release.
   took-keeps :
@@ -74,7 +75,10 @@ module _ (p : Plan) (I : List Answer → Dispatcher → Type 0) (Allowed : (id t
       → Stands L (release d id task .state)
   took-keeps id task L d a S (kept n e) = rw e S
   took-keeps id task L d a S (took k t F e) =
-      rw e record { sound = sound-taken d id task k t (S .sound) F; holds = on-taken L d id task k t (S .sound) a F (S .holds) }
+      rw e record {
+        sound = sound-taken d id task k t (S .sound) F;
+        holds = on-taken L d id task k t (S .sound) a F (S .holds);
+      }
 
   -- It stands over the first n pairs of a sheet.
   pairs-keep :
@@ -87,7 +91,8 @@ module _ (p : Plan) (I : List Answer → Dispatcher → Type 0) (Allowed : (id t
   unfolding stateAfter
   pairs-keep pairs L d a S zero h = S
   pairs-keep pairs L d a S (suc n) h =
-      took-keeps (pairGuest (nth pairs n)) (pairTask (nth pairs n)) L (stateAfter d pairs n) (a n (omega arith)) (pairs-keep pairs L d a S n (omega arith))
+      took-keeps (pairGuest (nth pairs n)) (pairTask (nth pairs n)) L (stateAfter d pairs n) (a n (omega arith))
+      (pairs-keep pairs L d a S n (omega arith))
       (release-took (stateAfter d pairs n) (pairGuest (nth pairs n)) (pairTask (nth pairs n)))
 
   -- It stands over a sheet.
@@ -148,7 +153,8 @@ any (c ∷ cs) d = (any-call c d, any cs (after c d))
 -- A state of the plan stays one over any history.
 pub sound-play : {p : Plan} (cs : List Call) (d : Dispatcher) → Sound p d → Sound p (play cs d)
 sound-play {p} cs d D =
-    play-keeps p (λ L e. Unit {0}) Any (λ L e S u. tt) (λ L e id task k t S a F u. tt) cs [] d (any cs d) record { sound = D; holds = tt }
+    play-keeps p (λ L e. Unit {0}) Any (λ L e S u. tt) (λ L e id task k t S a F u. tt) cs [] d (any cs d)
+    record { sound = D; holds = tt }
     .sound
 
 -- A state of the plan stays one over any call.

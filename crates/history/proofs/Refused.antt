@@ -23,7 +23,8 @@ use Rattle.sheet.proofs.Entry.{sheet-14, sheet-same}
 -- Every call of a state outside its ranges is refused as 14.
 pub refused-14 : (c : Call) (d : Dispatcher) → stateOk d ≡ false → callNumber c d ≡ 14
 unfolding callNumber release releasedBy tick tickedBy run ranBy
-refused-14 (releasing id task) d e = ap (λ (n : ℕ). releasedBy n d (placeOf (d .plan) id) (task - 1) .refusal .number) (release-14 d id task e)
+refused-14 (releasing id task) d e =
+    ap (λ (n : ℕ). releasedBy n d (placeOf (d .plan) id) (task - 1) .refusal .number) (release-14 d id task e)
 refused-14 ticking d e = ap (λ (n : ℕ). tickedBy n d .refusal .number) (stop 14 [] e)
 refused-14 (running n) d e = ap (λ (x : ℕ). ranBy x d n .refusal .number) (stop 14 _ e)
 refused-14 (sheeting pairs room) d e = sheet-14 d pairs room e
@@ -31,7 +32,8 @@ refused-14 (sheeting pairs room) d e = sheet-14 d pairs room e
 -- No call changes a state outside its ranges.
 pub after-14 : (c : Call) (d : Dispatcher) → stateOk d ≡ false → after c d ≡ d
 unfolding after release releasedBy tick tickedBy run ranBy
-after-14 (releasing id task) d e = ap (λ (n : ℕ). releasedBy n d (placeOf (d .plan) id) (task - 1) .state) (release-14 d id task e)
+after-14 (releasing id task) d e =
+    ap (λ (n : ℕ). releasedBy n d (placeOf (d .plan) id) (task - 1) .state) (release-14 d id task e)
 after-14 ticking d e = ap (λ (n : ℕ). tickedBy n d .state) (stop 14 [] e)
 after-14 (running n) d e = ap (λ (x : ℕ). ranBy x d n .state) (stop 14 _ e)
 after-14 (sheeting pairs room) d e = sheet-same d pairs room (omega (arith, sheet-14 d pairs room e))
@@ -43,7 +45,8 @@ refused-played [] d e = refl
 refused-played (c ∷ cs) d e = ap (play cs) (after-14 c d e) ∙ refused-played cs d e
 
 -- After a start that was refused, every call of any history is refused as 14.
-pub refused-start : (p : Plan) → 0 < planRefusal p .number → (cs : List Call) (c : Call) → callNumber c (play cs (start p)) ≡ 14
+pub refused-start :
+    (p : Plan) → 0 < planRefusal p .number → (cs : List Call) (c : Call) → callNumber c (play cs (start p)) ≡ 14
 unfolding fresh
 refused-start p h cs c =
     let e : stateOk (start p) ≡ false = ap stateOk (start-by (planRefusal p .number) p h) ∙ blank-refused in

@@ -29,7 +29,8 @@ module _ (f : Answer → ℕ) where
   pub count-old : (l k : List Answer) (m n : ℕ) → m + n ≤ length l → countOf f (l ++ k) m n ≡ countOf f l m n
   unfolding countOf
   count-old l k m n h =
-      sum-same (λ j. f (answerAt (l ++ k) (m + j))) (λ j. f (answerAt l (m + j))) n (λ j b. ap f (answer-old l k (m + j) (omega arith)))
+      sum-same (λ j. f (answerAt (l ++ k) (m + j))) (λ j. f (answerAt l (m + j))) n
+      (λ j b. ap f (answer-old l k (m + j) (omega arith)))
 
   -- The last tick can be peeled off a count.
   count-last : (l : List Answer) (m n : ℕ) → countOf f l m (suc n) ≡ countOf f l m n + f (answerAt l (m + n))
@@ -37,7 +38,9 @@ module _ (f : Answer → ℕ) where
   count-last l m n = sum-last (λ j. f (answerAt l (m + j))) n
 
   -- One tick more adds what its answer says.
-  pub count-next : (l : List Answer) (a : Answer) (m n : ℕ) → length l ≡ m + n → countOf f (l ++ (a ∷ [])) m (suc n) ≡ countOf f l m n + f a
+  pub count-next :
+      (l : List Answer) (a : Answer) (m n : ℕ) → length l ≡ m + n
+      → countOf f (l ++ (a ∷ [])) m (suc n) ≡ countOf f l m n + f a
   count-next l a m n e =
       omega (
         arith,

@@ -38,7 +38,8 @@ after-first :
     → stateAfter d (pair ∷ pairs) (suc n) ≡ stateAfter (pairReleased d pair .state) pairs n
 unfolding stateAfter
 after-first pair pairs d zero = refl
-after-first pair pairs d (suc n) = ap (λ (e : Dispatcher). pairReleased e (nth pairs n) .state) (after-first pair pairs d n)
+after-first pair pairs d (suc n) =
+    ap (λ (e : Dispatcher). pairReleased e (nth pairs n) .state) (after-first pair pairs d n)
 
 -- The state after the first n pairs is that after their releases.
 pub after-pairs :
@@ -48,7 +49,8 @@ pub after-pairs :
 unfolding stateAfter releases play after
 after-pairs pairs d zero h = refl
 after-pairs [] d (suc n) h = absurd (omega arith)
-after-pairs (pair ∷ pairs) d (suc n) h = after-first pair pairs d n ∙ after-pairs pairs (pairReleased d pair .state) n (omega arith)
+after-pairs (pair ∷ pairs) d (suc n) h =
+    after-first pair pairs d n ∙ after-pairs pairs (pairReleased d pair .state) n (omega arith)
 
 -- A sheet that is not refused whole is its releases one by one.
 pub sheet-is-releases :
@@ -61,13 +63,15 @@ sheet-is-releases d pairs room z = by (sheet-sheeted d pairs room)
     by : Sheeted d pairs (sheet d pairs room) → sheet d pairs room .state ≡ play (releases pairs) d
     by (whole n e) = absurd (n z)
     by (each n e) =
-        e ∙ after-pairs pairs d (length pairs) (omega arith) ∙ ap (λ (l : List ℕ). play (releases l) d) (take-length pairs)
+        e ∙ after-pairs pairs d (length pairs) (omega arith)
+        ∙ ap (λ (l : List ℕ). play (releases l) d) (take-length pairs)
 
 -- The answer to pair i is the number of a single release after the pairs before it.
 pub pair-is-release :
     (d : Dispatcher) (cs : List Call) (pairs : List ℕ) (i : ℕ)
     → i ≤ length pairs
-    → answerTo (play cs d) pairs i ≡ release (play (upToPair cs pairs i) d) (pairGuest (nth pairs i)) (pairTask (nth pairs i)) .refusal .number
+    → answerTo (play cs d) pairs i
+    ≡ release (play (upToPair cs pairs i) d) (pairGuest (nth pairs i)) (pairTask (nth pairs i)) .refusal .number
 unfolding answerTo
 pair-is-release d cs pairs i h =
     ap (λ (e : Dispatcher). pairReleased e (nth pairs i) .refusal .number)
@@ -77,11 +81,14 @@ pair-is-release d cs pairs i h =
 pub around :
     (pairs : List ℕ) (i : ℕ)
     → i < length pairs
-    → releases pairs ≡ releases (take i pairs) ++ (releasing (pairGuest (nth pairs i)) (pairTask (nth pairs i)) ∷ releases (drop (suc i) pairs))
+    → releases pairs
+    ≡ releases (take i pairs)
+    ++ (releasing (pairGuest (nth pairs i)) (pairTask (nth pairs i)) ∷ releases (drop (suc i) pairs))
 unfolding releases
 around [] i h = absurd (omega arith)
 around (pair ∷ pairs) zero h = refl
-around (pair ∷ pairs) (suc i) h = ap (λ (l : List Call). releasing (pairGuest pair) (pairTask pair) ∷ l) (around pairs i (omega arith))
+around (pair ∷ pairs) (suc i) h =
+    ap (λ (l : List Call). releasing (pairGuest pair) (pairTask pair) ∷ l) (around pairs i (omega arith))
 
 -- Ticks of histories one after the other.
 pub ticks-append : (cs ds : List Call) (d : Dispatcher) → ticksIn (cs ++ ds) d ≡ ticksIn cs d + ticksIn ds (play cs d)
@@ -93,7 +100,8 @@ ticks-append (c ∷ cs) ds d = omega (arith, ticks-append cs ds (after c d))
 pub releases-none : (pairs : List ℕ) (d : Dispatcher) → ticksIn (releases pairs) d ≡ 0
 unfolding releases ticksIn ticksOf
 releases-none [] d = refl
-releases-none (pair ∷ pairs) d = omega (arith, releases-none pairs (after (releasing (pairGuest pair) (pairTask pair)) d))
+releases-none (pair ∷ pairs) d =
+    omega (arith, releases-none pairs (after (releasing (pairGuest pair) (pairTask pair)) d))
 
 -- What holds of each of the first n pairs holds throughout their releases.
 pub throughout-pairs :
@@ -128,7 +136,8 @@ silent id task d = refl
 
 -- A finish that is told in a release and then ds is told in ds.
 told-next :
-    (id task' : ℕ) (ds : List Call) (d : Dispatcher) (n guest task age : ℕ) (margin : ℤ) (before : List Call) (call : Call) (later : List Call)
+    (id task' : ℕ) (ds : List Call) (d : Dispatcher) (n guest task age : ℕ) (margin : ℤ) (before : List Call)
+    (call : Call) (later : List Call)
     → releasing id task' ∷ ds ≡ before ++ (call ∷ later)
     → ticksIn before d + ticksOf call (play before d) ≡ n
     → answerOf call (play before d) ≡ Finished guest task age margin
@@ -141,7 +150,8 @@ told-next id task' ds d n guest task age margin [] call later e done says =
 told-next id task' ds d n guest task age margin (c ∷ before) call later e done says =
     let q : c ≡ releasing id task' = cc in
     let r : ds ≡ before ++ (call ∷ later) = cc in
-    let same : ticksIn (releasing id task' ∷ before) d + ticksOf call (play (releasing id task' ∷ before) d) ≡ n = rw q at done in
+    let same : ticksIn (releasing id task' ∷ before) d + ticksOf call (play (releasing id task' ∷ before) d) ≡ n =
+    rw q at done in
     record {
       before = before;
       call = call;
@@ -160,7 +170,8 @@ unfolding releases play
 told-later [] ds d n guest task age margin T = T
 told-later (pair ∷ pairs) ds d n guest task age margin T =
     told-later pairs ds (after (releasing (pairGuest pair) (pairTask pair)) d) n guest task age margin
-    (told-next (pairGuest pair) (pairTask pair) (releases pairs ++ ds) d n guest task age margin (T .before) (T .call) (T .later) (T .split) (T .done) (T .says))
+    (told-next (pairGuest pair) (pairTask pair) (releases pairs ++ ds) d n guest task age margin (T .before) (T .call)
+    (T .later) (T .split) (T .done) (T .says))
 
 -- The same of a task finished by R.
 pub finished-later :

@@ -75,7 +75,10 @@ module _ (p : Plan) (g i : ℕ) (in-plan : g < p .count) (in-guest : i < guestAt
       → Since p g i m (taken d k t)
   since-else m d k t D kh th n S =
       let E = taken-else d (D .shaped) k t kh th g i n in
-      record { waits = omega (arith, E .due, S .waits); age = λ r. omega (arith, E .old, S .age (omega (arith, E .left))) }
+      record {
+        waits = omega (arith, E .due, S .waits);
+        age = λ r. omega (arith, E .old, S .age (omega (arith, E .left)));
+      }
 
   -- No tick is done since, at a taken release of this task.
   pub since-taken : (d : Dispatcher) → Sound p d → waitAt d g i ≡ 0 → restAt d g i ≡ 0 → Since p g i 0 (taken d g i)
@@ -99,8 +102,10 @@ module _ (p : Plan) (g i : ℕ) (in-plan : g < p .count) (in-guest : i < guestAt
       subst (λ (z : ℕ). Since p g i (m + z) (play ds d)) (answers-length ds d D)
       (play-keeps p (λ L e. Since p g i (m + length L) e) (λ a b e. Takes a b e (idOf p g) (suc i) → ⊥)
       (λ L e E I. subst (λ (z : ℕ). Since p g i z (next e)) (one-more m L (answer e)) (since-next (m + length L) e E I))
-      (λ L e id task k t E n F I. since-else (m + length L) e k t E (F .in-plan) (F .in-guest) (elsewhere e id task k t E n F) I)
-      ds [] d none (record { sound = D; holds = subst (λ (z : ℕ). Since p g i z d) (let q : m ≡ m + 0 = omega arith in q) S })
+      (λ L e id task k t E n F I. since-else (m + length L) e k t E (F .in-plan) (F .in-guest)
+      (elsewhere e id task k t E n F) I)
+      ds [] d none
+      (record { sound = D; holds = subst (λ (z : ℕ). Since p g i z d) (let q : m ≡ m + 0 = omega arith in q) S })
       .holds)
 
   -- A task without job and wait stays so over a tick.
@@ -108,7 +113,11 @@ module _ (p : Plan) (g i : ℕ) (in-plan : g < p .count) (in-guest : i < guestAt
   never-next d D N = by (task-tick d (D .shaped) g i (rw (D .plan) in-plan) (rw (D .plan) in-guest))
     where
       by : (a : ℕ) × TaskTick i a (tasksAt d g) (tasksAt (next d) g) → Never g i (next d)
-      by (a, t) = record { free = omega (arith, N .free, t .less i (omega arith)); due = omega (arith, N .due, t .waited i (omega arith)) }
+      by (a, t) =
+          record {
+            free = omega (arith, N .free, t .less i (omega arith));
+            due = omega (arith, N .due, t .waited i (omega arith));
+          }
 
   -- A task without job and wait stays so over a taken release of another.
   never-else :
@@ -124,7 +133,9 @@ module _ (p : Plan) (g i : ℕ) (in-plan : g < p .count) (in-guest : i < guestAt
       record { free = omega (arith, E .left, N .free); due = omega (arith, E .due, N .due) }
 
   -- Over a history in which no release of the task is taken, it has no job and no wait.
-  pub never-play : (ds : List Call) (d : Dispatcher) → Sound p d → NoneTaken (idOf p g) (suc i) ds d → Never g i d → Never g i (play ds d)
+  pub never-play :
+      (ds : List Call) (d : Dispatcher) → Sound p d → NoneTaken (idOf p g) (suc i) ds d → Never g i d
+      → Never g i (play ds d)
   never-play ds d D none N =
       play-keeps p (λ L e. Never g i e) (λ a b e. Takes a b e (idOf p g) (suc i) → ⊥) (λ L e E I. never-next e E I)
       (λ L e id task k t E n F I. never-else e k t E (F .in-plan) (F .in-guest) (elsewhere e id task k t E n F) I)

@@ -57,7 +57,8 @@ pub start-ok : (p : Plan) → planRefusal p .number ≡ 0 → stateOk (start p) 
 start-ok p e = rw (fresh-idle p e) (sound-idle p e .ok)
 
 -- From a fresh start of records in order no call of any history is refused as 14.
-pub never-14 : (p : Plan) → planRefusal p .number ≡ 0 → (cs : List Call) (c : Call) → callNumber c (play cs (start p)) ≡ 14 → ⊥
+pub never-14 :
+    (p : Plan) → planRefusal p .number ≡ 0 → (cs : List Call) (c : Call) → callNumber c (play cs (start p)) ≡ 14 → ⊥
 never-14 p e cs c = not-14 c (play cs (start p)) (stays-played cs (start p) (start-ok p e))
 
 -- As many calls of a tick are as many ticks of the rule.

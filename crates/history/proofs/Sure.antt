@@ -47,7 +47,8 @@ parts-one T q k u r hu hr e =
           ]
     ]
 
-module _ (p : Plan) (order : planRefusal p .number ≡ 0) (g x : ℕ) (in-plan : g < p .count) (G : GuestSolves p g x) (cs : List Call) where
+module _ (p : Plan) (order : planRefusal p .number ≡ 0) (g x : ℕ) (in-plan : g < p .count) (G : GuestSolves p g x)
+    (cs : List Call) where
   -- The shares stand at the end of a history.
   shares : Shares p g x (answers cs (start p)) (play cs (start p))
   shares =
@@ -59,14 +60,17 @@ module _ (p : Plan) (order : planRefusal p .number ≡ 0) (g x : ℕ) (in-plan :
       .holds
 
   -- A period of the guest that has ended has had the whole capacity.
-  shared : (k : ℕ) → suc k * perOf p g ≤ ticksIn cs (start p) → share (idOf p g) (answers cs (start p)) (k * perOf p g) (perOf p g) ≡ capOf p g
+  shared :
+      (k : ℕ) → suc k * perOf p g ≤ ticksIn cs (start p)
+      → share (idOf p g) (answers cs (start p)) (k * perOf p g) (perOf p g) ≡ capOf p g
   shared k h =
       elim (decLt k (shares .q)) [
         | yes l ↦ shares .past k l
         | no l ↦
             (let D = sound-reached p order cs in
             let inside : posAt (play cs (start p)) g < perOf p g =
-            subst (λ (z : Plan). posAt (play cs (start p)) g < perOf z g) (D .plan) (D .shaped .places g (rw (D .plan) in-plan)) in
+            subst (λ (z : Plan). posAt (play cs (start p)) g < perOf z g) (D .plan)
+            (D .shaped .places g (rw (D .plan) in-plan)) in
             absurd (omega (
               arith,
               shares .time,
@@ -85,7 +89,8 @@ pub sure-of-capacity :
     → share id (answers cs (start p)) (k * guestBy p id .period) (guestBy p id .period) ≡ guestBy p id .capacity
 sure-of-capacity p id x e cs k h =
     let (t, r) = fitted-means p id x e in
-    subst (λ (z : ℕ). share z (answers cs (start p)) (k * guestBy p id .period) (guestBy p id .period) ≡ guestBy p id .capacity)
+    subst (λ (z : ℕ). share z (answers cs (start p)) (k * guestBy p id .period) (guestBy p id .period)
+    ≡ guestBy p id .capacity)
     (t .named) (shared p (t .order) (placeOf p id) x (t .place) (r .fits) cs k h)
 
 -- After the answers L: q periods of guest g have ended, and its position counts the ticks of the one under way.
@@ -104,10 +109,12 @@ module _ (p : Plan) (g : ℕ) (in-plan : g < p .count) where
   timed-by L a d d' S (over u v z) = record { q = suc (S .q); time = simp length-append (omega (arith, S .time)) }
 
   -- Time is kept over a tick.
-  timed-next : (L : List Answer) (d : Dispatcher) → Sound p d → Timed p g L d → Timed p g (L ++ (answer d ∷ [])) (next d)
+  timed-next :
+      (L : List Answer) (d : Dispatcher) → Sound p d → Timed p g L d → Timed p g (L ++ (answer d ∷ [])) (next d)
   timed-next L d D S =
       timed-by L (answer d) d (next d) S
-      (subst (λ (z : Plan). Moved (capOf z g) (perOf z g) (posAt d g) (leftAt (next d) g) (posAt (next d) g) (heldAt (next d) g)) (D .plan)
+      (subst (λ (z : Plan). Moved (capOf z g) (perOf z g) (posAt d g) (leftAt (next d) g) (posAt (next d) g)
+      (heldAt (next d) g)) (D .plan)
       (guest-moved d (D .shaped) g (rw (D .plan) in-plan) g (omega arith)))
 
   -- Time is kept over a taken release.
@@ -125,10 +132,18 @@ module _ (p : Plan) (g : ℕ) (in-plan : g < p .count) where
   position-is order cs k r h e =
       let P = plan-in p order in
       let D = sound-reached p order cs in
-      let S = play-keeps p (Timed p g) Any timed-next (λ L d id task k t D a f S. timed-taken L d k t S) cs [] (start p) (any cs (start p))
-      record { sound = sound-start p order; holds = rw (fresh-idle p order) record { q = 0; time = omega (arith, idle-position p g (omega (arith, P .few))) } }
+      let S = play-keeps p (Timed p g) Any timed-next (λ L d id task k t D a f S. timed-taken L d k t S) cs [] (start p)
+      (any cs (start p))
+      record {
+        sound = sound-start p order;
+        holds = rw (fresh-idle p order) record {
+          q = 0;
+          time = omega (arith, idle-position p g (omega (arith, P .few)));
+        };
+      }
       .holds in
       parts-one (perOf p g) (S .q) k (posAt (play cs (start p)) g) r
-      (subst (λ (z : Plan). posAt (play cs (start p)) g < perOf z g) (D .plan) (D .shaped .places g (rw (D .plan) in-plan))) h
+      (subst (λ (z : Plan). posAt (play cs (start p)) g < perOf z g) (D .plan)
+      (D .shaped .places g (rw (D .plan) in-plan))) h
       (sym (S .time) ∙ answers-length cs (start p) (sound-start p order) ∙ e)
       .1

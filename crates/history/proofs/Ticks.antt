@@ -152,7 +152,9 @@ unfolding runFrom
 from-by zero k a d ok = from-none k a d
 from-by (suc n) k a d ok = by (finishes (answer d)) refl (from-by n (k + 1) (answer d) (next d) (ok-next d ok))
   where
-    by : (b : Bool) → finishes (answer d) ≡ b → From n (k + 1) (answer d) (next d) (runFrom n (k + 1) (answer d) (next d))
+    by :
+        (b : Bool) → finishes (answer d) ≡ b
+        → From n (k + 1) (answer d) (next d) (runFrom n (k + 1) (answer d) (next d))
         → From (suc n) k a d (pick b (ranTo (k + 1) (answer d) (next d)) (runFrom n (k + 1) (answer d) (next d)))
     by true e F = from-stop n k a d ok e
     by false e F = from-on n k a d (runFrom n (k + 1) (answer d) (next d)) ok e F

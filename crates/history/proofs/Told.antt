@@ -60,7 +60,8 @@ finish-told [] d m D h e = absurd (omega arith)
 finish-told (c ∷ cs) d m D h e =
     elim (decLt m (ticksOf c d)) [
       | yes l ↦
-          (let old = answer-old (singles (ticksOf c d) d) (answers cs (after c d)) m (omega (arith, answers-of c d D)) in
+          (let old =
+          answer-old (singles (ticksOf c d) d) (answers cs (after c d)) m (omega (arith, answers-of c d D)) in
           let r = finish-last c d m (D .ok) l (ap finishes (sym old) ∙ e) in
           record { before = []; call = c; later = cs; split = refl; done = omega (arith, r .0); says = r .1 ∙ sym old })
       | no l ↦
@@ -69,7 +70,8 @@ finish-told (c ∷ cs) d m D h e =
           ap (λ (k : ℕ). answerAt (singles (ticksOf c d) d ++ answers cs (after c d)) k)
           (let q : m ≡ length (singles (ticksOf c d) d) + (m - ticksOf c d) = omega (arith, answers-of c d D) in q)
           ∙ getD-append-add (singles (ticksOf c d) d) (answers cs (after c d)) (m - ticksOf c d) Silent in
-          let T = finish-told cs (after c d) (m - ticksOf c d) (sound-after c d D) (omega arith) (ap finishes (sym same) ∙ e) in
+          let T =
+          finish-told cs (after c d) (m - ticksOf c d) (sound-after c d D) (omega arith) (ap finishes (sym same) ∙ e) in
           record {
             before = c ∷ T .before;
             call = T .call;

@@ -43,7 +43,9 @@ record Counted (p : Plan) (l : List Answer) (d : Dispatcher) : Type 0 where
 -- ---- a tick
 module _ (d : Dispatcher) where
   -- Where a task works, no guest idles the tick away, and it is not nobody's.
-  worked-tests : holder d < d .plan .count → worker d < guestIn d (holder d) .tasks → ((id : ℕ) → idles id (answer d) ≡ 0) × (unhad (answer d) ≡ 0)
+  worked-tests :
+      holder d < d .plan .count → worker d < guestIn d (holder d) .tasks
+      → ((id : ℕ) → idles id (answer d) ≡ 0) × (unhad (answer d) ≡ 0)
   unfolding idles unhad
   worked-tests h w =
       elim (decLt 1 (restAt d (holder d) (worker d))) [
@@ -51,20 +53,24 @@ module _ (d : Dispatcher) where
         | no m ↦ rw (answer-finished d h w (omega arith)) (λ id. refl, refl)
       ]
 
-  module _ (P : PlanIn (d .plan)) (l : List Answer) (long : length (d .usage) ≡ 17) (A : Accounts (d .plan) l (d .usage)) where
+  module _ (P : PlanIn (d .plan)) (l : List Answer) (long : length (d .usage) ≡ 17)
+      (A : Accounts (d .plan) l (d .usage)) where
     -- The accounts stand over a tick that nobody has.
     accounts-nobody : d .plan .count ≤ holder d → Accounts (d .plan) (l ++ (answer d ∷ [])) (usageAfter d)
     unfolding names idles unhad
     accounts-nobody h =
         rw (usage-nobody d h)
-        (by-nobody (d .plan) P l (answer d) (d .usage) long A (λ id. rw (answer-nobody d h) refl) (λ id. rw (answer-nobody d h) refl) (rw (answer-nobody d h) refl))
+        (by-nobody (d .plan) P l (answer d) (d .usage) long A (λ id. rw (answer-nobody d h) refl)
+        (λ id. rw (answer-nobody d h) refl) (rw (answer-nobody d h) refl))
 
     module _ (h : holder d < d .plan .count) where
       -- The accounts stand over a tick that a task has.
-      accounts-worked : worker d < guestIn d (holder d) .tasks → Accounts (d .plan) (l ++ (answer d ∷ [])) (usageAfter d)
+      accounts-worked :
+          worker d < guestIn d (holder d) .tasks → Accounts (d .plan) (l ++ (answer d ∷ [])) (usageAfter d)
       accounts-worked w =
           rw (usage-worked d h w)
-          (by-worked (d .plan) P l (answer d) (d .usage) long A (holder d) h (names-mine d (holder d) h refl) (λ k b n. names-else d k P b n)
+          (by-worked (d .plan) P l (answer d) (d .usage) long A (holder d) h (names-mine d (holder d) h refl)
+          (λ k b n. names-else d k P b n)
           (worked-tests h w .1) (λ k. worked-tests h w .0 (idOf (d .plan) k)))
 
       -- The accounts stand over a tick that a guest idles away.
@@ -72,10 +78,12 @@ module _ (d : Dispatcher) where
       unfolding bit idles unhad
       accounts-idled w =
           rw (usage-idled d h w)
-          (by-idled (d .plan) P l (answer d) (d .usage) long A (holder d) h (names-mine d (holder d) h refl) (λ k b n. names-else d k P b n)
+          (by-idled (d .plan) P l (answer d) (d .usage) long A (holder d) h (names-mine d (holder d) h refl)
+          (λ k b n. names-else d k P b n)
           (rw (answer-idled d h w) refl)
           (rw (answer-idled d h w) (ap bit (eq-eqb (holderId d) (holderId d) refl)))
-          (λ k b n. rw (answer-idled d h w) (ap bit (ne-eqb (holderId d) (idOf (d .plan) k) (λ e. n (id-one (d .plan) P (holder d) k h b e))))))
+          (λ k b n. rw (answer-idled d h w)
+          (ap bit (ne-eqb (holderId d) (idOf (d .plan) k) (λ e. n (id-one (d .plan) P (holder d) k h b e))))))
 
     -- The accounts stand over a tick, whoever has it.
     tick-accounts : Accounts (d .plan) (l ++ (answer d ∷ [])) (usageAfter d)
@@ -115,7 +123,12 @@ module _ (p : Plan) (P : PlanIn p) where
       ticks = λ k h. omega (arith, zeros k (omega (arith, P .few)), count-none (names (idOf p k)) [] 0);
       idled = λ k h. omega (arith, zeros (8 + k) (omega (arith, P .few)), count-none (idles (idOf p k)) [] 0);
       nobody = omega (arith, zeros 16 (omega arith), count-none unhad [] 0);
-      all = omega (arith, sum-zero (nth (replicate 17 0)) (p .count) (λ k h. zeros k (omega (arith, P .few))), zeros 16 (omega arith));
+      all =
+          omega (
+            arith,
+            sum-zero (nth (replicate 17 0)) (p .count) (λ k h. zeros k (omega (arith, P .few))),
+            zeros 16 (omega arith),
+          );
     };
   }
     where
@@ -123,10 +136,13 @@ module _ (p : Plan) (P : PlanIn p) where
       zeros k h = getD-replicate 17 k 0 0 h
 
 -- Where the ticks went: the numbers beside the state, after any history from the fresh start, count its ticks.
-pub usage-counts : (p : Plan) → planRefusal p .number ≡ 0 → (cs : List Call) → Accounts p (answers cs (start p)) (play cs (start p) .usage)
+pub usage-counts :
+    (p : Plan) → planRefusal p .number ≡ 0 → (cs : List Call)
+    → Accounts p (answers cs (start p)) (play cs (start p) .usage)
 usage-counts p order cs =
     let P = plan-in p order in
-    play-keeps p (Counted p) Any (kept-next p P) (λ l d id task k t D a f K. kept-taken p P l d k t K) cs [] (start p) (any cs (start p))
+    play-keeps p (Counted p) Any (kept-next p P) (λ l d id task k t D a f K. kept-taken p P l d k t K) cs [] (start p)
+    (any cs (start p))
     record { sound = sound-start p order; holds = rw (fresh-idle p order) (kept-idle p P) }
     .holds
     .accounts
@@ -136,5 +152,7 @@ pub usage-adds-up :
     (p : Plan)
     → planRefusal p .number ≡ 0
     → (cs : List Call)
-    → (sumTo (nth (play cs (start p) .usage)) (p .count) + nth (play cs (start p) .usage) nobodys) % wrap ≡ ticksIn cs (start p) % wrap
-usage-adds-up p order cs = usage-counts p order cs .all ∙ ap (λ (n : ℕ). n % wrap) (answers-length cs (start p) (sound-start p order))
+    → (sumTo (nth (play cs (start p) .usage)) (p .count) + nth (play cs (start p) .usage) nobodys) % wrap
+    ≡ ticksIn cs (start p) % wrap
+usage-adds-up p order cs =
+    usage-counts p order cs .all ∙ ap (λ (n : ℕ). n % wrap) (answers-length cs (start p) (sound-start p order))

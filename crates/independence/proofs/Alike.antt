@@ -112,7 +112,8 @@ module _ {id k n : ℕ} {p q : Plan} (S : SameFor id k p q) {d e : Dispatcher} (
   pub same-holder : holder d ≤ k → holder e ≡ holder d
   unfolding holder
   same-holder h =
-      first-agree (λ j. ltb 0 (nth (refilled d) j)) (λ j. ltb 0 (nth (refilled e) j)) (d .plan .count) (e .plan .count) k
+      first-agree (λ j. ltb 0 (nth (refilled d) j)) (λ j. ltb 0 (nth (refilled e) j)) (d .plan .count)
+      (e .plan .count) k
       in-one in-other
       (λ z l.
       ap (λ (x : ℕ). ltb 0 x)

@@ -28,7 +28,8 @@ age-at :
     → ageAt (next d) g t ≡ pick (ltb 0 (restAt d g t)) (min (ageAt d g t + 1) longest) (ageAt d g t)
 unfolding next ageAfter
 age-at d H g t h l =
-    upTo-at (λ k age. pick (ltb 0 (nth (d .rest) k)) (min (age + 1) longest) age) 128 (d .age) (placeAt g t) (omega arith)
+    upTo-at (λ k age. pick (ltb 0 (nth (d .rest) k)) (min (age + 1) longest) age) 128 (d .age) (placeAt g t)
+    (omega arith)
     (omega (arith, H .age-long))
 
 -- One tick of two states that are alike.

@@ -74,13 +74,15 @@ module _ (d : Dispatcher) (k : ℕ) (in-plan : k < d .plan .count) (mine : holde
       → answer d ≡ Worked (guestIn d k .id) (worker d + 1)
   worked-here =
       subst
-      (λ (z : ℕ). worker d < guestIn d z .tasks → 1 < restAt d z (worker d) → answer d ≡ Worked (guestIn d z .id) (worker d + 1))
+      (λ (z : ℕ). worker d < guestIn d z .tasks → 1 < restAt d z (worker d)
+      → answer d ≡ Worked (guestIn d z .id) (worker d + 1))
       mine (answer-worked d (omega arith))
 
   -- The tick is the last of the task's run: the job is finished.
   finished-here : worker d < guestIn d k .tasks → restAt d k (worker d) ≤ 1 → answer d ≡ finishedBy d k (worker d)
   finished-here =
-      subst (λ (z : ℕ). worker d < guestIn d z .tasks → restAt d z (worker d) ≤ 1 → answer d ≡ finishedBy d z (worker d))
+      subst (λ (z : ℕ). worker d < guestIn d z .tasks → restAt d z (worker d) ≤ 1
+      → answer d ≡ finishedBy d z (worker d))
       mine (answer-finished d (omega arith))
 
 -- One tick of two states that are alike.
@@ -114,5 +116,6 @@ module _ {id k : ℕ} {p q : Plan} (S : SameFor id k p q) {d e : Dispatcher} (A 
   told-same =
       elim (ℕ-discrete (holder d) k) [
         | yes x ↦ ap (told id) (answer-mine x (same-holder S A (omega arith) ∙ x))
-        | no n ↦ told-else id k p (S .here) d (A .one) n ∙ sym (told-else id k q (S .there) e (A .other) (else-too S A n))
+        | no n ↦ told-else id k p (S .here) d (A .one) n
+            ∙ sym (told-else id k q (S .there) e (A .other) (else-too S A n))
       ]

@@ -22,7 +22,8 @@ unfolding refusal unless
 stop n ts e = rw e refl
 
 -- where the number is 0 the first test passed and nothing after it refused
-pub passed : (b : Bool) (n : ℕ) (ts : List Test) → 0 < n → refusal (b orRefuse n ∷ ts) ≡ 0 → (b ≡ true) × (refusal ts ≡ 0)
+pub passed :
+    (b : Bool) (n : ℕ) (ts : List Test) → 0 < n → refusal (b orRefuse n ∷ ts) ≡ 0 → (b ≡ true) × (refusal ts ≡ 0)
 unfolding refusal unless
 passed true n ts p e = (refl, e)
 passed false n ts p e = absurd (omega arith)

@@ -82,7 +82,8 @@ pub least-is : (p : ℕ → Bool) (d x : ℕ) (r : Found) → Says p d x r → r
 least-is p d x r a = says-one p d x r (least p d x) a (least-says p d x)
 
 -- tests that agree on the numbers searched find the same
-says-ext : (p q : ℕ → Bool) (d x : ℕ) (f : Found) → ((z : ℕ) → x ≤ z → z < x + d → p z ≡ q z) → Says p d x f → Says q d x f
+says-ext :
+    (p q : ℕ → Bool) (d x : ℕ) (f : Found) → ((z : ℕ) → x ≤ z → z < x + d → p z ≡ q z) → Says p d x f → Says q d x f
 says-ext p q d x Nothing h w = record { never = λ z l b. sym (h z l b) ∙ w .never z l b }
 says-ext p q d x (At y) h w = record {
   low = w .low;

@@ -47,7 +47,11 @@ unfolding sumTo
 sum-change f h zero k l p = absurd (omega arith)
 sum-change f h (suc n) k l p =
     ⊎-elim (λ (q : k ≡ n). rw q (omega (arith, sum-same f h n (λ j b. p j (omega arith) (λ z. omega arith)))))
-    (λ (q : k < n). omega (arith, sum-change f h n k q (λ j b. p j (omega arith)), p n (omega arith) (λ z. omega arith)))
+    (λ (q : k < n). omega (
+      arith,
+      sum-change f h n k q (λ j b. p j (omega arith)),
+      p n (omega arith) (λ z. omega arith),
+    ))
     (eq-or-lt-of-le {n = k} {m = n} (omega arith))
 
 -- the sum is higher by c

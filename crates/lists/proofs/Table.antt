@@ -17,7 +17,8 @@ table-length f zero = refl
 table-length f (suc n) = simp length-append (omega (arith, table-length f n))
 
 -- place k of a table with more behind it holds f k
-pub table-before : {A : Type 0} (f : ℕ → A) (d : A) (n : ℕ) (t : List A) (i : ℕ) → i < n → getD (table f n ++ t) i d ≡ f i
+pub table-before :
+    {A : Type 0} (f : ℕ → A) (d : A) (n : ℕ) (t : List A) (i : ℕ) → i < n → getD (table f n ++ t) i d ≡ f i
 unfolding table
 table-before f d zero t i l = absurd (omega arith)
 table-before f d (suc n) t i l =

@@ -42,7 +42,8 @@ pub within-right : (high x : ℕ) → 1 ≤ x → x ≤ high → within 1 high x
 within-right high x l h = rw (le-leb 1 x l, le-leb x high h) refl
 
 -- a guest that passes refusal 4's test is in its ranges
-pub head-says : (id capacity period tasks : ℕ) → headOk id capacity period tasks ≡ true → HeadIn id capacity period tasks
+pub head-says :
+    (id capacity period tasks : ℕ) → headOk id capacity period tasks ≡ true → HeadIn id capacity period tasks
 unfolding headOk
 head-says id capacity period tasks e =
     let p3 = and-left _ (within 1 mostTasks tasks) e in
@@ -61,7 +62,8 @@ head-says id capacity period tasks e =
     }
 
 -- a guest in its ranges passes refusal 4's test
-pub head-right : {id capacity period tasks : ℕ} → HeadIn id capacity period tasks → headOk id capacity period tasks ≡ true
+pub head-right :
+    {id capacity period tasks : ℕ} → HeadIn id capacity period tasks → headOk id capacity period tasks ≡ true
 unfolding headOk
 head-right {id} {capacity} {period} {tasks} h =
     and-true (and-true (and-true (le-leb 1 id (h .named)) (within-right period capacity (h .some) (h .fits)))

@@ -25,7 +25,8 @@ pub struct Reading {
 fn with_records(bytes: &[u8], n: usize, refusal: Refusal) -> Reading
     requires { ⌜ (n ≤ mostGuests) × (n ≤ blocksIn (now bytes)) ⌝ }
     ensures { λ r. ⌜
-        r ≡ record { refusal = refusal; plan = record { count = n; guests = recordsOf (blockAt (now (bytes .entry))) n } }
+        r
+        ≡ record { refusal = refusal; plan = record { count = n; guests = recordsOf (blockAt (now (bytes .entry))) n } }
         ⌝ }
 {
     let guests = blockfile::records_of(bytes, n);

@@ -50,7 +50,8 @@ module _ (g : Guest) (p : ℕ) (fits : GuestInTypes g) (low : p ≤ lastPlace) (
   unfolding blockOf
   full-at k l =
       rw (← append-nil (bytesOf (nth (withCheck (wordsOf g p))) blockWords))
-      (word-bytesOf (nth (withCheck (wordsOf g p))) blockWords [] k l (check-fits (wordsOf g p) (words-fit g p fits low few) k))
+      (word-bytesOf (nth (withCheck (wordsOf g p))) blockWords [] k l
+      (check-fits (wordsOf g p) (words-fit g p fits low few) k))
 
   at : (k : ℕ) → k < checkWord → word (blockOf g p) k ≡ nth (wordsOf g p) k
   at k l = full-at k (omega arith) ∙ check-other (wordsOf g p) k l
@@ -114,7 +115,16 @@ module _ (g : Guest) (p : ℕ) (fits : GuestInTypes g) (low : p ≤ lastPlace) (
       (λ i l. entry-is i (deadlineWord i) (nth (g .deadline) i) (omega arith)
       (λ m. written .entry i m .deadline) (λ m. omega arith)) in
       λ k.
-      record { id = e1 k; capacity = e2 k; period = e3 k; tasks = e4 k; charge = e5 k; run = r k; every = e k; deadline = d k }
+      record {
+        id = e1 k;
+        capacity = e2 k;
+        period = e3 k;
+        tasks = e4 k;
+        charge = e5 k;
+        run = r k;
+        every = e k;
+        deadline = d k;
+      }
 
   -- A task's numbers are kept.
   first-at : (xs : List ℕ) (i : ℕ) → i < g .tasks → nth (firstTasks (g .tasks) xs) i ≡ nth xs i
@@ -146,7 +156,8 @@ module _ (g : Guest) (p : ℕ) (fits : GuestInTypes g) (low : p ≤ lastPlace) (
   pub number-back : (new : Bool) → new ≡ true → blockNumber (blockOf g p) (ownPlace (blockOf g p) p) new ≡ 0
   number-back new e =
       sym
-      (none (blockOf g p) (ownPlace (blockOf g p) p) new sums opens (and-true (ap guestOk record-is ∙ head) e) zeros (ap tasksOk record-is ∙ tasks-pass))
+      (none (blockOf g p) (ownPlace (blockOf g p) p) new sums opens (and-true (ap guestOk record-is ∙ head) e) zeros
+      (ap tasksOk record-is ∙ tasks-pass))
 
   pub guest-back : guestOf (blockOf g p) ≡ clearedGuest g
   guest-back = record-is

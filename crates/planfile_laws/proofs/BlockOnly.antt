@@ -81,7 +81,8 @@ module _ (b : List ℕ) (p : ℕ) (new : Bool) (long : length b ≡ blockSize) (
   unused-at k h l =
       written .unused k h (omega arith)
       ∙ sym
-      (zero-at b (unusedFrom (taskCount b)) checkWord k h l (and-right (zeroBetween b spareFrom spareTo) _ (passed .zeros)))
+      (zero-at b (unusedFrom (taskCount b)) checkWord k h l
+      (and-right (zeroBetween b spareFrom spareTo) _ (passed .zeros)))
 
   -- The words of entry i.
   entry-at : (i : ℕ) → i < taskCount b → (k : ℕ) → runWord i ≤ k → k < runWord (suc i)

@@ -1,4 +1,5 @@
--- When each refusal of bytes is given: 1 to 6 of reading blocks, places counting or not, and 7 of the finder. Assumes nothing.
+-- When each refusal of bytes is given: 1 to 6 of reading blocks, places counting or not, and 7 of the finder. Assumes
+-- nothing.
 use mathlib.Core.Path.{_≡_, refl, sym, ap, _∙_}
 use mathlib.Core.Logic.{_⊎_, inl, inr, ⊎-elim}
 use mathlib.Core.Bool.{Bool, true, false, false≢true, not, _&&_, _||_}
@@ -50,21 +51,25 @@ module _ (placed : Bool) (s : List ℕ) (k : ℕ) where
   two-exactly = given-first (sumsToZero (blockAt s k)) 2 _ (omega arith) refl (sum-fails (blockAt s k))
 
   -- 3: the kind is not 1, or the place is not the block's own.
-  pub three-exactly : (numberAt placed s k ≡ 3) exactlyWhen (WrongSum (blockAt s k) notBut WrongOpening placed (blockAt s k) k)
+  pub three-exactly :
+      (numberAt placed s k ≡ 3) exactlyWhen (WrongSum (blockAt s k) notBut WrongOpening placed (blockAt s k) k)
   unfolding numberAt blockNumber among
   three-exactly =
       given-later (sumsToZero (blockAt s k)) 2 3 _ (λ q. omega arith) (sum-fails (blockAt s k))
-      (given-first (kindOk (blockAt s k) && (not placed || ownPlace (blockAt s k) k)) 3 _ (omega arith) refl (opening-fails placed (blockAt s k) k))
+      (given-first (kindOk (blockAt s k) && (not placed || ownPlace (blockAt s k) k)) 3 _ (omega arith) refl
+      (opening-fails placed (blockAt s k) k))
 
   -- 4: the id is 0 or already seen in an earlier block, or capacity, period or number of tasks is outside its range.
   pub four-exactly :
       (numberAt placed s k ≡ 4)
       exactlyWhen
-      (WrongSum (blockAt s k) notBut WrongOpening placed (blockAt s k) k notBut WrongGuest (guestOf (blockAt s k)) (idAt s) k)
+      (WrongSum (blockAt s k) notBut WrongOpening placed (blockAt s k) k
+      notBut WrongGuest (guestOf (blockAt s k)) (idAt s) k)
   unfolding numberAt blockNumber among
   four-exactly =
       given-later (sumsToZero (blockAt s k)) 2 4 _ (λ q. omega arith) (sum-fails (blockAt s k))
-      (given-later (kindOk (blockAt s k) && (not placed || ownPlace (blockAt s k) k)) 3 4 _ (λ q. omega arith) (opening-fails placed (blockAt s k) k)
+      (given-later (kindOk (blockAt s k) && (not placed || ownPlace (blockAt s k) k)) 3 4 _ (λ q. omega arith)
+      (opening-fails placed (blockAt s k) k)
       (given-first (guestOk (guestOf (blockAt s k)) && newId (idAt s) k) 4 _ (omega arith) refl
       (guest-fails (guestOf (blockAt s k)) (idAt s) k)))
 
@@ -79,7 +84,8 @@ module _ (placed : Bool) (s : List ℕ) (k : ℕ) where
   unfolding numberAt blockNumber among
   five-exactly =
       given-later (sumsToZero (blockAt s k)) 2 5 _ (λ q. omega arith) (sum-fails (blockAt s k))
-      (given-later (kindOk (blockAt s k) && (not placed || ownPlace (blockAt s k) k)) 3 5 _ (λ q. omega arith) (opening-fails placed (blockAt s k) k)
+      (given-later (kindOk (blockAt s k) && (not placed || ownPlace (blockAt s k) k)) 3 5 _ (λ q. omega arith)
+      (opening-fails placed (blockAt s k) k)
       (given-later (guestOk (guestOf (blockAt s k)) && newId (idAt s) k) 4 5 _ (λ q. omega arith)
       (guest-fails (guestOf (blockAt s k)) (idAt s) k)
       (given-first (zerosOk (blockAt s k)) 5 _ (omega arith) refl (zeros-fail (blockAt s k)))))
@@ -96,7 +102,8 @@ module _ (placed : Bool) (s : List ℕ) (k : ℕ) where
   unfolding numberAt blockNumber among
   six-exactly =
       given-later (sumsToZero (blockAt s k)) 2 6 _ (λ q. omega arith) (sum-fails (blockAt s k))
-      (given-later (kindOk (blockAt s k) && (not placed || ownPlace (blockAt s k) k)) 3 6 _ (λ q. omega arith) (opening-fails placed (blockAt s k) k)
+      (given-later (kindOk (blockAt s k) && (not placed || ownPlace (blockAt s k) k)) 3 6 _ (λ q. omega arith)
+      (opening-fails placed (blockAt s k) k)
       (given-later (guestOk (guestOf (blockAt s k)) && newId (idAt s) k) 4 6 _ (λ q. omega arith)
       (guest-fails (guestOf (blockAt s k)) (idAt s) k)
       (given-later (zerosOk (blockAt s k)) 5 6 _ (λ q. omega arith) (zeros-fail (blockAt s k))
@@ -144,7 +151,8 @@ module _ (placed : Bool) (s : List ℕ) where
   unfolding numberAt newId
   apart e j k l h q =
       let o =
-      block-in (blockAt s k) (not placed || ownPlace (blockAt s k) k) (newId (idAt s) k) (blocks-in placed s e .blocks k h) in
+      block-in (blockAt s k) (not placed || ownPlace (blockAt s k) k) (newId (idAt s) k)
+      (blocks-in placed s e .blocks k h) in
       let n = and-right (guestOk (guestOf (blockAt s k))) (newId (idAt s) k) (o .heads) in
       false≢true (sym (ap not (eq-eqb _ _ q)) ∙ all-at _ k j l n)
 
@@ -185,9 +193,11 @@ module _ (s : List ℕ) (id : ℕ) where
         let o = searched 7 0 e (inl (omega arith)) in
         (o .0, seven-by (firstWith s id) (least-says _ (blocksIn s) 0) (o .1)),
     λ h.
-        sym (or-after (fileRefusal s .number) (fileRefusal s .place) (placeOrSeven (firstWith s id)) (omega (arith, h .0)))
+        sym (or-after (fileRefusal s .number) (fileRefusal s .place) (placeOrSeven (firstWith s id))
+        (omega (arith, h .0)))
         ∙ ap placeOrSeven
-        (sym (count-none (λ k. eqb (idAt s k) id) (blocksIn s) (blocksIn s) (omega arith) (λ z l. ne-eqb _ _ (h .1 z l)))),
+        (sym (count-none (λ k. eqb (idAt s k) id) (blocksIn s) (blocksIn s) (omega arith)
+        (λ z l. ne-eqb _ _ (h .1 z l)))),
   )
 
   -- A block is found at place k: the plan is well formed, and block k has the id.
@@ -199,7 +209,8 @@ module _ (s : List ℕ) (id : ℕ) where
         let o = searched 0 k e (inr refl) in
         (o .0, there-by (firstWith s id) k (least-says _ (blocksIn s) 0) (o .1)),
     λ h.
-        sym (or-after (fileRefusal s .number) (fileRefusal s .place) (placeOrSeven (firstWith s id)) (omega (arith, h .0)))
+        sym (or-after (fileRefusal s .number) (fileRefusal s .place) (placeOrSeven (firstWith s id))
+        (omega (arith, h .0)))
         ∙ ap placeOrSeven
         (sym (count-at (λ k. eqb (idAt s k) id) (blocksIn s) k (h .1 .0)
         (λ z l. ne-eqb _ _ (λ q. apart true s (h .0) z k l (h .1 .0) (q ∙ sym (h .1 .1)))) (eq-eqb _ _ (h .1 .1)))),

@@ -28,7 +28,8 @@ joined-length f (suc n) long =
     simp length-append (omega (arith, joined-length f n (λ k l. long k (omega arith)), long n (omega arith)))
 
 -- Each part, with more behind.
-joined-before : (f : ℕ → List ℕ) (n : ℕ) → EachLong f n → (t : List ℕ) (k : ℕ) → k < n → blockAt (joined f n ++ t) k ≡ f k
+joined-before :
+    (f : ℕ → List ℕ) (n : ℕ) → EachLong f n → (t : List ℕ) (k : ℕ) → k < n → blockAt (joined f n ++ t) k ≡ f k
 unfolding joined
 joined-before f zero long t k l = absurd (omega arith)
 joined-before f (suc n) long t k l =

@@ -39,7 +39,8 @@ module _ (s : List ℕ) (ok : fileRefusal s .number ≡ 0) where
         | yes h ↦ rw (getD-take blockSize (drop (blockSize * k) s) i 0 h, getD-drop (blockSize * k) s i 0)
             (bytes (blockSize * k + i))
         | no h ↦ rw
-            (List·getD-eq-default {A = ℕ} (blockAt s k) 0 {n = i} (rw (length-take blockSize (drop (blockSize * k) s)) (omega arith)))
+            (List·getD-eq-default {A = ℕ} (blockAt s k) 0 {n = i}
+            (rw (length-take blockSize (drop (blockSize * k) s)) (omega arith)))
             (omega arith)
       ]
 
@@ -72,7 +73,8 @@ module _ (s : List ℕ) (ok : fileRefusal s .number ≡ 0) where
   id-at : (k : ℕ) → k < blocksIn s → guestAt (recordsOf (blockAt s) (blocksIn s)) k .id ≡ idAt s k
   id-at k l = ap (λ (g : Guest). g .id) (guest-at k l)
 
-  new-at : (k : ℕ) → k < blocksIn s → newId (λ j. guestAt (recordsOf (blockAt s) (blocksIn s)) j .id) k ≡ newId (idAt s) k
+  new-at :
+      (k : ℕ) → k < blocksIn s → newId (λ j. guestAt (recordsOf (blockAt s) (blocksIn s)) j .id) k ≡ newId (idAt s) k
   unfolding newId
   new-at k l = all-ext _ _ k (λ j m. rw (id-at j (omega arith), id-at k l) refl)
 
@@ -85,8 +87,10 @@ module _ (s : List ℕ) (ok : fileRefusal s .number ≡ 0) where
   passes : planRefusal (record { count = blocksIn s; guests = recordsOf (blockAt s) (blocksIn s) }) ≡ fine
   passes =
       let z = inside .size in
-      sym (counted (record { count = blocksIn s; guests = recordsOf (blockAt s) (blocksIn s) }) (omega arith) (omega arith))
-      ∙ first-fine (guestNumber (recordsOf (blockAt s) (blocksIn s))) (blocksIn s) 0 (λ k l m. guest-passes k (omega arith))
+      sym (counted (record { count = blocksIn s; guests = recordsOf (blockAt s) (blocksIn s) }) (omega arith)
+      (omega arith))
+      ∙ first-fine (guestNumber (recordsOf (blockAt s) (blocksIn s))) (blocksIn s) 0
+      (λ k l m. guest-passes k (omega arith))
 
 -- Bytes that are read without a refusal are exactly what the writer writes for what was read, block after block.
 pub only-ours : (s : List ℕ) → Bytes s → readOf s .refusal .number ≡ 0 → fileOf (readOf s .plan) ≡ s

@@ -26,7 +26,12 @@ first-by f m k n z zero q h ih =
 first-by f m k n z (suc x) q h ih =
     let a : suc x ≡ suc n = ap (λ (r : Refusal). r .number) h in
     let b : k ≡ z = ap (λ (r : Refusal). r .place) h in
-    record { low = omega arith; high = omega arith; number = ap f (sym b) ∙ q ∙ a; before = λ j l c. absurd (omega arith) }
+    record {
+      low = omega arith;
+      high = omega arith;
+      number = ap f (sym b) ∙ q ∙ a;
+      before = λ j l c. absurd (omega arith);
+    }
 
 -- A refusal that is given is the first.
 pub first-is : (f : ℕ → ℕ) (m k n z : ℕ) → firstRefused f m k ≡ refused (suc n) z → FirstAt f m k (suc n) z

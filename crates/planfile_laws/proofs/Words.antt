@@ -158,7 +158,8 @@ module _ (g : Guest) (p : ℕ) where
       elim (decLt k blockWords) [
         | yes h ↦ rw (getD-replicate {A = ℕ} blockWords k 0 0 h) (omega arith)
         | no h ↦ rw
-            (List·getD-eq-default {A = ℕ} (replicate blockWords 0) 0 {n = k} (rw (length-replicate {A = ℕ} blockWords 0) (omega arith)))
+            (List·getD-eq-default {A = ℕ} (replicate blockWords 0) 0 {n = k}
+            (rw (length-replicate {A = ℕ} blockWords 0) (omega arith)))
             (omega arith)
       ]
 

@@ -48,14 +48,16 @@ module _ (placed : Bool) (s : List ℕ) (k : ℕ) where
   two-exactly = exact.two-exactly placed s k
 
   -- 3: the kind is not 1, or, where places count, the place is not the block's own.
-  pub three-exactly : (numberAt placed s k ≡ 3) exactlyWhen (WrongSum (blockAt s k) notBut WrongOpening placed (blockAt s k) k)
+  pub three-exactly :
+      (numberAt placed s k ≡ 3) exactlyWhen (WrongSum (blockAt s k) notBut WrongOpening placed (blockAt s k) k)
   three-exactly = exact.three-exactly placed s k
 
   -- 4: the id is 0 or already seen in an earlier block, or capacity, period or number of tasks is outside its range.
   pub four-exactly :
       (numberAt placed s k ≡ 4)
       exactlyWhen
-      (WrongSum (blockAt s k) notBut WrongOpening placed (blockAt s k) k notBut WrongGuest (guestOf (blockAt s k)) (idAt s) k)
+      (WrongSum (blockAt s k) notBut WrongOpening placed (blockAt s k) k
+      notBut WrongGuest (guestOf (blockAt s k)) (idAt s) k)
   four-exactly = exact.four-exactly placed s k
 
   -- 5: a byte that must be zero is not.

@@ -30,7 +30,8 @@ beside-pressed =
 -- same.
 pub in-the-crowd : view 9 beset (start crowded) ≡ shown
 in-the-crowd =
-    sym (independence 9 1 A crowded (computed .same-crowded) quiet beset (computed .singly-quiet) (computed .singly-beset)
+    sym (independence 9 1 A crowded (computed .same-crowded) quiet beset (computed .singly-quiet)
+    (computed .singly-beset)
     (sym (computed .asked-beset)))
     ∙ views .unreleased
 

@@ -34,7 +34,8 @@ sheet-is-releases = sheets.sheet-is-releases
 pub answer-is-release :
     (d : Dispatcher) (cs : List Call) (pairs : List ℕ) (i : ℕ)
     → i ≤ length pairs
-    → answerTo (play cs d) pairs i ≡ release (play (upToPair cs pairs i) d) (pairGuest (nth pairs i)) (pairTask (nth pairs i)) .refusal .number
+    → answerTo (play cs d) pairs i
+    ≡ release (play (upToPair cs pairs i) d) (pairGuest (nth pairs i)) (pairTask (nth pairs i)) .refusal .number
 answer-is-release = sheets.pair-is-release
 
 module _ (d : Dispatcher) (pairs before : List ℕ) where
@@ -63,7 +64,8 @@ fifteen-exactly = causes.fifteen-exactly
 
 pub twelve-exactly :
     (d : Dispatcher) (pairs : List ℕ) (room : ℕ)
-    → (sheet d pairs room .refusal .number ≡ 12) exactlyWhen ((stateOk d ≡ true) × ((length pairs ≤ mostPairs) × (room < length pairs)))
+    → (sheet d pairs room .refusal .number ≡ 12)
+    exactlyWhen ((stateOk d ≡ true) × ((length pairs ≤ mostPairs) × (room < length pairs)))
 twelve-exactly = causes.twelve-exactly
 
 -- Our word covers each pair: `PairOf d pairs room i id number` says that the sheet is not refused whole in the state
@@ -81,7 +83,8 @@ module _ (p : Plan) (id number R : ℕ) (quoted : Quoted p id number R) where
 
     -- A pair is taken if no release of the task was taken before.
     pub pair-first-taken :
-        NoneTaken id number cs (start p) → NotBefore (play cs (start p)) ps i id number → answerTo (play cs (start p)) ps i ≡ 0
+        NoneTaken id number cs (start p) → NotBefore (play cs (start p)) ps i id number
+        → answerTo (play cs (start p)) ps i ≡ 0
     pair-first-taken = pairs.pair-first-taken p id number R quoted cs ps room i Q
 
     -- A pair is never refused by 10.

@@ -67,9 +67,12 @@ pub record Numbers : Type 0 where
   pub again-after-50 : release (play (times 50) (released A 9 1 (running 14 ∷ []))) 9 1 .refusal .number ≡ 0
   -- P5: A sheet on plan A, fresh: guest 9's two tasks, its second again, guest 8, which is not there, and a guest
   -- part beyond 32 bits, with a place to spare.
-  pub sheet-answers : answered (start A) (589826 ∷ 589825 ∷ 589826 ∷ 524289 ∷ 281474977300481 ∷ []) (5 ∷ 5 ∷ 5 ∷ 5 ∷ 5 ∷ 5 ∷ []) ≡ 0 ∷ 0 ∷ 9 ∷ 7 ∷ 7 ∷ 5 ∷ []
+  pub sheet-answers :
+      answered (start A) (589826 ∷ 589825 ∷ 589826 ∷ 524289 ∷ 281474977300481 ∷ []) (5 ∷ 5 ∷ 5 ∷ 5 ∷ 5 ∷ 5 ∷ [])
+      ≡ 0 ∷ 0 ∷ 9 ∷ 7 ∷ 7 ∷ 5 ∷ []
   -- P6: Plan A with a sheet of one block, guest 9 with capacity 7 at its place: its tasks, the one above and the
-  -- capacity that is smallest still; where the blocks stand that count; and the block at a place that is not its guest's.
+  -- capacity that is smallest still; where the blocks stand that count; and the block at a place that is not its
+  -- guest's.
   pub amended-first : pairTaskVerdict (fileOf A) (blockOf (nine 7) 1) 9 1 ≡ Met 38
   pub amended-second : pairTaskVerdict (fileOf A) (blockOf (nine 7) 1) 9 2 ≡ Met 86
   pub amended-above : pairTaskVerdict (fileOf A) (blockOf (nine 7) 1) 7 1 ≡ Met 4

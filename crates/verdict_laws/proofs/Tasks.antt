@@ -183,7 +183,8 @@ task-means-one p k i Unjudged Unjudged a b = refl
 -- no other verdict has that meaning
 pub task-verdict-only : (p : Plan) (id k i : ℕ) → There p id k → i < guestAt (p .guests) k .tasks → (v : TaskVerdict)
     → TaskMeans p k i v → v ≡ taskVerdict p id (suc i)
-task-verdict-only p id k i t h v a = task-means-one p k i v (taskVerdict p id (suc i)) a (task-verdict-means p id k i t h)
+task-verdict-only p id k i t h v a =
+    task-means-one p k i v (taskVerdict p id (suc i)) a (task-verdict-means p id k i t h)
 
 -- under fitted guests a solution up to the period has a response that is quoted
 pub quoted-where : (p : Plan) (id k i : ℕ) → There p id k → i < guestAt (p .guests) k .tasks → AllFit p k → (w : ℕ)

@@ -27,8 +27,10 @@ mul-result c =
 
 returns : tie.Need-returns
 returns c =
-    let a = c .before .before .args in
-    (rw (c .before .quotient .ensures, c .wide .ensures .0) refl, share-most (a .v) (a .every) (c .before .quotient .ensures) (omega arith))
+    let a = c .before .before .args in (
+      rw (c .before .quotient .ensures, c .wide .ensures .0) refl,
+      share-most (a .v) (a .every) (c .before .quotient .ensures) (omega arith),
+    )
 
 pub share-spec : {M : Type 1} → statement M
 share-spec = tie.close (tie.spec quotient-requires wide-requires mul-result returns)

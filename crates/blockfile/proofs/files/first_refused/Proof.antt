@@ -30,7 +30,8 @@ returns c =
     let b = c .before in
     let l = b .before .before in
     let a = l .before .before .args in
-    first-here (numberAt (a .placed) (a .s .now)) (a .n) (l .loop .k) _ (b .before .loop-test .taken) (b .number-at .ensures)
+    first-here (numberAt (a .placed) (a .s .now)) (a .n) (l .loop .k) _ (b .before .loop-test .taken)
+    (b .number-at .ensures)
     (c .if1 .taken)
     ∙ l .loop .inv .1
 
@@ -46,7 +47,8 @@ loop-again c =
     let l = b .before .before in
     let a = l .before .before .args in (
       search needs,
-      first-next (numberAt (a .placed) (a .s .now)) (a .n) (l .loop .k) _ (b .before .loop-test .taken) (b .number-at .ensures) (c .if1 .left)
+      first-next (numberAt (a .placed) (a .s .now)) (a .n) (l .loop .k) _ (b .before .loop-test .taken)
+          (b .number-at .ensures) (c .if1 .left)
           ∙ l .loop .inv .1,
     )
 

@@ -30,7 +30,8 @@ returns : tie.Need-returns Inv-loop μ-loop
 returns c =
     let l = c .before .before .before in
     let a = l .before .before .args in
-    count-at (λ i. eqb (idAt (a .s .now) i) (a .id)) (blocksIn (a .s .now)) (l .loop .k) (c .before .before .loop-test .taken)
+    count-at (λ i. eqb (idAt (a .s .now) i) (a .id)) (blocksIn (a .s .now)) (l .loop .k)
+    (c .before .before .loop-test .taken)
     (l .loop .inv .1)
     (eq-eqb _ _ (sym (c .before .id-at .ensures) ∙ c .if1 .taken))
 

@@ -44,7 +44,8 @@ loop-again : tie.Need-loop-again Inv-loop μ-loop
 loop-again c =
     let l = c .before .before in
     let a = l .before .before .before .args in
-    let next = records-next (blockAt (a .s .now)) (l .loop .k) _ _ (omega arith) (l .loop .inv .1 .0) (c .guest-at .ensures) in
+    let next =
+    records-next (blockAt (a .s .now)) (l .loop .k) _ _ (omega arith) (l .loop .inv .1 .0) (c .guest-at .ensures) in
     (search needs, (next, simp length-set (l .loop .inv .1 .1)))
 
 returns : tie.Need-returns Inv-loop μ-loop
