@@ -7,15 +7,15 @@ use native.Mathlib.Omega.{arith}
 use Rattle.lists.specs.Search.{least}
 use Rattle.lists.specs.declared.Found.{Found}
 use Rattle.lists.specs.declared.Found.the-variants.{At, Nothing}
-use Rattle.capacity.specs.Search.{orElse, smallestOf, foundAs, Halves}
+use Rattle.capacity.specs.Search.{orBest, smallestOf, foundAs, Halves}
 use Rattle.lists.proofs.All.{and-false-left}
 use Rattle.lists.proofs.Search.{First, least-says, least-is}
 use Rattle.equation.proofs.Halve.{Halving, halve-none, halve-left, halve-right, halve-lower, halve-here}
 
 -- nothing is left to try: the answer is the best so far
-pub none-left : (works : ℕ → Bool) (lo hi best : ℕ) → hi ≤ lo → best ≡ smallestOf works lo hi best
+pub empty-span : (works : ℕ → Bool) (lo hi best : ℕ) → hi ≤ lo → best ≡ smallestOf works lo hi best
 unfolding smallestOf
-none-left works lo hi best h = ap (λ (f : Found). orElse f best) (halve-none works lo hi h)
+empty-span works lo hi best h = ap (λ (f : Found). orBest f best) (halve-none works lo hi h)
 
 -- a turn, by what the middle comes to
 module _ (fit works : ℕ → Bool) (good : Halving fit works) (lo mid hi best : ℕ) (pos : 1 ≤ lo) (l : lo ≤ mid)
@@ -27,7 +27,7 @@ module _ (fit works : ℕ → Bool) (good : Halving fit works) (lo mid hi best :
     low = le-refl lo;
     high = omega arith;
     fewer = omega arith;
-    same = ap (λ (f : Found). orElse f best) (halve-left fit works good lo mid hi pos l h e);
+    same = ap (λ (f : Found). orBest f best) (halve-left fit works good lo mid hi pos l h e);
   }
 
   -- the middle fits and does not work: the answer is to the right
@@ -38,7 +38,7 @@ module _ (fit works : ℕ → Bool) (good : Halving fit works) (lo mid hi best :
     low = omega arith;
     high = le-refl hi;
     fewer = omega arith;
-    same = ap (λ (f : Found). orElse f best) (halve-right fit works good lo mid hi pos l h (e .0) (e .1));
+    same = ap (λ (f : Found). orBest f best) (halve-right fit works good lo mid hi pos l h (e .0) (e .1));
   }
 
   -- the middle works: the answer is to the left, or else here
@@ -52,25 +52,25 @@ module _ (fit works : ℕ → Bool) (good : Halving fit works) (lo mid hi best :
   }
     where
       go : (f : Found) → least works (mid - lo) lo ≡ f
-          → orElse f mid ≡ orElse (least works (hi - lo) lo) best
+          → orBest f mid ≡ orBest (least works (hi - lo) lo) best
       go Nothing a =
-          ap (λ (f : Found). orElse f best) (halve-here fit works good lo mid hi pos l h e a)
+          ap (λ (f : Found). orBest f best) (halve-here fit works good lo mid hi pos l h e a)
       go (At y) a =
-          ap (λ (f : Found). orElse f best) (halve-lower fit works good lo mid hi pos l h a)
+          ap (λ (f : Found). orBest f best) (halve-lower fit works good lo mid hi pos l h a)
 
 -- a capacity from 1 on is an answer, and 0 is none
-pub found-at : (c : ℕ) → 1 ≤ c → At c ≡ foundAs c
-found-at zero h = absurd (omega arith)
-found-at (suc c) h = refl
+pub found-best : (c : ℕ) → 1 ≤ c → At c ≡ foundAs c
+found-best zero h = absurd (omega arith)
+found-best (suc c) h = refl
 
 pub found-none : (c : ℕ) → c < 1 → Nothing ≡ foundAs c
 found-none zero h = refl
 found-none (suc c) h = absurd (omega arith)
 
 -- so what was found from 1 on is found again
-found-again : (f : Found) → ((c : ℕ) → f ≡ At c → 1 ≤ c) → foundAs (orElse f 0) ≡ f
+found-again : (f : Found) → ((c : ℕ) → f ≡ At c → 1 ≤ c) → foundAs (orBest f 0) ≡ f
 found-again Nothing h = refl
-found-again (At c) h = sym (found-at c (h c refl))
+found-again (At c) h = sym (found-best c (h c refl))
 
 -- what is found from 1 on is at least 1
 first-some : (f : ℕ → Bool) (n c : ℕ) → least f n 1 ≡ At c → 1 ≤ c

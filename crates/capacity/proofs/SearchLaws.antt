@@ -19,7 +19,7 @@ use Rattle.plan.specs.Records.{everyOf, deadlineOf}
 use Rattle.plan.specs.declared.Guest.{Guest}
 use Rattle.response.specs.Columns.{metUnder, acceptedIn, acceptedUnder}
 use Rattle.capacity.specs.Capacity.{atCapacity}
-use Rattle.capacity.specs.Search.{fitsAt, systemAt, worksAt}
+use Rattle.capacity.specs.Search.{fitsAt, triedSystem, worksAt}
 use Rattle.lists.proofs.All.{and-left, and-right, and-true, all-at, all-by}
 use Rattle.lists.proofs.Search.{at-of, is-at}
 use Rattle.equation.proofs.Solve.{solve-at, solve-by, Solved, solve-answers}
@@ -72,7 +72,7 @@ respond-by f d J J′ w y r g high e low le q =
 module _ (above : ℕ → ℕ) (grows : Grows above) (period : ℕ) (run every : ℕ → ℕ) where
   -- the guest at a capacity
   abbrev at : ℕ → System
-  at = systemAt above period run every
+  at = triedSystem above period run every
 
   -- a larger capacity leaves a smaller gap, and so no larger load
   load-less : (i c c′ : ℕ) → c ≤ c′ → (u w : ℕ) → u ≤ w → load (at c′) i u ≤ load (at c) i w
@@ -115,9 +115,9 @@ halving above grows period run every deadline n runs = record {
   fits = λ a w. and-left (fitsAt above period a) _ w;
   down = fits-down above grows period;
   grow = λ a b pos le w f. and-true f
-      (all-by (λ i. isAt (taskUnder (systemAt above period run every b) i (deadline i))) n (λ i h. (
+      (all-by (λ i. isAt (taskUnder (triedSystem above period run every b) i (deadline i))) n (λ i h. (
       let m = at-of _
-      (all-at (λ i. isAt (taskUnder (systemAt above period run every a) i (deadline i))) n i h
+      (all-at (λ i. isAt (taskUnder (triedSystem above period run every a) i (deadline i))) n i h
       (and-right (fitsAt above period a) _ w)) in
       is-at (met-up above grows period run every i a b (deadline i) (m .0) (runs i h) pos le f (m .1) .1))));
 }

@@ -16,8 +16,8 @@ unfoldable pub fitsAt : (above : ℕ → ℕ) → (period c : ℕ) → Bool
 fitsAt above period c = isAt (guestUnder above c period)
 
 -- a guest at capacity c, seen from its tasks, run being the charged runs
-abbrev pub systemAt : (above : ℕ → ℕ) → (period : ℕ) → (run every : ℕ → ℕ) → (c : ℕ) → System
-systemAt above period run every c = record {
+abbrev pub triedSystem : (above : ℕ → ℕ) → (period : ℕ) → (run every : ℕ → ℕ) → (c : ℕ) → System
+triedSystem above period run every c = record {
   capacity = c;
   period = period;
   above = above;
@@ -28,16 +28,16 @@ systemAt above period run every c = record {
 
 -- whether it is fitted there and its first n tasks are met
 unfoldable pub worksAt : (above : ℕ → ℕ) → (period : ℕ) → (run every deadline : ℕ → ℕ) → (n c : ℕ) → Bool
-worksAt above period run every deadline n c = acceptedIn (systemAt above period run every c) deadline n
+worksAt above period run every deadline n c = acceptedIn (triedSystem above period run every c) deadline n
 
 -- the capacity that was found, or else the best before it
-abbrev pub orElse : Found → (best : ℕ) → ℕ
-orElse Nothing best = best
-orElse (At c) best = c
+abbrev pub orBest : Found → (best : ℕ) → ℕ
+orBest Nothing best = best
+orBest (At c) best = c
 
 -- the smallest capacity from lo on and below hi that works, or else the best before it
 unfoldable pub smallestOf : (works : ℕ → Bool) → (lo hi best : ℕ) → ℕ
-smallestOf works lo hi best = orElse (least works (hi - lo) lo) best
+smallestOf works lo hi best = orBest (least works (hi - lo) lo) best
 
 -- what a capacity that was looked for is as an answer: 0 is none
 abbrev pub foundAs : ℕ → Found

@@ -25,14 +25,14 @@ taken-by zero d k t h = refl
 taken-by (suc n) d k t h = absurd (omega arith)
 
 -- The refusals over lent arrays are the release's.
-number-is : (d : Dispatcher) (id task : ℕ) → aimNumber (d .plan) (d .left) (d .position) (d .rest) (d .wait) (d .age) id task ≡ releaseNumber d id task
+aimed-number : (d : Dispatcher) (id task : ℕ) → aimNumber (d .plan) (d .left) (d .position) (d .rest) (d .wait) (d .age) id task ≡ releaseNumber d id task
 unfolding aimNumber releaseNumber
-number-is d id task = rw (passes-is d) refl
+aimed-number d id task = rw (passes-is d) refl
 
 module _ (d : Dispatcher) (id task : ℕ) {r : Aim} (a : Aims (d .plan) (d .left) (d .position) (d .rest) (d .wait) (d .age) id task r) where
   -- The number noted is the release's.
   refuses : r .number ≡ releaseNumber d id task
-  refuses = a .refuses ∙ number-is d id task
+  refuses = a .refuses ∙ aimed-number d id task
 
   -- A refused release has its whole outcome.
   pub release-refused : 1 ≤ r .number → _≡_ {A = Released} (record { refusal = refused (r .number) 0; state = d }) (release d id task)

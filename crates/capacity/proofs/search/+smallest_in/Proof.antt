@@ -9,7 +9,7 @@ use Rattle.capacity.proofs.search.smallest_in.Reads as smallest-in
 use Rattle.capacity.proofs.search.smallest_in.Kinds as smallest-in-kinds
 use Rattle.capacity.proofs.search.+smallest_in.Lts-smallest_in as smallest-in-lts
 use Rattle.capacity.proofs.search.halved.Reads as halved-reads
-use Rattle.capacity.proofs.Halving.{none-left}
+use Rattle.capacity.proofs.Halving.{empty-span}
 use Rattle.capacity.proofs.search.+smallest_in.{statement}
 use Rattle.capacity.proofs.search.+smallest_in.Tie.{close}
 
@@ -30,7 +30,7 @@ smallest-in-returns : (t : ℕ) → smallest-in-lts.Need-returns (
   smallest-in-below t,
   smallest-in.Post,
 ) (smallest-in-at t) smallest-in.Post
-smallest-in-returns t c = none-left _ _ _ _ (c .if1 .taken)
+smallest-in-returns t c = empty-span _ _ _ _ (c .if1 .taken)
 
 smallest-in-halved-requires : (t : ℕ) → smallest-in-lts.Need-halved-requires (
   halved-reads.Asked,
