@@ -7,6 +7,7 @@ ghost use Rattle.lists.specs.Places.{upTo};
 ghost use Rattle.lists.specs.Search.{firstFrom};
 ghost use Rattle.plan.specs.Ranges.{longest};
 ghost use Rattle.arrays.specs.Parts.{grown, fallen, hasRun};
+use plan::LONGEST;
 
 // One wait: falls by one, and never below 0.
 fn less(wait: u32) -> u32
@@ -33,7 +34,7 @@ fn older(age: u32, rest: u32) -> u32
     ensures { λ r. ⌜ r ≡ pick (ltb 0 rest) (min (age + 1) longest) age ⌝ }
 {
     if 0 < rest {
-        if age < 1000000 { age + 1 } else { 1000000 }
+        if age < LONGEST { age + 1 } else { LONGEST }
     } else {
         age
     }

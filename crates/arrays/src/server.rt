@@ -17,7 +17,9 @@ fn filled(position: u32, capacity: u32, left: u32) -> u32
 // Each guest at position 0 gets its full capacity, what was left being dropped.
 pub fn refill(left: &mut [u32; 8], position: &[u32; 8], capacities: &[u32; 16], n: usize)
     requires { ⌜ n ≤ 8 ⌝ }
-    ensures { λ r. ⌜ now (left .exit) ≡ upTo (filled (now (position .entry)) (now (capacities .entry))) n (now (left .entry)) ⌝ }
+    ensures { λ r. ⌜
+        now (left .exit) ≡ upTo (filled (now (position .entry)) (now (capacities .entry))) n (now (left .entry))
+        ⌝ }
 {
     let mut k: usize = 0;
     while k < n {

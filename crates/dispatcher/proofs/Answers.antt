@@ -9,6 +9,7 @@ use lib.Dec.{ltb}
 use lib.IntN.{ℤ}
 use lib.ListN.{length, List·getD-eq-default}
 use borrow.Author.Tests.{lt-ltb, le-ltb, ltb-true}
+use Rattle.plan.specs.Ranges.{longest}
 use Rattle.lists.specs.Choice.{pick}
 use Rattle.lists.specs.Places.{nth, upTo}
 use Rattle.plan.specs.declared.Plan.{Plan}
@@ -51,7 +52,7 @@ worker-runs d e =
     omega (arith, ltb-true 0 (restAt d (holder d) (worker d)) (first-found (hasRun (d .rest) (holder d)) (guestIn d (holder d) .tasks) 0 (omega arith)))
 
 -- The age of a job with run left is at most 1,000,000 after the tick.
-age-small : (rest age : List ℕ) (k : ℕ) → k < 128 → 1 ≤ nth rest k → nth (upTo (grown rest) 128 age) k ≤ 1000000
+age-small : (rest age : List ℕ) (k : ℕ) → k < 128 → 1 ≤ nth rest k → nth (upTo (grown rest) 128 age) k ≤ longest
 age-small rest age k h r =
     elim (decLt k (length age)) [
       | yes l ↦ rw (upTo-at (grown rest) 128 age k h l, lt-ltb 0 (nth rest k) (omega arith)) (omega arith)
@@ -117,7 +118,7 @@ module _ (d : Dispatcher) {t : Turn} (e : t ≡ turn d) where
       task-in = rw (guest-is, task-is) (worker-in d busy)
 
       -- The age of the job noted is at most 1,000,000 after the tick.
-      age-in : {age : List ℕ} → age ≡ ageAfter d → placeAt (t .guest) (t .task) < 128 → nth age (placeAt (t .guest) (t .task)) ≤ 1000000
+      age-in : {age : List ℕ} → age ≡ ageAfter d → placeAt (t .guest) (t .task) < 128 → nth age (placeAt (t .guest) (t .task)) ≤ longest
       unfolding ageAfter
       age-in q b = rw q (age-small (d .rest) (d .age) _ b (rw (guest-is, task-is) (worker-runs d busy)))
 
@@ -150,8 +151,8 @@ module _ (d : Dispatcher) {t : Turn} (e : t ≡ turn d) where
 pub record Fits (p : Plan) (t : Turn) (age : List ℕ) : Type 0 where
   pub guest : t .guest < 8
   pub task : t .task < 16
-  pub deadline : deadlineOf (guestAt (p .guests) (t .guest)) (t .task) ≤ 1000000
-  pub ages : nth age (placeAt (t .guest) (t .task)) ≤ 1000000
+  pub deadline : deadlineOf (guestAt (p .guests) (t .guest)) (t .task) ≤ longest
+  pub ages : nth age (placeAt (t .guest) (t .task)) ≤ longest
 
 -- The places and numbers of a finished job are small.
 pub fits : {d : Dispatcher} {p : Plan} {t : Turn} {age : List ℕ} → Ending d p t age → Fits p t age

@@ -27,12 +27,12 @@ unfolding run ranBy
 run-refused d n e = rw (stop 14 _ e) refl
 
 -- A run of too many ticks is refused as 13.
-pub run-long : (d : Dispatcher) (n : ℕ) → stateOk d ≡ true → 1000000 < n → _≡_ {A = Ran} (record { refusal = refused 13 0; done = 0; answer = Silent; state = d }) (run d n)
+pub run-long : (d : Dispatcher) (n : ℕ) → stateOk d ≡ true → longestRun < n → _≡_ {A = Ran} (record { refusal = refused 13 0; done = 0; answer = Silent; state = d }) (run d n)
 unfolding run ranBy
 run-long d n e h = rw (go-on 14 _ e ∙ stop 13 [] (lt-leb n longestRun h)) refl
 
 -- A run that is not refused is the rule's run.
-run-is : (d : Dispatcher) (n : ℕ) → stateOk d ≡ true → n ≤ 1000000 → runFor n d ≡ run d n
+run-is : (d : Dispatcher) (n : ℕ) → stateOk d ≡ true → n ≤ longestRun → runFor n d ≡ run d n
 unfolding run ranBy
 run-is d n e h = rw (go-on 14 _ e ∙ go-on 13 [] (le-leb n longestRun h) ∙ none-left) refl
 
@@ -42,7 +42,7 @@ unfolding lastBy
 last-some zero d h = absurd (omega arith)
 last-some (suc n) d h = refl
 
-module _ {d after : Dispatcher} {n done : ℕ} {t : Turn} (e : stateOk d ≡ true) (h : n ≤ 1000000) (g : Gone d n done t after) where
+module _ {d after : Dispatcher} {n done : ℕ} {t : Turn} (e : stateOk d ≡ true) (h : n ≤ longestRun) (g : Gone d n done t after) where
   -- Where no tick was done, the run reports none.
   pub run-idle : done < 1 → _≡_ {A = Ran} (record { refusal = fine; done = 0; answer = Silent; state = after }) (run d n)
   unfolding lastBy

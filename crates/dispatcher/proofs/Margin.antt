@@ -7,6 +7,7 @@ use native.Mathlib.Omega.{arith}
 use lib.Dec.{ltb}
 use lib.IntN.{ℤ, pos, negsuc, _-ℤ_}
 use lib.Signed.{mag}
+use Rattle.plan.specs.Ranges.{longest}
 use Rattle.dispatcher.specs.Answer.{marginOf}
 use mir.Syntax.{w32}
 use mir.Val.{SFits, toZ, ofZ}
@@ -23,17 +24,17 @@ mag-margin d zero k p q = omega arith
 mag-margin d (suc a) k p q = mag-cond (ltb d (suc a)) _ _ k (omega arith) (omega arith)
 
 -- The subtraction does not wrap.
-pub margin-fits : (d a : ℕ) → d ≤ 1000000 → a ≤ 1000000 → SFits w32 (toZ w32 d -ℤ toZ w32 a)
+pub margin-fits : (d a : ℕ) → d ≤ longest → a ≤ longest → SFits w32 (toZ w32 d -ℤ toZ w32 a)
 margin-fits d a p q =
     rw (toZ-pos w32 {n = d} (omega arith), toZ-pos w32 {n = a} (omega arith))
     (record { sfits = mag-margin d a (2 ^ 31) (omega arith) (omega arith) })
 
 -- The subtraction gives the margin.
-pub margin-read : (d a : ℕ) → d ≤ 1000000 → a ≤ 1000000 → toZ w32 (ofZ w32 (toZ w32 d -ℤ toZ w32 a)) ≡ marginOf d a
+pub margin-read : (d a : ℕ) → d ≤ longest → a ≤ longest → toZ w32 (ofZ w32 (toZ w32 d -ℤ toZ w32 a)) ≡ marginOf d a
 unfolding marginOf
 margin-read d a p q = toZ-ofZ (margin-fits d a p q) ∙ rw (toZ-pos w32 {n = d} (omega arith), toZ-pos w32 {n = a} (omega arith)) refl
 
 -- A margin that is stored is read back as it was.
-pub margin-kept : (z : ℤ) (d a : ℕ) → d ≤ 1000000 → a ≤ 1000000 → z ≡ marginOf d a → toZ w32 (ofZ w32 z) ≡ marginOf d a
+pub margin-kept : (z : ℤ) (d a : ℕ) → d ≤ longest → a ≤ longest → z ≡ marginOf d a → toZ w32 (ofZ w32 z) ≡ marginOf d a
 unfolding marginOf
 margin-kept z d a p q e = rw e (toZ-ofZ {w = w32} {z = pos d -ℤ pos a} (record { sfits = mag-margin d a (2 ^ 31) (omega arith) (omega arith) }))

@@ -34,7 +34,8 @@ answerBy false worked more d = Nobody
 answerBy true false more d = Idled (holderId d)
 answerBy true true true d = Worked (holderId d) (workerNumber d)
 answerBy true true false d =
-    Finished (holderId d) (workerNumber d) (workerAge d) (marginOf (deadlineOf (guestIn d (holder d)) (worker d)) (workerAge d))
+    Finished (holderId d) (workerNumber d) (workerAge d)
+    (marginOf (deadlineOf (guestIn d (holder d)) (worker d)) (workerAge d))
 
 -- the answer of one tick
 unfoldable pub answer : Dispatcher → Answer

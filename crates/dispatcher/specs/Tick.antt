@@ -56,7 +56,8 @@ waitAfter d = upTo (λ k wait. wait - 1) 128 (d .wait)
 
 -- each position moves on and returns to 0 at T
 unfoldable pub positionAfter : Dispatcher → List ℕ
-positionAfter d = upTo (λ k position. pick (ltb (position + 1) (guestIn d k .period)) (position + 1) 0) (d .plan .count) (d .position)
+positionAfter d =
+    upTo (λ k position. pick (ltb (position + 1) (guestIn d k .period)) (position + 1) 0) (d .plan .count) (d .position)
 
 -- the tick is counted: for that guest, among those that it idled away if no task works, or for nobody
 unfoldable pub usageAfter : Dispatcher → List ℕ

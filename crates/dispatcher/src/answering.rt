@@ -1,6 +1,7 @@
 // The answer of a tick, made from what its step noted.
 ghost use mathlib.Core.Path.{_≡_};
 ghost use Prim.Native.Nat.{_≤_};
+ghost use Rattle.plan.specs.Ranges.{longest};
 ghost use Rattle.dispatcher.specs.declared.Dispatcher.{Dispatcher};
 ghost use Rattle.dispatcher.specs.Answer.{marginOf, answer};
 ghost use Rattle.dispatcher.specs.Lent.{Telling, Ending};
@@ -28,7 +29,7 @@ pub fn unfinished(ids: &[u32; 16], n: usize, turn: Turn) -> Answer
 
 // The deadline less the age: both are at most 1,000,000, so the difference is exact.
 fn margin(deadline: u32, age: u32) -> i32
-    requires { ⌜ (deadline ≤ 1000000) × (age ≤ 1000000) ⌝ }
+    requires { ⌜ (deadline ≤ longest) × (age ≤ longest) ⌝ }
     ensures { λ r. ⌜ r ≡ marginOf deadline age ⌝ }
 {
     (deadline as i32) - (age as i32)

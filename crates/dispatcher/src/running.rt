@@ -15,6 +15,9 @@ use plan::Refusal;
 use refusals::examine;
 use steps::steps;
 
+// The longest run, in ticks.
+const LONGEST_RUN: u32 = 1000000;
+
 // A run that did no tick, refused by a number or not.
 fn unmoved(number: u32) -> RunOutcome
     ensures { λ r. ⌜ r ≡ record { number = number; done = 0; answer = Silent } ⌝ }
@@ -38,13 +41,16 @@ pub fn ran(
     ticks: u32,
 ) -> RunOutcome
     ensures { λ r. ⌜
-        Runs (stateOf plan (now (left .entry)) (now (position .entry)) (now (rest .entry)) (now (wait .entry)) (now (age .entry)) (now (usage .entry)))
+        Runs (stateOf plan (now (left .entry)) (now (position .entry)) (now (rest .entry)) (now (wait .entry))
+        (now (age .entry)) (now (usage .entry)))
         ticks
         (record {
           refusal = refused (r .number) 0;
           done = r .done;
           answer = r .answer;
-          state = stateOf plan (now (left .exit)) (now (position .exit)) (now (rest .exit)) (now (wait .exit)) (now (age .exit)) (now (usage .exit));
+          state =
+              stateOf plan (now (left .exit)) (now (position .exit)) (now (rest .exit)) (now (wait .exit))
+              (now (age .exit)) (now (usage .exit));
         })
         ⌝ }
 {
@@ -52,7 +58,7 @@ pub fn ran(
     if !found.ok {
         return unmoved(14);
     }
-    if 1000000 < ticks {
+    if LONGEST_RUN < ticks {
         return unmoved(13);
     }
     let columns = found.columns;

@@ -48,15 +48,15 @@ tick-same (suc n) d h = refl
 
 -- ---- a run
 -- A run of at most 1,000,000 ticks of a state in its ranges has no number.
-run-number : (n : ℕ) (d : Dispatcher) → stateOk d ≡ true → n ≤ 1000000 → refusal (stateOk d orRefuse 14 ∷ leb n longestRun orRefuse 13 ∷ []) ≡ 0
+run-number : (n : ℕ) (d : Dispatcher) → stateOk d ≡ true → n ≤ longestRun → refusal (stateOk d orRefuse 14 ∷ leb n longestRun orRefuse 13 ∷ []) ≡ 0
 run-number n d ok h = go-on 14 _ ok ∙ go-on 13 [] (le-leb n longestRun h) ∙ none-left
 
 -- A longer run of a state in its ranges has 13.
-run-too-long : (n : ℕ) (d : Dispatcher) → stateOk d ≡ true → 1000000 < n → refusal (stateOk d orRefuse 14 ∷ leb n longestRun orRefuse 13 ∷ []) ≡ 13
+run-too-long : (n : ℕ) (d : Dispatcher) → stateOk d ≡ true → longestRun < n → refusal (stateOk d orRefuse 14 ∷ leb n longestRun orRefuse 13 ∷ []) ≡ 13
 run-too-long n d ok h = go-on 14 _ ok ∙ stop 13 [] (lt-leb n longestRun h)
 
 -- A run of at most 1,000,000 ticks of a state in its ranges is the rule's run.
-pub run-fine : (n : ℕ) (d : Dispatcher) → stateOk d ≡ true → n ≤ 1000000 → run d n ≡ runFor n d
+pub run-fine : (n : ℕ) (d : Dispatcher) → stateOk d ≡ true → n ≤ longestRun → run d n ≡ runFor n d
 unfolding run ranBy
 run-fine n d ok h = ap (λ (x : ℕ). ranBy x d n) (run-number n d ok h)
 
@@ -64,7 +64,7 @@ run-fine n d ok h = ap (λ (x : ℕ). ranBy x d n) (run-number n d ok h)
 pub run-13 :
     (n : ℕ) (d : Dispatcher)
     → stateOk d ≡ true
-    → 1000000 < n
+    → longestRun < n
     → run d n ≡ record { refusal = refused 13 0; done = 0; answer = Silent; state = d }
 unfolding run ranBy
 run-13 n d ok h = ap (λ (x : ℕ). ranBy x d n) (run-too-long n d ok h)

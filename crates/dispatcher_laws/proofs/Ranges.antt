@@ -28,7 +28,7 @@ server-by false c t l p l' p' in-it past e =
 pub record JobWithin (charged every rest wait age : ℕ) : Type 0 where
   pub work : rest ≤ charged
   pub due : wait ≤ every
-  pub old : age ≤ 1000000
+  pub old : age ≤ longest
 
 -- A task's three numbers stay in their ranges if they do for a task, and stay 0 past the tasks.
 pub job-by :

@@ -7,6 +7,7 @@ use native.Mathlib.Omega.{arith}
 use lib.Dec.{ltb}
 use lib.ListN.{set}
 use lib.Seq.{getD-set-other}
+use Rattle.plan.specs.Ranges.{longest}
 use Rattle.lists.specs.Places.{nth}
 use Rattle.lists.specs.Search.{firstFrom}
 use Rattle.dispatcher.specs.declared.Dispatcher.{Dispatcher}
@@ -33,7 +34,7 @@ module _ (d : Dispatcher) (H : Shaped d) (g i : ℕ) (in-plan : g < d .plan .cou
   waited j l = wait-falls d H g j (omega (arith, H .few)) (omega (arith, H .tasks g in-plan))
 
   -- An unfinished job's age rises.
-  older : 0 < restAt d g i → ageAt (next d) g i ≡ min (ageAt d g i + 1) 1000000
+  older : 0 < restAt d g i → ageAt (next d) g i ≡ min (ageAt d g i + 1) longest
   older h = age-rises d H g i (omega (arith, H .few)) (omega (arith, H .tasks g in-plan)) h
 
   -- Where another guest has the tick, no run left changes here.

@@ -114,12 +114,12 @@ module _ (d : Dispatcher) (H : Shaped d) where
   wait-falls g j p q = upTo-at (λ k wait. wait - 1) 128 (d .wait) (placeAt g j) (omega arith) (omega (arith, H .wait-long))
 
   -- An unfinished job's age rises.
-  pub age-rises : (g j : ℕ) → g < 8 → j < 16 → 0 < restAt d g j → ageAt (next d) g j ≡ min (ageAt d g j + 1) 1000000
+  pub age-rises : (g j : ℕ) → g < 8 → j < 16 → 0 < restAt d g j → ageAt (next d) g j ≡ min (ageAt d g j + 1) longest
   unfolding next ageAfter
   age-rises g j p q r =
       upTo-at (λ k age. pick (ltb 0 (nth (d .rest) k)) (min (age + 1) longest) age) 128 (d .age) (placeAt g j) (omega arith)
       (omega (arith, H .age-long))
-      ∙ ap (λ (b : Bool). pick b (min (ageAt d g j + 1) 1000000) (ageAt d g j)) (lt-ltb 0 (restAt d g j) r)
+      ∙ ap (λ (b : Bool). pick b (min (ageAt d g j + 1) longest) (ageAt d g j)) (lt-ltb 0 (restAt d g j) r)
 
 -- ---- where the tick is counted
 module _ (d : Dispatcher) where

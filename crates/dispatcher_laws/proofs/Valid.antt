@@ -124,10 +124,10 @@ module _ (d : Dispatcher) where
   wait-le k t = ⊎-elim (λ e. omega arith) (λ e. omega arith) (upTo-get (λ k wait. wait - 1) 128 (d .wait) (placeAt k t))
 
   -- No age passes 1,000,000.
-  age-within : (k t : ℕ) → ageAt d k t ≤ 1000000 → ageAt (next d) k t ≤ 1000000
+  age-within : (k t : ℕ) → ageAt d k t ≤ longest → ageAt (next d) k t ≤ longest
   unfolding next ageAfter
   age-within k t h =
-      ⊎-elim (λ e. rw e (pick-le (ltb 0 (restAt d k t)) _ _ 1000000 (omega arith) h)) (λ e. omega arith)
+      ⊎-elim (λ e. rw e (pick-le (ltb 0 (restAt d k t)) _ _ longest (omega arith) h)) (λ e. omega arith)
       (upTo-get (λ k age. pick (ltb 0 (nth (d .rest) k)) (min (age + 1) longest) age) 128 (d .age) (placeAt k t))
 
   -- Where there is no job the age stands.

@@ -5,6 +5,7 @@ use mathlib.Core.List.{List}
 use Prim.Native.Nat.{ℕ, suc, _-_, _<_, min}
 use native.Mathlib.Nat.{zero-add}
 use native.Mathlib.Omega.{arith}
+use Rattle.plan.specs.Ranges.{longest}
 use Rattle.plan.specs.declared.Plan.{Plan}
 use Rattle.plan.specs.Records.{guestAt, everyOf}
 use Rattle.plan.specs.Order.{planRefusal}
@@ -83,7 +84,7 @@ module _ (p : Plan) (order : planRefusal p .number ≡ 0) (id number : ℕ) wher
     pub age-since :
         0 < restAt (play ds (released p id number cs)) (placeOf p id) (number - 1)
         → ageAt (play ds (released p id number cs)) (placeOf p id) (number - 1)
-        ≡ min (ticksIn ds (released p id number cs)) 1000000
+        ≡ min (ticksIn ds (released p id number cs)) longest
     age-since = since-then p (play cs (start p)) (sound-reached p order cs) id number taken-it ds none .age
 
   -- Before any is taken, a task has no job and no wait.

@@ -5,6 +5,7 @@ use mathlib.Core.List.{List, [], _∷_, _++_}
 use Prim.Native.Nat.{ℕ, suc, _+_, _-_, _≤_, _<_, min}
 use native.Mathlib.Omega.{arith}
 use lib.ListN.{length, length-append}
+use Rattle.plan.specs.Ranges.{longest}
 use Rattle.plan.specs.declared.Plan.{Plan}
 use Rattle.plan.specs.Records.{guestAt}
 use Rattle.dispatcher.specs.declared.Dispatcher.{Dispatcher}
@@ -26,7 +27,7 @@ use Rattle.dispatcher_laws.proofs.TaskTick.{task-tick}
 -- The state m ticks after a taken release of task i of guest g.
 pub record Since (p : Plan) (g i m : ℕ) (d : Dispatcher) : Type 0 where
   pub waits : waitAt d g i ≡ everyIn p g i - m
-  pub age : 0 < restAt d g i → ageAt d g i ≡ min m 1000000
+  pub age : 0 < restAt d g i → ageAt d g i ≡ min m longest
 
 -- The state before any release of task i of guest g is taken.
 pub record Never (g i : ℕ) (d : Dispatcher) : Type 0 where

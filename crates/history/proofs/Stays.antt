@@ -15,7 +15,7 @@ use Rattle.dispatcher.specs.Valid.{stateOk}
 use Rattle.dispatcher.specs.Tick.{next}
 use Rattle.dispatcher.specs.Run.{ticks}
 use Rattle.dispatcher.specs.Release.{release}
-use Rattle.dispatcher.specs.Entries.{run}
+use Rattle.dispatcher.specs.Entries.{run, longestRun}
 use Rattle.history.specs.Calls.{Call, releasing, ticking, running, sheeting, start, after, play, times, ticksOf, callNumber}
 use Rattle.history.specs.Runs.{RunIs}
 use Rattle.history.proofs.Ticks.{singles-length, run-by}
@@ -47,7 +47,7 @@ not-14 (releasing id task) d ok e = not-number d id task ok (sym (release-number
 not-14 ticking d ok e = omega (arith, tick-fine d ok)
 not-14 (sheeting pairs room) d ok e = sheet-not-14 d pairs room ok e
 not-14 (running n) d ok e =
-    elim (decLe n 1000000) [
+    elim (decLe n longestRun) [
       | yes h ↦ omega (arith, run-by n d ok h .fine)
       | no h ↦ omega (arith, ap (λ (r : Ran). r .refusal .number) (run-13 n d ok (omega arith)))
     ]
@@ -68,7 +68,7 @@ times-ticks zero d ok = refl
 times-ticks (suc n) d ok = ap (play (times n)) (tick-state d ok) ∙ times-ticks n (next d) (ok-next d ok)
 
 -- A run of at most 1,000,000 ticks, in a state in its ranges, is that many single ticks.
-pub run-is-ticks : (n : ℕ) (d : Dispatcher) → stateOk d ≡ true → n ≤ 1000000 → RunIs n d
+pub run-is-ticks : (n : ℕ) (d : Dispatcher) → stateOk d ≡ true → n ≤ longestRun → RunIs n d
 run-is-ticks n d ok h =
     let R = run-by n d ok h in
     record {

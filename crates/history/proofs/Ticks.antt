@@ -18,7 +18,7 @@ use Rattle.dispatcher.specs.Valid.{stateOk}
 use Rattle.dispatcher.specs.Tick.{holder, isHeld, worker, isWorked, next}
 use Rattle.dispatcher.specs.Answer.{answerBy, answer, finishes}
 use Rattle.dispatcher.specs.Run.{ticks, ranTo, runFrom, runFor}
-use Rattle.dispatcher.specs.Entries.{tick, run}
+use Rattle.dispatcher.specs.Entries.{tick, run, longestRun}
 use Rattle.history.specs.Calls.{listed, singles}
 use Rattle.dispatcher_laws.proofs.Entries.{tick-answer, tick-state, run-fine, run-13}
 use Rattle.dispatcher_laws.proofs.Valid.{ok-next}
@@ -176,14 +176,14 @@ runs-by n d ok =
     }
 
 -- A run of at most 1,000,000 ticks is its single ticks.
-pub run-by : (n : ℕ) (d : Dispatcher) → stateOk d ≡ true → n ≤ 1000000 → RunBy n d (run d n)
+pub run-by : (n : ℕ) (d : Dispatcher) → stateOk d ≡ true → n ≤ longestRun → RunBy n d (run d n)
 run-by n d ok h = rw (run-fine n d ok h) (runs-by n d ok)
 
 -- The state after a run, refused or not, is that of the ticks that it reports.
 pub run-state : (n : ℕ) (d : Dispatcher) → stateOk d ≡ true → run d n .state ≡ ticks (run d n .done) d
 unfolding ticks
 run-state n d ok =
-    elim (decLe n 1000000) [
+    elim (decLe n longestRun) [
       | yes h ↦ run-by n d ok h .state
       | no h ↦ rw (run-13 n d ok (omega arith)) refl
     ]

@@ -13,7 +13,7 @@ use Rattle.dispatcher.specs.declared.Answer.the-variants.{Silent}
 use Rattle.dispatcher.specs.declared.Ran.{Ran}
 use Rattle.dispatcher.specs.Valid.{stateOk}
 use Rattle.dispatcher.specs.Answer.{answer, finishes}
-use Rattle.dispatcher.specs.Entries.{run}
+use Rattle.dispatcher.specs.Entries.{run, longestRun}
 use Rattle.history.specs.Calls.{Call, releasing, ticking, running, sheeting, after, play, singles, ticksOf, ticksIn, answers, answerOf}
 use Rattle.history.specs.Share.{answerAt}
 use Rattle.history.specs.Finished.{HandedBack}
@@ -38,7 +38,7 @@ finish-last ticking d m ok h e =
     let z : m ≡ 0 = omega arith in
     (omega arith, rw (one, z, singles-next 0 d ok) (tick-answer d ok))
 finish-last (running n) d m ok h e =
-    elim (decLe n 1000000) [
+    elim (decLe n longestRun) [
       | no l ↦ absurd (omega (arith, ap (λ (r : Ran). r .done) (run-13 n d ok (omega arith))))
       | yes l ↦
           (let R = run-by n d ok l in
@@ -95,7 +95,7 @@ told-last ticking d ok e =
     let one = tick-one d ok in
     (0, omega arith, rw (one, singles-next 0 d ok) (sym (tick-answer d ok)))
 told-last (running n) d ok e =
-    elim (decLe n 1000000) [
+    elim (decLe n longestRun) [
       | no l ↦ absurd (false≢true (sym (ap (λ (r : Ran). finishes (r .answer)) (run-13 n d ok (omega arith))) ∙ e))
       | yes l ↦ by (run-by n d ok l) (run d n .done) refl
     ]

@@ -14,6 +14,7 @@ pub use find::has_task;
 pub use find::look_up;
 pub use find::place_of;
 pub use guests::new_id;
+pub use ranges::LONGEST;
 pub use ranges::head_ok;
 pub use ranges::tasks_ok;
 

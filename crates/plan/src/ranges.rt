@@ -6,7 +6,7 @@ ghost use Rattle.lists.specs.All.{allTo};
 ghost use Rattle.plan.specs.Ranges.{mostTasks, headOk, taskOk};
 
 // The longest period and run, in ticks.
-const LONGEST: u32 = 1000000;
+pub const LONGEST: u32 = 1000000;
 
 // The most tasks in a guest.
 const MOST_TASKS: u32 = 16;

@@ -2,7 +2,7 @@
 use mathlib.Core.Path.{_≡_, refl, sym, _∙_}
 use mathlib.Core.Bool.{true, false}
 use mathlib.Core.List.{List, []}
-use Prim.Native.Nat.{ℕ, _-_, _≤_, _<_}
+use Prim.Native.Nat.{ℕ, _^_, _-_, _≤_, _<_}
 use native.Mathlib.Omega.{arith}
 use lib.Dec.{leb, eqb}
 use borrow.Author.Tests.{lt-ltb, le-ltb, le-leb, lt-leb, eq-eqb, ne-eqb}
@@ -102,5 +102,5 @@ unfolding placeOf
 place-in {p} id c e = e ∙ first-ext _ _ (p .count) 0 (λ z l. rw (c .ids .holds z (omega arith)) refl)
 
 -- The charged run of a task in its ranges fits.
-pub charged-fits : (g : Guest) (i : ℕ) → tasksOk g ≡ true → i < g .tasks → g .charge < 65536 → charged g i < 4294967296
+pub charged-fits : (g : Guest) (i : ℕ) → tasksOk g ≡ true → i < g .tasks → g .charge < 2 ^ 16 → charged g i < 2 ^ 32
 charged-fits g i e h c = charged-most (runOf g i) (g .charge) (runs-small g e i h) c

@@ -2,7 +2,7 @@
 use mathlib.Core.Path.{_≡_, refl, sym, _∙_}
 use mathlib.Core.Bool.{Bool, true, false, _&&_}
 use mathlib.Core.List.{List}
-use Prim.Native.Nat.{ℕ, zero, suc, _≤_, _<_}
+use Prim.Native.Nat.{ℕ, _^_, zero, suc, _≤_, _<_}
 use native.Mathlib.Omega.{arith}
 use lib.Dec.{leb, eqb}
 use borrow.Author.Tests.{lt-leb, ne-eqb}
@@ -10,7 +10,7 @@ use Rattle.lists.specs.Choice.{pick}
 use Rattle.lists.specs.All.{allTo}
 use Rattle.plan.specs.declared.Guest.{Guest}
 use Rattle.plan.specs.Records.{runOf, everyOf, deadlineOf}
-use Rattle.plan.specs.Ranges.{mostTasks, guestOk, tasksOk}
+use Rattle.plan.specs.Ranges.{mostTasks, guestOk, tasksOk, longest}
 use Rattle.plan.specs.Charge.{chargedRun}
 use Rattle.arrays.specs.Ranges.{serverOk, noServer, jobOk, noJob}
 use Rattle.refusals.specs.Rows.{jobIn, blankAt, guestIsOk, rowIsBlank}
@@ -24,7 +24,9 @@ leb-zero zero = refl
 leb-zero (suc x) = lt-leb (suc x) 0 (omega arith) ∙ sym (ne-eqb (suc x) 0 (λ e. omega arith))
 
 -- The charged run that the code takes as a bound is small.
-pub charged-small : (used : Bool) (run charge : ℕ) → (used ≡ true → run ≤ 1000000) → charge < 65536 → {x : ℕ} → x ≡ pick used run 0 → chargedRun x charge < 4294967296
+pub charged-small : (used : Bool) (run charge : ℕ) → (used ≡ true → run ≤ longest) → charge < 2 ^ 16 → {x : ℕ}
+    → x ≡ pick used run 0
+    → chargedRun x charge < 2 ^ 32
 charged-small true run charge h c {x} e = charged-most x charge (omega (arith, h refl)) c
 charged-small false run charge h c {x} e = charged-most x charge (omega arith) c
 
@@ -34,7 +36,7 @@ bound-is true run charge e f g = rw (g, f, e) refl
 bound-is false run charge e f g = g
 
 -- The bounds of a task, or 0, are its test.
-pub job-is : (used : Bool) (charged every rest wait age : ℕ) {a b c : ℕ} → a ≡ pick used charged 0 → b ≡ pick used every 0 → c ≡ pick used 1000000 0
+pub job-is : (used : Bool) (charged every rest wait age : ℕ) {a b c : ℕ} → a ≡ pick used charged 0 → b ≡ pick used every 0 → c ≡ pick used longest 0
     → (leb rest a && leb wait b && leb age c) ≡ pick used (jobOk charged every rest wait age) (noJob rest wait age)
 job-is true charged every rest wait age e f g = rw (e, f, g) refl
 job-is false charged every rest wait age e f g = rw (e, f, g, leb-zero rest, leb-zero wait, leb-zero age) refl
@@ -64,6 +66,6 @@ unfolding rowIsBlank
 blank-is k left position rest wait age i e p q = rw (all-end (blankAt rest wait age k) i 16 e p q) refl
 
 -- The runs of tasks in their ranges are small.
-pub runs-small : (g : Guest) → tasksOk g ≡ true → (t : ℕ) → t < g .tasks → runOf g t ≤ 1000000
+pub runs-small : (g : Guest) → tasksOk g ≡ true → (t : ℕ) → t < g .tasks → runOf g t ≤ longest
 unfolding tasksOk
 runs-small g e t h = task-says (runOf g t) (everyOf g t) (deadlineOf g t) (all-at _ (g .tasks) t h e) .run-short

@@ -19,7 +19,8 @@ use Rattle.refusals.specs.Rows.{guestIsOk, rowIsBlank}
 -- guest k of the plan: its id is new, and it is in its ranges
 abbrev pub goes : Plan → (left position rest wait age : List ℕ) → ℕ → Bool
 goes p left position rest wait age k =
-    newId (λ j. guestAt (p .guests) j .id) k && guestIsOk (guestAt (p .guests) k) k (nth left k) (nth position k) rest wait age
+    newId (λ j. guestAt (p .guests) j .id) k
+    && guestIsOk (guestAt (p .guests) k) k (nth left k) (nth position k) rest wait age
 
 -- whether row k, if past the n guests, is blank
 abbrev pub pastOk : (n : ℕ) (left position rest wait age : List ℕ) → ℕ → Bool
@@ -29,7 +30,8 @@ pastOk n left position rest wait age k = pick (ltb k n) true (rowIsBlank k (nth 
 unfoldable pub passes : Plan → (left position rest wait age : List ℕ) → Bool
 passes p left position rest wait age =
     within 1 mostGuests (p .count)
-    && (allTo (goes p left position rest wait age) (p .count) && allTo (pastOk (p .count) left position rest wait age) mostGuests)
+    && (allTo (goes p left position rest wait age) (p .count)
+    && allTo (pastOk (p .count) left position rest wait age) mostGuests)
 
 -- the outcome of the check
 pub record Examined (p : Plan) (left position rest wait age : List ℕ) (r : Checked) : Type 0 where

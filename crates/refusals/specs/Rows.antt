@@ -17,7 +17,8 @@ use Rattle.arrays.specs.Ranges.{serverOk, noServer, jobOk, noJob}
 abbrev pub jobIn : (rest wait age run every : List ℕ) (charge k many t : ℕ) → Bool
 jobIn rest wait age run every charge k many t =
     pick (ltb t many)
-    (jobOk (chargedRun (nth run t) charge) (nth every t) (nth rest (placeAt k t)) (nth wait (placeAt k t)) (nth age (placeAt k t)))
+    (jobOk (chargedRun (nth run t) charge) (nth every t) (nth rest (placeAt k t)) (nth wait (placeAt k t))
+    (nth age (placeAt k t)))
     (noJob (nth rest (placeAt k t)) (nth wait (placeAt k t)) (nth age (placeAt k t)))
 
 -- whether the three numbers of place t of row k, past the guests, are 0
@@ -28,7 +29,8 @@ blankAt rest wait age k t = noJob (nth rest (placeAt k t)) (nth wait (placeAt k 
 unfoldable pub guestIsOk : Guest → (k left position : ℕ) (rest wait age : List ℕ) → Bool
 guestIsOk g k left position rest wait age =
     (guestOk g && tasksOk g)
-    && (serverOk (g .capacity) (g .period) left position && allTo (jobIn rest wait age (g .run) (g .every) (g .charge) k (g .tasks)) mostTasks)
+    && (serverOk (g .capacity) (g .period) left position
+    && allTo (jobIn rest wait age (g .run) (g .every) (g .charge) k (g .tasks)) mostTasks)
 
 -- whether row k, past the guests, is blank
 unfoldable pub rowIsBlank : (k left position : ℕ) (rest wait age : List ℕ) → Bool

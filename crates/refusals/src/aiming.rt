@@ -60,7 +60,8 @@ pub fn aim_by_id(
     task: u32,
 ) -> Aim
     ensures { λ r. ⌜
-        Aims plan (now (left .entry)) (now (position .entry)) (now (rest .entry)) (now (wait .entry)) (now (age .entry)) guest task r
+        Aims plan (now (left .entry)) (now (position .entry)) (now (rest .entry)) (now (wait .entry)) (now (age .entry))
+        guest task r
         ⌝ }
 {
     let found = examine(plan, left, position, rest, wait, age);

@@ -10,6 +10,7 @@ ghost use Rattle.plan.specs.Charge.{chargedRun};
 ghost use Rattle.arrays.specs.Ranges.{jobOk, noJob};
 ghost use Rattle.refusals.specs.Rows.{jobIn, guestIsOk, rowIsBlank};
 use plan::Guest;
+use plan::LONGEST;
 
 // A task's bound, or 0 at a place past the tasks: a select and no branch, so that the loop below takes several places
 // at a time.
@@ -34,7 +35,7 @@ fn job_ok(used: bool, run: u32, charge: u16, every: u32, rest: u32, wait: u32, a
 {
     (rest <= run_bound(used, run, charge))
         & (wait <= bound(used, every))
-        & (age <= bound(used, 1000000))
+        & (age <= bound(used, LONGEST))
 }
 
 // The 16 places of guest k, which has `many` tasks. No early way out: a state in its ranges is tested whole anyway.
@@ -50,7 +51,11 @@ fn jobs_ok(
 ) -> bool
     requires { ⌜ (k < 8) × ((t : ℕ) → t < many → nth (now run) t ≤ longest) ⌝ }
     ensures { λ r. ⌜
-        r ≡ allTo (jobIn (now (rest .entry)) (now (wait .entry)) (now (age .entry)) (now (run .entry)) (now (every .entry)) charge k many) mostTasks
+        r
+        ≡ allTo
+        (jobIn (now (rest .entry)) (now (wait .entry)) (now (age .entry)) (now (run .entry)) (now (every .entry))
+        charge k many)
+        mostTasks
         ⌝ }
 {
     let base = k * 16;

@@ -25,7 +25,8 @@ fn guests_ok(
     ensures { λ r. ⌜
         (r .ok
         ≡ allTo
-        (goes plan (now (left .entry)) (now (position .entry)) (now (rest .entry)) (now (wait .entry)) (now (age .entry)))
+        (goes plan (now (left .entry)) (now (position .entry)) (now (rest .entry)) (now (wait .entry))
+        (now (age .entry)))
         (plan .count))
         × ColumnsOf (plan .guests) (plan .count) (r .columns)
         ⌝ }
@@ -65,7 +66,8 @@ fn blanks_ok(
     ensures { λ r. ⌜
         r
         ≡ allTo
-        (pastOk n (now (left .entry)) (now (position .entry)) (now (rest .entry)) (now (wait .entry)) (now (age .entry)))
+        (pastOk n (now (left .entry)) (now (position .entry)) (now (rest .entry)) (now (wait .entry))
+        (now (age .entry)))
         mostGuests
         ⌝ }
 {
@@ -103,7 +105,8 @@ pub fn examine(
     age: &[u32; 128],
 ) -> Checked
     ensures { λ r. ⌜
-        Examined plan (now (left .entry)) (now (position .entry)) (now (rest .entry)) (now (wait .entry)) (now (age .entry)) r
+        Examined plan (now (left .entry)) (now (position .entry)) (now (rest .entry)) (now (wait .entry))
+        (now (age .entry)) r
         ⌝ }
 {
     let n = plan.count as usize;

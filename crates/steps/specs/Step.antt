@@ -1,5 +1,5 @@
--- Ticks over lent arrays: what is lent, and what each array holds after one and after several. Inner: the rule of a tick
--- (`dispatcher/specs/Tick`) does not name this.
+-- Ticks over lent arrays: what is lent, and what each array holds after one and after several. Inner: the rule of a
+-- tick (`dispatcher/specs/Tick`) does not name this.
 use mathlib.Core.Path.{_≡_}
 use mathlib.Core.List.{List}
 use Prim.Native.Nat.{ℕ, _+_, _-_, _*_, _≤_, _<_}
@@ -18,13 +18,16 @@ pub record Small (n : ℕ) (tasks : List ℕ) : Type 0 where
   pub guests : n ≤ 8
   pub each : (k : ℕ) → k < n → nth tasks k ≤ 16
 
--- what serving the arrays gives: nobody has the tick; the first guest with capacity left, k, idles it away; or its first
--- task with run left, t, has it
+-- what serving the arrays gives: nobody has the tick; the first guest with capacity left, k, idles it away; or its
+-- first task with run left, t, has it
 pub data Serves (n : ℕ) (tasks left rest : List ℕ) : (left' rest' : List ℕ) → Turn → Type 0 where
-  nobody : {k : ℕ} → k ≡ firstFrom (hasLeft left) n 0 → n ≤ k → Serves n tasks left rest left rest (record { guest = k; task = 0; had = 0 })
-  idles : {k t : ℕ} → k ≡ firstFrom (hasLeft left) n 0 → k < n → t ≡ firstFrom (hasRun rest k) (nth tasks k) 0 → nth tasks k ≤ t
+  nobody : {k : ℕ} → k ≡ firstFrom (hasLeft left) n 0 → n ≤ k
+      → Serves n tasks left rest left rest (record { guest = k; task = 0; had = 0 })
+  idles : {k t : ℕ} → k ≡ firstFrom (hasLeft left) n 0 → k < n → t ≡ firstFrom (hasRun rest k) (nth tasks k) 0
+      → nth tasks k ≤ t
       → Serves n tasks left rest (set left k (nth left k - 1)) rest (record { guest = k; task = t; had = 0 })
-  works : {k t : ℕ} → k ≡ firstFrom (hasLeft left) n 0 → k < n → t ≡ firstFrom (hasRun rest k) (nth tasks k) 0 → t < nth tasks k
+  works : {k t : ℕ} → k ≡ firstFrom (hasLeft left) n 0 → k < n → t ≡ firstFrom (hasRun rest k) (nth tasks k) 0
+      → t < nth tasks k
       → Serves n tasks left rest (set left k (nth left k - 1)) (set rest (placeAt k t) (nth rest (placeAt k t) - 1))
       (record { guest = k; task = t; had = nth rest (placeAt k t) })
 
@@ -49,7 +52,8 @@ pub record Steps (n : ℕ) (capacities periods tasks : List ℕ) (b a : Numbers)
 -- who had the last
 pub data StepsTo (n : ℕ) (capacities periods tasks : List ℕ) (b : Numbers) : (done : ℕ) → Numbers → Turn → Type 0 where
   none : StepsTo n capacities periods tasks b 0 b (record { guest = 0; task = 0; had = 0 })
-  more : {done : ℕ} {m a : Numbers} {t u : Turn} → StepsTo n capacities periods tasks b done m t → (t .had ≡ 1 → ⊥) → Steps n capacities periods tasks m a u
+  more : {done : ℕ} {m a : Numbers} {t u : Turn} → StepsTo n capacities periods tasks b done m t → (t .had ≡ 1 → ⊥)
+      → Steps n capacities periods tasks m a u
       → StepsTo n capacities periods tasks b (done + 1) a u
 
 -- ticks until one finishes a job or their number is used up

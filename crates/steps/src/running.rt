@@ -21,8 +21,22 @@ pub fn steps(
     requires { ⌜ Small n (now tasks) ⌝ }
     ensures { λ r. ⌜
         StepsOn n (now (capacities .entry)) (now (periods .entry)) (now (tasks .entry))
-        (record { left = now (left .entry); position = now (position .entry); rest = now (rest .entry); wait = now (wait .entry); age = now (age .entry); usage = now (usage .entry) })
-        (record { left = now (left .exit); position = now (position .exit); rest = now (rest .exit); wait = now (wait .exit); age = now (age .exit); usage = now (usage .exit) })
+        (record {
+          left = now (left .entry);
+          position = now (position .entry);
+          rest = now (rest .entry);
+          wait = now (wait .entry);
+          age = now (age .entry);
+          usage = now (usage .entry);
+        })
+        (record {
+          left = now (left .exit);
+          position = now (position .exit);
+          rest = now (rest .exit);
+          wait = now (wait .exit);
+          age = now (age .exit);
+          usage = now (usage .exit);
+        })
         ticks r
         ⌝ }
 {

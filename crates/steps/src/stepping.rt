@@ -12,7 +12,9 @@ use arrays::worker;
 // The first guest with capacity left has the tick, inside it the first task with run left: each loses one.
 fn serve(left: &mut [u32; 8], rest: &mut [u32; 128], tasks: &[u32; 16], n: usize) -> Turn
     requires { ⌜ Small n (now tasks) ⌝ }
-    ensures { λ r. ⌜ Serves n (now (tasks .entry)) (now (left .entry)) (now (rest .entry)) (now (left .exit)) (now (rest .exit)) r ⌝ }
+    ensures { λ r. ⌜
+        Serves n (now (tasks .entry)) (now (left .entry)) (now (rest .entry)) (now (left .exit)) (now (rest .exit)) r
+        ⌝ }
 {
     let k = holder(left, n);
     if n <= k {
@@ -60,8 +62,22 @@ pub fn step(
     ensures { λ r. ⌜
         Steps n
         (now (capacities .entry)) (now (periods .entry)) (now (tasks .entry))
-        (record { left = now (left .entry); position = now (position .entry); rest = now (rest .entry); wait = now (wait .entry); age = now (age .entry); usage = now (usage .entry) })
-        (record { left = now (left .exit); position = now (position .exit); rest = now (rest .exit); wait = now (wait .exit); age = now (age .exit); usage = now (usage .exit) })
+        (record {
+          left = now (left .entry);
+          position = now (position .entry);
+          rest = now (rest .entry);
+          wait = now (wait .entry);
+          age = now (age .entry);
+          usage = now (usage .entry);
+        })
+        (record {
+          left = now (left .exit);
+          position = now (position .exit);
+          rest = now (rest .exit);
+          wait = now (wait .exit);
+          age = now (age .exit);
+          usage = now (usage .exit);
+        })
         r
         ⌝ }
 {

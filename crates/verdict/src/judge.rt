@@ -121,11 +121,13 @@ fn guest_accepted(g: Guest, capacities: &[u32; 16], periods: &[u32; 16], k: usiz
 // Whether all guests are fitted and all tasks met, one guest after the other.
 pub fn all_accepted(plan: Plan, capacities: &[u32; 16], periods: &[u32; 16]) -> bool
     requires { ⌜
-        ((k : ℕ) → k < plan .count → Seated (guestAt (plan .guests) k) (now capacities) (now periods) k) × (plan .count ≤ 8)
+        ((k : ℕ) → k < plan .count → Seated (guestAt (plan .guests) k) (now capacities) (now periods) k)
+        × (plan .count ≤ 8)
         ⌝ }
     ensures { λ r. ⌜
         r
-        ≡ allTo (λ k. acceptedUnder (guestsTake (now (capacities .entry)) (now (periods .entry)) k) (guestAt (plan .guests) k))
+        ≡ allTo
+        (λ k. acceptedUnder (guestsTake (now (capacities .entry)) (now (periods .entry)) k) (guestAt (plan .guests) k))
         (plan .count)
         ⌝ }
 {
