@@ -1,4 +1,4 @@
-/* Prints the bytes of stack that each export takes, on a full plan: 8 guests of 16 tasks.
+/* Prints the bytes of stack that each export takes, on a full plan: 8 guests of 16 tasks, every second one bound.
  *
  * A call is made on a thread whose stack was painted first. What it takes is
  * - its arguments by value, which the caller puts on the stack, and
@@ -101,22 +101,32 @@ static void fail(const char *why) {
     exit(2);
 }
 
+/* Gives a guest this period, and binds every second of its tasks, the last one included. */
+static void bind_tasks(CsGuest *guest, uint32_t period) {
+    guest->period = period;
+    for (uint32_t t = 1; t < TASKS; t += 2) {
+        guest->marks |= CS_MARK(t + 1);
+        guest->every[t] = guest->deadline[t] = 1000000 - 1000000 % period;
+    }
+}
+
 /* Guests whose capacities leave room for all, with tasks that need all of their recurrences' turns. */
 static void make_plan(void) {
     plan.count = GUESTS;
     for (uint32_t g = 0; g < GUESTS; g++) {
         CsGuest *guest = &plan.guests[g];
-        *guest = (CsGuest){.id = g + 1, .capacity = 1000, .period = 10000 + 997 * g, .tasks = TASKS, .charge = 1};
+        *guest = (CsGuest){.id = g + 1, .capacity = 1000, .tasks = TASKS, .charge = 1};
         for (uint32_t t = 0; t < TASKS; t++) {
             guest->run[t] = 20 + t;
             guest->every[t] = guest->deadline[t] = 900000 + 6250 * t;
         }
+        bind_tasks(guest, 10000 + 997 * g);
         if (cs_write(*guest, g, bytes + CS_BLOCK * g, CS_BLOCK).number != 0) {
             fail("a block of the full plan is refused");
         }
     }
     wide = plan;
-    wide.guests[GUESTS - 1].period = 1000000;
+    bind_tasks(&wide.guests[GUESTS - 1], 1000000);
     if (cs_accept(plan).verdict != 1 || cs_smallest_capacity(wide, GUESTS).verdict != 1) {
         fail("the full plan is not accepted");
     }

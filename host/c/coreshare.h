@@ -1,19 +1,19 @@
 /* The core-sharing library's C interface, for x86-64. Link libcoreshare.a, which `rt staticlib coreshare` writes.
  *
  * On one core, up to 8 guests share the time, each with up to 16 tasks. Every rule stands in document 01,
- * as the requests P1 to P6 of document 02 change it.
+ * as the requests P1 to P8 of document 02 change it.
  *
  * - Records and states cross by value, and bytes are lent for the call alone: the library keeps no pointer and
  *   no state of its own, so calls from several threads need no lock.
  * - No call asks anything of its input: any value of any field is taken, and what is out of range is
- *   refused by its number. Number 0 is no refusal; the place of a refusal 7 to 15 is 0.
+ *   refused by its number. Number 0 is no refusal; the place of a refusal 7 to 15, or 17, is 0.
  * - A pointer must be good for its length, for the whole call, and not be NULL even where the length is 0. The library
  *   does not test that, and promises nothing where it does not hold.
  * - A CsGuest is 212 bytes, a CsPlan 1,700, a CsDispatcher 3,440 and aligned to 8. They cross on the stack, there and
  *   back; docs/FIGURES.md has the stack that each call takes, as measured.
- * - CsGuest has two bytes of padding after charge, CsDispatcher four before usage, CsTicked four at its end. The library
- *   neither reads nor promises them: compare records and states field by field, not by memcmp, and clear them before
- *   their bytes are sent anywhere.
+ * - CsDispatcher has four bytes of padding before usage, CsTicked four at its end. The library neither reads nor
+ *   promises them: compare states field by field, not by memcmp, and clear them before their bytes are sent anywhere.
+ * - The marks of a CsGuest stand where two bytes of padding were: a host that left those as they came sets them now.
  * - Like any compiled C, the library may call memcpy, memmove, memset and memcmp, also where there is no C library.
  */
 #ifndef CORESHARE_H
@@ -29,15 +29,23 @@ extern "C" {
 /* The bytes of one guest's block. */
 #define CS_BLOCK 512
 
-/* One guest's record. Entries past the number of tasks are not looked at. */
+/* The mark of a task, by its number from 1 to 16. */
+#define CS_MARK(task) ((uint16_t)(1u << ((task) - 1)))
+
+/* One guest's record. Entries and marks past the number of tasks are not looked at.
+ *
+ * A task with a mark is bound to its guest's period: its own period is a multiple of the guest's, its release is taken
+ * only while the guest's position is 0, and its response has no gap of period less capacity in it. A record with a mark
+ * among its tasks' is written as a block of kind 2, any other as one of kind 1. */
 typedef struct CsGuest {
     uint32_t id;           /* not 0, once in a plan */
     uint32_t capacity;     /* 1 to the period */
     uint32_t period;       /* 1 to 1,000,000 ticks */
     uint32_t tasks;        /* number of tasks, 1 to 16 */
     uint16_t charge;       /* added twice to every task's run: the switch in and the switch out */
+    uint16_t marks;        /* which tasks are bound, bit 0 for task 1 and so on; 0 for none */
     uint32_t run[16];      /* 1 to 1,000,000 */
-    uint32_t every[16];    /* the task's period, 1 to 1,000,000 */
+    uint32_t every[16];    /* the task's period, 1 to 1,000,000; of a bound task a multiple of the guest's */
     uint32_t deadline[16]; /* 1 to the task's period */
 } CsGuest;
 
@@ -132,8 +140,9 @@ typedef struct CsRun {
 } CsRun;
 
 /* Reads a plan's blocks.
- * Refusals: 1 for the length; then block by block 2 sum, 3 kind or place, 4 id, capacity, period or number of
- * tasks, 5 a byte that must be zero, 6 a task; 2 to 6 with the block's place. */
+ * Refusals: 1 for the length; then block by block 2 sum, 3 kind (neither 1, nor 2 with marks) or place, 4 id, capacity,
+ * period or number of tasks, 5 a byte that must be zero or a mark past the tasks, 6 a task's run, period (of a bound
+ * task, also if it is no multiple of the guest's) or deadline; 2 to 6 with the block's place. */
 CsRead cs_read(const uint8_t *bytes, size_t length);
 
 /* Checks records as a plan.
@@ -173,7 +182,7 @@ CsVerdict cs_smallest_capacity(CsPlan plan, uint32_t id);
  * - the plan's, those of cs_read;
  * - then the sheet's, with the position in the sheet as the place: 1 for the length, with place 0; then block by block
  *   2 sum, 3 kind alone, 4 id (0, or that of an earlier block of the sheet), capacity, period or number of tasks, 5 a
- *   byte that must be zero, 6 a task;
+ *   byte that must be zero or a mark past the tasks, 6 a task;
  * - then 16 for the first block of the sheet whose id is not in the plan, or whose place is not its guest's. */
 
 /* Finds a guest's block: with number 0 it is the 512 bytes from 512 * place on, of the sheet if sheet is 1, else of the
@@ -206,8 +215,8 @@ CsVerdict cs_amended_smallest_capacity(const uint8_t *plan, size_t plan_length, 
 CsStart cs_fresh(CsPlan plan);
 
 /* Releases a job of a task, by its number from 1.
- * Refusals: 14 a state outside its ranges (usage has none), 7 no such guest, 8 no such task, 9 before its period
- * has passed, 10 while its last job is unfinished. */
+ * Refusals: 14 a state outside its ranges (usage has none), 7 no such guest, 8 no such task, 17 a bound task while its
+ * guest's position is not 0, 9 before its period has passed, 10 while its last job is unfinished. */
 CsReleased cs_release(CsDispatcher dispatcher, uint32_t id, uint32_t task);
 
 /* A pair of a sheet: a guest's id and a task's number from 1, which is below 65,536. */
@@ -220,7 +229,8 @@ CsReleased cs_release(CsDispatcher dispatcher, uint32_t id, uint32_t task);
  * number. The pairs are released one by one in order, each into the state that those before it left. Answers are
  * written for the pairs alone: places past their count stay as they were. The two lists must not overlap.
  * Refusals of a pair, in its answer alone: 7 no such guest (a guest part beyond 32 bits names none), 8 no such task,
- * 9 before its period has passed, 10 while its last job is unfinished.
+ * 17 a bound task while its guest's position is not 0, 9 before its period has passed, 10 while its last job is
+ * unfinished.
  * Refusals of the whole sheet, with no pair released, no answer written and place 0: 14 a state outside its ranges
  * (usage has none), 15 more than 256 pairs, 12 fewer answer places (room) than pairs (count). */
 CsReleased cs_sheet(CsDispatcher dispatcher, const uint64_t *pairs, size_t count, uint32_t *answers, size_t room);

@@ -1,5 +1,5 @@
-/* Plan A of document 01 from C: its blocks written, read and judged, an amendment to it tried, and its dispatcher run
- * until a job finishes; then where the ticks went, and last a sheet of releases.
+/* Plan A of document 01 from C: its blocks written, read and judged, an amendment to it tried, a task bound, and its
+ * dispatcher run until a job finishes; then where the ticks went, and last a sheet of releases.
  * From this folder: cc -O2 example.c ../../target/staticlib/libcoreshare.a -o example */
 #include "coreshare.h"
 
@@ -91,6 +91,24 @@ static int try_an_amendment(const uint8_t *plan, size_t length) {
     return 0;
 }
 
+/* Task 1 of guest 9 with a period of 60, three times its guest's, unbound and bound: bound its response is shorter, and
+ * it is released at the start of its guest's period alone. */
+static int bind_a_task(CsPlan plan) {
+    CsGuest *bound = &plan.guests[1];
+    bound->every[0] = bound->deadline[0] = 60;
+    uint32_t response = cs_task_verdict(plan, 9, 1).ticks;
+    bound->marks = CS_MARK(1);
+    printf("task 1 has %u, and bound %u\n", response, cs_task_verdict(plan, 9, 1).ticks);
+    CsStart start = cs_fresh(plan);
+    if (refused("start", start.refusal)) {
+        return 1;
+    }
+    CsTicked ticked = cs_tick(start.dispatcher);
+    printf("bound, it is answered %u at position 0 and %u at position 1\n",
+           cs_release(start.dispatcher, 9, 1).refusal.number, cs_release(ticked.dispatcher, 9, 1).refusal.number);
+    return 0;
+}
+
 static void print_usage(const CsDispatcher *dispatcher) {
     for (uint32_t at = 0; at < dispatcher->plan.count; at++) {
         printf("guest %u had %" PRIu64 " ticks and idled %" PRIu64 " of them away\n", dispatcher->plan.guests[at].id,
@@ -145,7 +163,7 @@ int main(void) {
         return 1;
     }
     print_verdicts(&read.plan);
-    if (try_an_amendment(bytes, sizeof bytes)) {
+    if (try_an_amendment(bytes, sizeof bytes) || bind_a_task(read.plan)) {
         return 1;
     }
     return run_until_finished(&read.plan);

@@ -1,5 +1,5 @@
-/* Prints the size, the alignment and each field's offset of every struct, as a C compiler lays them out, and some pairs.
- * The wrapper's layout test prints the same from Rust and compares. */
+/* Prints the size, the alignment and each field's offset of every struct, as a C compiler lays them out, and some marks
+ * and pairs. The wrapper's layout test prints the same from Rust and compares. */
 #include "coreshare.h"
 
 #include <inttypes.h>
@@ -16,6 +16,7 @@ static void records(void) {
     FIELD(CsGuest, period);
     FIELD(CsGuest, tasks);
     FIELD(CsGuest, charge);
+    FIELD(CsGuest, marks);
     FIELD(CsGuest, run);
     FIELD(CsGuest, every);
     FIELD(CsGuest, deadline);
@@ -71,6 +72,11 @@ static void dispatcher(void) {
     FIELD(CsRun, dispatcher);
 }
 
+static void marks(void) {
+    printf("mark %u\n", (unsigned)CS_MARK(1));
+    printf("mark %u\n", (unsigned)CS_MARK(16));
+}
+
 static void pairs(void) {
     printf("pair %" PRIu64 "\n", CS_PAIR(9, 2));
     printf("pair %" PRIu64 "\n", CS_PAIR(UINT32_MAX, UINT16_MAX));
@@ -79,6 +85,7 @@ static void pairs(void) {
 int main(void) {
     records();
     dispatcher();
+    marks();
     pairs();
     return 0;
 }

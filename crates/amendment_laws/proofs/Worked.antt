@@ -11,11 +11,12 @@ use Rattle.lists.specs.Table.{table}
 use Rattle.lists.specs.Refusals.{unless, refusal}
 use Rattle.words.specs.Word.{word}
 use Rattle.words.specs.Bytes.{bytesOf}
-use Rattle.plan.specs.Ranges.{headOk, taskOk, tasksOk}
+use Rattle.plan.specs.Marks.{marked, marksOf}
+use Rattle.plan.specs.Ranges.{headOk, taskOk, startOk, tasksOk}
 use Rattle.plan.specs.First.{orElse, firstRefused, refusedBy}
 use Rattle.plan.specs.Order.{newId}
-use Rattle.block.specs.Reading.{column, zeroBetween, blockNumber}
-use Rattle.blockwriter.specs.Writing.{withHead, withEntry, withEntries, wordsOf, withCheck, blockOf}
+use Rattle.block.specs.Reading.{column, zeroBetween, marksOk, blockNumber}
+use Rattle.blockwriter.specs.Writing.{withKind, withHead, withEntry, withEntries, wordsOf, withCheck, blockOf}
 use Rattle.blockfile.specs.File.{sizeOk, numberAt, sizedBy, blocksRefusal, fileRefusal}
 use Rattle.blockfile.specs.Records.{recordsOf}
 use Rattle.planfile.specs.declared.Reading.{Reading}
@@ -51,8 +52,8 @@ pub record Computed : Type 0 where
 
 pub computed : Computed
 unfolding pairRefusal sheetRefusal isFoundAt foreignNumber refusedBy least blocksRefusal sizedBy firstRefused orElse numberAt
-    blockNumber refusal unless word sumTo newId column table zeroBetween allTo headOk taskOk tasksOk fileOf joined blockOf
-    bytesOf withCheck wordsOf withEntries withEntry withHead
+    blockNumber refusal unless word sumTo newId column table zeroBetween allTo marksOk headOk taskOk startOk tasksOk
+    marked marksOf fileOf joined blockOf bytesOf withCheck wordsOf withEntries withEntry withHead withKind
     pairPlace locatedOr standing amended blockOr recordsOf withCapacity
 computed = record {
   fine = refl;

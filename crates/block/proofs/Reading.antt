@@ -2,16 +2,21 @@
 use mathlib.Core.Path.{_≡_, refl, sym, _∙_}
 use mathlib.Core.Bool.{Bool, true, false, _&&_}
 use mathlib.Core.List.{List, []}
-use Prim.Native.Nat.{ℕ, _+_, _-_, _≤_, _<_}
+use Prim.Native.Nat.{ℕ, _+_, _-_, _*_, _%_, _^_, _≤_, _<_}
+use native.Mathlib.Nat.{one-le-pow}
 use native.Mathlib.Omega.{arith}
-use lib.Dec.{eqb}
-use borrow.Author.Tests.{eqb-true}
-use Rattle.plan.specs.Ranges.{mostTasks, guestOk, taskOk, tasksOk}
+use lib.Dec.{leb, ltb, eqb}
+use borrow.Author.Tests.{ltb-true, eq-eqb, eqb-true, ne-eqb, lt-ltb, le-ltb}
+use Rattle.plan.specs.Ranges.{mostTasks, guestOk, taskOk, startOk, tasksOk}
+use Rattle.plan.specs.Marks.{marked}
+use Rattle.lists.specs.Choice.{pick}
 use Rattle.lists.specs.Places.{nth}
 use Rattle.words.specs.Word.{word}
-use Rattle.block.specs.Reading.{taskCount, column, guestOf, sumsToZero, kindOk, zeroBetween, zerosOk, blockNumber}
+use Rattle.block.specs.Reading.{kindIn, taskCount, marksIn, column, guestOf, sumsToZero, kindOk, zeroBetween, markable, marksOk, zerosOk, blockNumber}
+use Rattle.lists.specs.Exactly.{_exactlyWhen_}
 use Rattle.lists.specs.All.{allTo}
-use Rattle.block.specs.Layout.{runWord, everyWord, deadlineWord}
+use Rattle.block.specs.Layout.{unmarkedKind, markedKind, periodWord, marksWord, runWord, everyWord, deadlineWord}
+use Rattle.plan.proofs.MarksLaws.{moved-up}
 use Rattle.plan.proofs.RangesLaws.{head-says}
 use Rattle.lists.proofs.All.{and-left, and-true, all-at}
 use Rattle.lists.proofs.Table.{table-at}
@@ -57,12 +62,60 @@ module _ (b : List ℕ) (p new : Bool) where
 pub few-in-block : (b : List ℕ) (new : Bool) → (guestOk (guestOf b) && new) ≡ true → taskCount b ≤ mostTasks
 few-in-block b new e = head-says _ _ _ _ (and-left (guestOk (guestOf b)) new e) .few
 
--- The tasks' test on columns that are the block's.
-pub tasks-are : (b r e d : List ℕ) (n : ℕ) → r ≡ column b runWord → e ≡ column b everyWord → d ≡ column b deadlineWord
+-- Where the head passes the period is at least 1.
+pub some-in-block : (b : List ℕ) (new : Bool) → (guestOk (guestOf b) && new) ≡ true → 1 ≤ word b periodWord
+some-in-block b new e =
+    let h = head-says _ _ _ _ (and-left (guestOk (guestOf b)) new e) in omega (arith, h .some, h .fits)
+
+-- Kind 1 passes.
+pub kind-one : (b : List ℕ) (kind : ℕ) → kind ≡ kindIn b → kind ≡ unmarkedKind → true ≡ kindOk b
+kind-one b kind p e = rw (eq-eqb (kindIn b) unmarkedKind (sym p ∙ e)) refl
+
+-- The test of another kind.
+pub kind-other : (b : List ℕ) (kind marks : ℕ) → kind ≡ kindIn b → marks ≡ marksIn b → (kind ≡ unmarkedKind → ⊥)
+    → (eqb kind markedKind && leb 1 marks) ≡ kindOk b
+kind-other b kind marks p q n = rw (p, q, ne-eqb (kindIn b) unmarkedKind (λ e. n (p ∙ e))) refl
+
+-- Zero passes the test of the marks.
+pub no-marks : (b : List ℕ) (w : ℕ) → w ≡ word b marksWord → w < 1 → true ≡ marksOk b
+unfolding marksOk
+no-marks b w p l =
+    let s : 1 ≤ 2 ^ markable b = one-le-pow (markable b) 2 (omega arith) in
+    sym (lt-ltb (word b marksWord) (2 ^ markable b) (omega (arith, p, l, s)))
+
+-- The test of marks that are not zero, with a power of two that is made by a shift.
+marks-by : (two : Bool) (w n : ℕ) → n ≤ mostTasks → 1 ≤ w
+    → (two && ltb w (1 * 2 ^ n % 4294967296)) ≡ ltb w (2 ^ pick two n 0)
+marks-by true w n h l = rw (moved-up n h) refl
+marks-by false w n h l = sym (le-ltb w 1 l)
+
+pub marks-are : (b : List ℕ) (w kind n : ℕ) → w ≡ word b marksWord → kind ≡ kindIn b → n ≡ taskCount b → n ≤ mostTasks
+    → 1 ≤ w
+    → (eqb kind markedKind && ltb w (1 * 2 ^ n % 4294967296)) ≡ marksOk b
+unfolding marksOk
+marks-are b w kind n p q s h l = marks-by (eqb kind markedKind) w n h l ∙ rw (p, q, s) refl
+
+-- In kind 2 the tasks alone can have marks.
+pub marks-of-two : (b : List ℕ) → kindIn b ≡ markedKind
+    → (marksOk b ≡ true) exactlyWhen (word b marksWord < 2 ^ taskCount b)
+unfolding marksOk
+marks-of-two b e = rw (eq-eqb (kindIn b) markedKind e) (ltb-true _ _, lt-ltb _ _)
+
+-- In another kind nothing can have marks.
+pub marks-of-other : (b : List ℕ) → (kindIn b ≡ markedKind → ⊥) → (marksOk b ≡ true) exactlyWhen (word b marksWord ≡ 0)
+unfolding marksOk
+marks-of-other b n =
+    rw (ne-eqb (kindIn b) markedKind n)
+    (λ e. omega (arith, ltb-true (word b marksWord) 1 e), λ e. lt-ltb (word b marksWord) 1 (omega (arith, e)))
+
+-- The tasks' test on numbers and columns that are the block's.
+pub tasks-are : (b : List ℕ) (m p : ℕ) (r e d : List ℕ) (n : ℕ)
+    → m ≡ marksIn b → p ≡ word b periodWord → r ≡ column b runWord → e ≡ column b everyWord → d ≡ column b deadlineWord
     → n ≡ taskCount b
-    → allTo (λ i. taskOk (nth r i) (nth e i) (nth d i)) n ≡ tasksOk (guestOf b)
+    → (allTo (λ i. taskOk (nth r i) (nth e i) (nth d i)) n && allTo (λ i. startOk (marked m i) p (nth e i)) n)
+    ≡ tasksOk (guestOf b)
 unfolding tasksOk
-tasks-are b r e d n p q s t = rw (p, q, s, t) refl
+tasks-are b m p r e d n h1 h2 h3 h4 h5 h6 = rw (h1, h2, h3, h4, h5, h6) refl
 
 -- A block that no number refuses passes every test.
 pub record BlockIn (b : List ℕ) (p new : Bool) : Type 0 where

@@ -1,11 +1,13 @@
 -- The layout, said in words, says document 01's table, said in bytes. Assumes nothing.
 use mathlib.Core.Path.{_≡_, refl, sym, _∙_}
-use mathlib.Core.Bool.{true}
+use mathlib.Core.Bool.{true, _&&_}
 use mathlib.Core.List.{List}
-use Prim.Native.Nat.{ℕ, zero, suc, _+_, _*_, _-_, _/_, _%_, _≤_, _<_}
-use native.Mathlib.Decide.{decLt}
+use Prim.Native.Nat.{ℕ, zero, suc, _+_, _*_, _-_, _/_, _%_, _^_, _≤_, _<_}
+use native.Mathlib.Decide.{decLt, ℕ-discrete}
+use native.Mathlib.Nat.{pow-le-pow-right}
 use native.Mathlib.Omega.{arith}
 use borrow.Author.Tests.{eq-eqb, eqb-true}
+use Rattle.lists.specs.All.{allTo}
 use Rattle.lists.specs.Places.{nth}
 use Rattle.lists.specs.Sum.{sumTo}
 use Rattle.words.specs.Word.{wordWrap, u16At, u32At, word}
@@ -13,12 +15,12 @@ use Rattle.words.specs.Wrap.{wrapped}
 use Rattle.words.specs.Bytes.{Bytes}
 use Rattle.plan.specs.Ranges.{mostTasks}
 use Rattle.lists.specs.Exactly.{_exactlyWhen_}
-use Rattle.block.specs.Layout.{blockWords, kindPlaceWord, idWord, capacityWord, periodWord, tasksChargeWord, spareFrom, spareTo, runWord, everyWord, deadlineWord, unusedFrom, checkWord, lowHalf, highHalf}
-use Rattle.block.specs.Reading.{taskCount, column, zeroBetween, zerosOk}
+use Rattle.block.specs.Layout.{blockWords, kindPlaceWord, markedKind, idWord, capacityWord, periodWord, tasksChargeWord, marksWord, spareFrom, spareTo, runWord, everyWord, deadlineWord, unusedFrom, checkWord, lowHalf, highHalf, halfWrap}
+use Rattle.block.specs.Reading.{kindIn, taskCount, column, zeroBetween, marksOk, zerosOk}
 use Rattle.block.specs.Table.{ZeroBytes, ZerosStand, InBytes}
 use Rattle.lists.proofs.All.{and-left, and-right, and-true, all-by}
 use Rattle.lists.proofs.Sum.{sum-last}
-use Rattle.block.proofs.Reading.{zero-at, column-at}
+use Rattle.block.proofs.Reading.{marks-of-two, marks-of-other, zero-at, column-at}
 
 -- A word is its four bytes, least first.
 pub word-bytes : (b : List ℕ) (k : ℕ) → word b k ≡ u32At b (4 * k)
@@ -47,7 +49,7 @@ byte-at b q (suc (suc zero)) l e = omega (arith, word-bytes b q)
 byte-at b q (suc (suc (suc zero))) l e = omega (arith, word-bytes b q)
 byte-at b q (suc (suc (suc (suc j)))) l e = absurd (omega arith)
 
-byte-of : (b : List ℕ) (i : ℕ) → word b (i / 4) ≡ 0 → nth b i ≡ 0
+pub byte-of : (b : List ℕ) (i : ℕ) → word b (i / 4) ≡ 0 → nth b i ≡ 0
 byte-of b i e = let q : 4 * (i / 4) + i % 4 ≡ i = omega arith in rw q at (byte-at b (i / 4) (i % 4) (omega arith) e)
 
 -- The words from one on, up to another, are zero exactly when their bytes are.
@@ -67,23 +69,89 @@ zero-bytes b from to = (
       ) refl)),
 )
 
+-- A block of kind 2 has marks of which none is past the tasks, and zero beside them.
+marked-stand : (b : List ℕ) → Bytes b → taskCount b ≤ mostTasks → kindIn b ≡ markedKind
+    → (marksOk b ≡ true) exactlyWhen ((u16At b 20 < 2 ^ taskCount b) × ZeroBytes b 22 24)
+marked-stand b h few t =
+    let w = word-bytes b marksWord in
+    let s : 2 ^ taskCount b ≤ 2 ^ mostTasks = pow-le-pow-right (omega arith) few in (
+      λ e.
+          let l = marks-of-two b t .0 e in
+          (omega (arith, w, l), λ i f u. high-zero b h (omega (arith, l, s)) i f u),
+      λ z.
+          let first = z .1 22 (omega arith) (omega arith) in
+          let second = z .1 23 (omega arith) (omega arith) in
+          marks-of-two b t .1 (omega (arith, w, z .0, first, second)),
+    )
+  where
+    high-zero : (b : List ℕ) → Bytes b → word b marksWord < halfWrap → ZeroBytes b 22 24
+    high-zero b h l i f u = elim (decLt i 23) [
+      | yes m ↦ let e : i ≡ 22 = omega arith in rw e (omega (arith, high-bytes b marksWord h))
+      | no m ↦ let e : i ≡ 23 = omega arith in rw e (omega (arith, high-bytes b marksWord h))
+    ]
+
+-- A block of another kind has zero there.
+unmarked-stand : (b : List ℕ) → (kindIn b ≡ markedKind → ⊥) → (marksOk b ≡ true) exactlyWhen ZeroBytes b 20 24
+unfolding zeroBetween allTo
+unmarked-stand b t =
+    let zero = zero-bytes b marksWord spareFrom in (
+      λ e. zero .0 (eq-eqb (word b marksWord) 0 (marks-of-other b t .0 e)),
+      λ z.
+          marks-of-other b t .1
+          (zero-at b marksWord spareFrom marksWord (omega arith) (omega arith) (zero .1 z)),
+    )
+
+-- The bytes of the marks' word, whatever the kind is.
+marks-stand : (b : List ℕ) → Bytes b → taskCount b ≤ mostTasks
+    → (marksOk b ≡ true) exactlyWhen
+    (((u16At b 0 ≡ 2 → ⊥) → ZeroBytes b 20 22)
+    × ((u16At b 0 ≡ 2 → u16At b 20 < 2 ^ taskCount b) × ZeroBytes b 22 24))
+marks-stand b h few =
+    let k = low-bytes b kindPlaceWord h in
+    elim (ℕ-discrete (kindIn b) markedKind) [
+      | yes t ↦ let two = marked-stand b h few t in (
+        λ e. (λ n. absurd (n (sym k ∙ t)), (λ _. two .0 e .0, two .0 e .1)),
+        λ z. two .1 (z .1 .0 (sym k ∙ t), z .1 .1),
+      )
+      | no t ↦ let other = unmarked-stand b t in (
+        λ e. (
+          λ n i f u. other .0 e i f (omega arith),
+          (λ q. absurd (t (k ∙ q)), λ i f u. other .0 e i (omega arith) u),
+        ),
+        λ z.
+            other .1 (λ i f u. elim (decLt i 22) [
+              | yes m ↦ z .0 (λ q. t (k ∙ q)) i f m
+              | no m ↦ z .1 .1 i (omega arith) u
+            ]),
+      )
+    ]
+
 -- The bytes that must be zero: the words past the tasks are the entries past them and the bytes past the entries.
-zeros-stand : (b : List ℕ) → taskCount b ≤ mostTasks → (zerosOk b ≡ true) exactlyWhen ZerosStand b (taskCount b)
-zeros-stand b few =
+zeros-stand : (b : List ℕ) → Bytes b → taskCount b ≤ mostTasks
+    → (zerosOk b ≡ true) exactlyWhen ZerosStand b (taskCount b)
+zeros-stand b h few =
+    let marks = marks-stand b h few in
     let spare = zero-bytes b spareFrom spareTo in
     let past = zero-bytes b (unusedFrom (taskCount b)) checkWord in (
       λ e.
-          let z = past .0 (and-right (zeroBetween b spareFrom spareTo) _ e) in
+          let l = and-left (marksOk b && zeroBetween b spareFrom spareTo) _ e in
+          let m = marks .0 (and-left (marksOk b) _ l) in
+          let s = spare .0 (and-right (marksOk b) _ l) in
+          let z = past .0 (and-right (marksOk b && zeroBetween b spareFrom spareTo) _ e) in
           record {
-            spare = spare .0 (and-left (zeroBetween b spareFrom spareTo) _ e);
-            past-tasks = λ i l h. z i (omega arith) (omega arith);
-            past-entries = λ i l h. z i (omega arith) (omega arith);
+            unmarked = m .0;
+            marked = m .1 .0;
+            spare = λ i l u. elim (decLt i 24) [ yes q ↦ m .1 .1 i l q | no q ↦ s i (omega arith) u ];
+            past-tasks = λ i l u. z i (omega arith) (omega arith);
+            past-entries = λ i l u. z i (omega arith) (omega arith);
           },
       λ z.
-          and-true (spare .1 (z .spare))
-          (past .1 (λ i l h. elim (decLt i 224) [
-            | yes m ↦ z .past-tasks i (omega arith) m
-            | no m ↦ z .past-entries i (omega arith) h
+          and-true
+          (and-true (marks .1 (z .unmarked, (z .marked, λ i l u. z .spare i l (omega arith))))
+          (spare .1 (λ i l u. z .spare i (omega arith) u)))
+          (past .1 (λ i l u. elim (decLt i 224) [
+            | yes q ↦ z .past-tasks i (omega arith) q
+            | no q ↦ z .past-entries i (omega arith) u
           ])),
     )
 
@@ -103,10 +171,11 @@ in-bytes b h = record {
   period = word-bytes b periodWord;
   tasks = low-bytes b tasksChargeWord h;
   charge = high-bytes b tasksChargeWord h;
+  marks = low-bytes b marksWord h;
   run = λ i l. entry-bytes b runWord 32 i l (omega arith);
   every = λ i l. entry-bytes b everyWord 36 i l (omega arith);
   deadline = λ i l. entry-bytes b deadlineWord 40 i l (omega arith);
-  zeros = zeros-stand b;
+  zeros = zeros-stand b h;
   check = (
     λ e. sym (sum-with-check b) ∙ eqb-true _ _ e,
     λ e. eq-eqb _ _ (sum-with-check b ∙ e),

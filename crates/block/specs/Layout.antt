@@ -14,9 +14,13 @@ blockWords = 128
 abbrev pub kindPlaceWord : ℕ
 kindPlaceWord = 0
 
--- There is one kind.
-abbrev pub guestKind : ℕ
-guestKind = 1
+-- A block of this kind has no marks.
+abbrev pub unmarkedKind : ℕ
+unmarkedKind = 1
+
+-- A block of this kind has marks.
+abbrev pub markedKind : ℕ
+markedKind = 2
 
 -- The last place in a plan of 8 guests, from 0.
 abbrev pub lastPlace : ℕ
@@ -38,9 +42,13 @@ periodWord = 3
 abbrev pub tasksChargeWord : ℕ
 tasksChargeWord = 4
 
--- Bytes 20-31 are zero; they start at this word.
+-- Bytes 20-21, the low half of this word, are the marks of the tasks; bytes 22-23, its high half, are zero.
+abbrev pub marksWord : ℕ
+marksWord = 5
+
+-- Bytes 24-31 are zero; they start at this word.
 abbrev pub spareFrom : ℕ
-spareFrom = 5
+spareFrom = 6
 
 -- The spare words end before this one.
 abbrev pub spareTo : ℕ

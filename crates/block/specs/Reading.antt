@@ -1,16 +1,17 @@
 -- What a block says, and the refusals of a block in their order.
-use mathlib.Core.Bool.{Bool, _&&_}
+use mathlib.Core.Bool.{Bool, _&&_, _||_}
 use mathlib.Core.List.{List, [], _∷_}
-use Prim.Native.Nat.{ℕ, _+_, _-_}
-use lib.Dec.{eqb}
+use Prim.Native.Nat.{ℕ, _+_, _-_, _^_}
+use lib.Dec.{leb, ltb, eqb}
 use Rattle.lists.specs.All.{allTo}
+use Rattle.lists.specs.Choice.{pick}
 use Rattle.lists.specs.Table.{table}
 use Rattle.lists.specs.Refusals.{refusal, _orRefuse_}
 use Rattle.words.specs.Word.{word}
 use Rattle.words.specs.Wrap.{wrapped}
 use Rattle.plan.specs.declared.Guest.{Guest}
 use Rattle.plan.specs.Ranges.{mostTasks, guestOk, tasksOk}
-use Rattle.block.specs.Layout.{blockWords, kindPlaceWord, guestKind, idWord, capacityWord, periodWord, tasksChargeWord, spareFrom, spareTo, runWord, everyWord, deadlineWord, unusedFrom, checkWord, lowHalf, highHalf}
+use Rattle.block.specs.Layout.{blockWords, kindPlaceWord, unmarkedKind, markedKind, idWord, capacityWord, periodWord, tasksChargeWord, marksWord, spareFrom, spareTo, runWord, everyWord, deadlineWord, unusedFrom, checkWord, lowHalf, highHalf}
 
 -- The kind that a block says.
 abbrev pub kindIn : List ℕ → ℕ
@@ -28,6 +29,10 @@ idIn b = word b idWord
 abbrev pub taskCount : List ℕ → ℕ
 taskCount b = lowHalf (word b tasksChargeWord)
 
+-- The marks that a block says; one of kind 1 that is not refused says none.
+abbrev pub marksIn : List ℕ → ℕ
+marksIn b = lowHalf (word b marksWord)
+
 -- One number of each of the 16 entries.
 unfoldable pub column : List ℕ → (ℕ → ℕ) → List ℕ
 column b at = table (λ i. word b (at i)) mostTasks
@@ -40,6 +45,7 @@ guestOf b = record {
   period = word b periodWord;
   tasks = taskCount b;
   charge = highHalf (word b tasksChargeWord);
+  marks = marksIn b;
   run = column b runWord;
   every = column b everyWord;
   deadline = column b deadlineWord;
@@ -49,9 +55,9 @@ guestOf b = record {
 abbrev pub sumsToZero : List ℕ → Bool
 sumsToZero b = eqb (wrapped (word b) blockWords) 0
 
--- Passes 3: the kind is 1.
+-- Passes 3: the kind is 1, or 2 with marks.
 abbrev pub kindOk : List ℕ → Bool
-kindOk b = eqb (kindIn b) guestKind
+kindOk b = eqb (kindIn b) unmarkedKind || (eqb (kindIn b) markedKind && leb 1 (marksIn b))
 
 -- Passes 3 too, in a plan: the place is the block's own.
 abbrev pub ownPlace : List ℕ → ℕ → Bool
@@ -61,9 +67,17 @@ ownPlace b place = eqb (placeIn b) place
 unfoldable pub zeroBetween : List ℕ → (from to : ℕ) → Bool
 zeroBetween b from to = allTo (λ k. eqb (word b (from + k)) 0) (to - from)
 
--- Passes 5: the bytes that must be zero are.
+-- How many tasks a block can have marks for: all its tasks in kind 2, none in kind 1.
+abbrev pub markable : List ℕ → ℕ
+markable b = pick (eqb (kindIn b) markedKind) (taskCount b) 0
+
+-- Bytes 20-23 have no bit set past these tasks.
+unfoldable pub marksOk : List ℕ → Bool
+marksOk b = ltb (word b marksWord) (2 ^ markable b)
+
+-- Passes 5: the bytes that must be zero are, and no mark is past the tasks.
 abbrev pub zerosOk : List ℕ → Bool
-zerosOk b = zeroBetween b spareFrom spareTo && zeroBetween b (unusedFrom (taskCount b)) checkWord
+zerosOk b = marksOk b && zeroBetween b spareFrom spareTo && zeroBetween b (unusedFrom (taskCount b)) checkWord
 
 -- The number that a block is refused by, 0 for none. It is told whether the place passes, which not every reader asks,
 -- and whether the id is new.

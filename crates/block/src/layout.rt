@@ -6,7 +6,9 @@ pub const WORDS: usize = 128;
 
 pub const KIND_PLACE: usize = 0;
 
-pub const GUEST_KIND: u32 = 1;
+pub const UNMARKED_KIND: u32 = 1;
+
+pub const MARKED_KIND: u32 = 2;
 
 pub const LAST_PLACE: u32 = 7;
 
@@ -18,7 +20,9 @@ pub const PERIOD: usize = 3;
 
 pub const TASKS_CHARGE: usize = 4;
 
-pub const SPARE_FROM: usize = 5;
+pub const MARKS: usize = 5;
+
+pub const SPARE_FROM: usize = 6;
 
 pub const SPARE_TO: usize = 8;
 

@@ -2,18 +2,39 @@
 ghost use mathlib.Core.Path.{_≡_};
 ghost use Prim.Native.Nat.{_+_, _*_, _≤_};
 ghost use lib.ListN.{length};
+ghost use Rattle.words.specs.Word.{word};
 ghost use Rattle.plan.specs.Ranges.{mostTasks, guestOk, tasksOk};
-ghost use Rattle.block.specs.Layout.{blockSize, blockWords, entryWords, checkWord};
-ghost use Rattle.block.specs.Reading.{placeIn, idIn, taskCount, column, guestOf, kindOk, zeroBetween, zerosOk, blockNumber};
+ghost use Rattle.block.specs.Layout.{blockSize, blockWords, periodWord, entryWords, checkWord};
+ghost use Rattle.block.specs.Reading.{kindIn, placeIn, idIn, taskCount, marksIn, column, guestOf, kindOk, zeroBetween, marksOk, zerosOk, blockNumber};
 use crate::layout;
 use plan::Guest;
 
-// Whether the kind is a guest's.
+// The kind.
+fn kind_of(b: &[u8]) -> u32
+    requires { ⌜ length (now b) ≡ blockSize ⌝ }
+    ensures { λ r. ⌜ r ≡ kindIn (now (b .entry)) ⌝ }
+{
+    words::word_at(b, layout::KIND_PLACE) % layout::HALF
+}
+
+// The marks of the tasks.
+fn marks_of(b: &[u8]) -> u32
+    requires { ⌜ length (now b) ≡ blockSize ⌝ }
+    ensures { λ r. ⌜ r ≡ marksIn (now (b .entry)) ⌝ }
+{
+    words::word_at(b, layout::MARKS) % layout::HALF
+}
+
+// Whether the kind is a guest's, and has marks where it is the one that says so. In the other the marks are not read.
 fn kind_ok(b: &[u8]) -> bool
     requires { ⌜ length (now b) ≡ blockSize ⌝ }
     ensures { λ r. ⌜ r ≡ kindOk (now (b .entry)) ⌝ }
 {
-    words::word_at(b, layout::KIND_PLACE) % layout::HALF == layout::GUEST_KIND
+    let kind = kind_of(b);
+    if kind == layout::UNMARKED_KIND {
+        return true;
+    }
+    (kind == layout::MARKED_KIND) & (1 <= marks_of(b))
 }
 
 // The place alone.
@@ -47,13 +68,28 @@ fn tasks_of(b: &[u8]) -> u32
     words::word_at(b, layout::TASKS_CHARGE) % layout::HALF
 }
 
-// Whether the bytes that must be zero are.
+// Whether bytes 20-23 are zero, or those of kind 2 with no mark past the tasks. Where they are, no more is asked.
+fn marks_ok(b: &[u8]) -> bool
+    requires { ⌜ (length (now b) ≡ blockSize) × (taskCount (now b) ≤ mostTasks) ⌝ }
+    ensures { λ r. ⌜ r ≡ marksOk (now (b .entry)) ⌝ }
+{
+    let w = words::word_at(b, layout::MARKS);
+    if w < 1 {
+        return true;
+    }
+    let one: u32 = 1;
+    let past = one << (tasks_of(b) as usize);
+    (kind_of(b) == layout::MARKED_KIND) & (w < past)
+}
+
+// Whether the bytes that must be zero are, and no mark is past the tasks.
 fn zeros_ok(b: &[u8]) -> bool
     requires { ⌜ (length (now b) ≡ blockSize) × (taskCount (now b) ≤ mostTasks) ⌝ }
     ensures { λ r. ⌜ r ≡ zerosOk (now (b .entry)) ⌝ }
 {
     let n = tasks_of(b) as usize;
-    zero_between(b, layout::SPARE_FROM, layout::SPARE_TO)
+    marks_ok(b)
+        & zero_between(b, layout::SPARE_FROM, layout::SPARE_TO)
         & zero_between(b, layout::RUN + layout::ENTRY * n, layout::CHECK)
 }
 
@@ -90,6 +126,7 @@ pub fn decode(b: &[u8]) -> Guest
     let w = words::word_at(b, layout::TASKS_CHARGE);
     let tasks = w % layout::HALF;
     let charge = (w / layout::HALF) as u16;
+    let marks = marks_of(b) as u16;
     let run = column_of(b, layout::RUN);
     let every = column_of(b, layout::EVERY);
     let deadline = column_of(b, layout::DEADLINE);
@@ -99,6 +136,7 @@ pub fn decode(b: &[u8]) -> Guest
         period,
         tasks,
         charge,
+        marks,
         run,
         every,
         deadline,
@@ -115,15 +153,17 @@ fn head_in(b: &[u8]) -> bool
     plan::head_ok(id_of(b), capacity, period, tasks_of(b))
 }
 
-// Whether the tasks are in their ranges.
+// Whether the tasks are in their ranges, and may start where their marks say.
 fn tasks_in(b: &[u8]) -> bool
-    requires { ⌜ (length (now b) ≡ blockSize) × (taskCount (now b) ≤ mostTasks) ⌝ }
+    requires { ⌜ (length (now b) ≡ blockSize) × ((taskCount (now b) ≤ mostTasks) × (1 ≤ word (now b) periodWord)) ⌝ }
     ensures { λ r. ⌜ r ≡ tasksOk (guestOf (now (b .entry))) ⌝ }
 {
     let run = column_of(b, layout::RUN);
     let every = column_of(b, layout::EVERY);
     let deadline = column_of(b, layout::DEADLINE);
-    plan::tasks_ok(&run, &every, &deadline, tasks_of(b) as usize)
+    let marks = marks_of(b) as u16;
+    let period = words::word_at(b, layout::PERIOD);
+    plan::tasks_ok(marks, period, &run, &every, &deadline, tasks_of(b) as usize)
 }
 
 // The number that the block b is refused by, 0 for none; `placed` says that its place passes, `new` that its id does.

@@ -10,17 +10,24 @@ use Rattle.words.specs.Bytes.{bytesOf}
 use Rattle.words.specs.Wrap.{wrapped, complement}
 use Rattle.plan.specs.declared.Guest.{Guest}
 use Rattle.plan.specs.declared.Refusal.{Refusal}
+use Rattle.plan.specs.Marks.{liveMarks}
 use Rattle.plan.specs.Ranges.{within, guestOk, tasksOk}
 use Rattle.plan.specs.First.{refused}
-use Rattle.block.specs.Layout.{blockSize, blockWords, kindPlaceWord, guestKind, lastPlace, idWord, capacityWord, periodWord, tasksChargeWord, runWord, everyWord, deadlineWord, checkWord, halves}
+use Rattle.block.specs.Layout.{blockSize, blockWords, kindPlaceWord, unmarkedKind, markedKind, lastPlace, idWord, capacityWord, periodWord, tasksChargeWord, marksWord, runWord, everyWord, deadlineWord, checkWord, halves}
 
--- Words x with the head's numbers put in.
+-- The kind that a guest with these marks is written in: 2 where one of its tasks has a mark, else 1.
+abbrev pub kindFor : (marks : ℕ) → ℕ
+kindFor marks = pick (leb 1 marks) markedKind unmarkedKind
+
+-- Words x with kind, place and marks put in.
+unfoldable pub withKind : (marks place : ℕ) → List ℕ → List ℕ
+withKind marks place x = set (set x kindPlaceWord (halves (kindFor marks) place)) marksWord marks
+
+-- Words x with the head's numbers put in, the marks past the tasks as zero.
 unfoldable pub withHead : Guest → (place : ℕ) → List ℕ → List ℕ
 withHead g place x =
     set
-    (set
-    (set (set (set x kindPlaceWord (halves guestKind place)) idWord (g .id)) capacityWord (g .capacity))
-    periodWord (g .period))
+    (set (set (set (withKind (liveMarks g) place x) idWord (g .id)) capacityWord (g .capacity)) periodWord (g .period))
     tasksChargeWord (halves (g .tasks) (g .charge))
 
 -- Words x with entry i put in.

@@ -5,9 +5,10 @@ ghost use Prim.Native.Nat.{_≤_, _<_};
 ghost use lib.ListN.{length, replicate, drop};
 ghost use Rattle.lists.specs.Places.{nth};
 ghost use Rattle.words.specs.Bytes.{withWord, bytesOf};
+ghost use Rattle.plan.specs.Marks.{marksOf};
 ghost use Rattle.plan.specs.Ranges.{mostTasks};
-ghost use Rattle.block.specs.Layout.{blockSize, blockWords, lastPlace, runWord, everyWord, deadlineWord};
-ghost use Rattle.blockwriter.specs.Writing.{withHead, wordsOf, blockOf, writeNumber};
+ghost use Rattle.block.specs.Layout.{blockSize, blockWords, kindPlaceWord, markedKind, lastPlace, marksWord, runWord, everyWord, deadlineWord, halves};
+ghost use Rattle.blockwriter.specs.Writing.{kindFor, withHead, wordsOf, blockOf, writeNumber};
 use block::layout;
 use plan::Guest;
 
@@ -28,10 +29,36 @@ pub fn write_number(g: Guest, place: u32, size: usize) -> u32
     let every = g.every;
     let deadline = g.deadline;
     let n = g.tasks as usize;
-    if !plan::tasks_ok(&run, &every, &deadline, n) {
+    if !plan::tasks_ok(g.marks, g.period, &run, &every, &deadline, n) {
         return 6;
     }
     0
+}
+
+// The kind that a guest with these marks is written in.
+fn kind_for(marks: u32) -> u32
+    ensures { λ r. ⌜ (r ≡ kindFor marks) × (r ≤ markedKind) ⌝ }
+{
+    if 1 <= marks {
+        layout::MARKED_KIND
+    } else {
+        layout::UNMARKED_KIND
+    }
+}
+
+// Kind, place and marks put in.
+fn put_kind(buf: &mut [u8], marks: u16, tasks: u32, place: u32)
+    requires { ⌜ (blockSize ≤ length (now buf)) × ((place ≤ lastPlace) × (tasks ≤ mostTasks)) ⌝ }
+    ensures { λ _. ⌜
+        now (buf .exit)
+        ≡ withWord (withWord (now (buf .entry)) kindPlaceWord (halves (kindFor (marksOf marks tasks)) place))
+        marksWord (marksOf marks tasks)
+        ⌝ }
+{
+    let live = plan::live_marks(marks, tasks as usize);
+    let kind = kind_for(live);
+    words::put_word(buf, layout::KIND_PLACE, kind + layout::HALF * place);
+    words::put_word(buf, layout::MARKS, live);
 }
 
 // The first 512 bytes set to zero, and the head's words put in.
@@ -43,11 +70,7 @@ fn put_head(g: Guest, place: u32, buf: &mut [u8])
         ⌝ }
 {
     words::put_zeros(buf, layout::SIZE);
-    words::put_word(
-        buf,
-        layout::KIND_PLACE,
-        layout::GUEST_KIND + layout::HALF * place,
-    );
+    put_kind(buf, g.marks, g.tasks, place);
     words::put_word(buf, layout::ID, g.id);
     words::put_word(buf, layout::CAPACITY, g.capacity);
     words::put_word(buf, layout::PERIOD, g.period);

@@ -115,7 +115,8 @@ module _ (p : Plan) (ok : planRefusal p .number ≡ 0) (k : ℕ) (h : k < p .cou
   met-below i l most c c′ r pos le fit e =
       let g = guestAt (p .guests) k in
       let o = plan-in p ok .guests k h in
-      let m = met-up (interference p k) (interference-grows p k) (g .period) (charged g) (everyOf g) i c c′ most r
+      let m = met-up (interference p k) (interference-grows p k) (g .period) (g .marks) (charged g) (everyOf g)
+      i c c′ most r
       (omega (arith, o .tasks i l .runs, charged-least (runOf g i) (g .charge))) pos le
       (sym (fitted-there p k here c′) ∙ fit) (sym (task-there p k here c i most) ∙ e) in
       (m .0, task-there p k here c′ i most ∙ m .1, m .2)

@@ -18,6 +18,7 @@ atCapacity g c = record {
   period = g .period;
   tasks = g .tasks;
   charge = g .charge;
+  marks = g .marks;
   run = g .run;
   every = g .every;
   deadline = g .deadline;

@@ -7,7 +7,8 @@ use Rattle.lists.specs.Search.{least, isAt}
 use Rattle.lists.specs.declared.Found.{Found}
 use Rattle.lists.specs.declared.Found.the-variants.{At, Nothing}
 use Rattle.equation.specs.Guest.{guestUnder}
-use Rattle.equation.specs.System.{System}
+use Rattle.equation.specs.System.{System, gapFor}
+use Rattle.plan.specs.Marks.{marked}
 use Rattle.response.specs.Columns.{acceptedIn}
 use Rattle.capacity.specs.declared.search.Span.{Span}
 
@@ -15,20 +16,20 @@ use Rattle.capacity.specs.declared.search.Span.{Span}
 unfoldable pub fitsAt : (above : ℕ → ℕ) → (period c : ℕ) → Bool
 fitsAt above period c = isAt (guestUnder above c period)
 
--- a guest at capacity c, seen from its tasks, run being the charged runs
-abbrev pub triedSystem : (above : ℕ → ℕ) → (period : ℕ) → (run every : ℕ → ℕ) → (c : ℕ) → System
-triedSystem above period run every c = record {
+-- a guest at capacity c, seen from its tasks, run being the charged runs: J is 0 of a bound task, else T - c
+abbrev pub triedSystem : (above : ℕ → ℕ) → (period marks : ℕ) → (run every : ℕ → ℕ) → (c : ℕ) → System
+triedSystem above period marks run every c = record {
   capacity = c;
   period = period;
   above = above;
   run = run;
   every = every;
-  gap = λ j. period - c;
+  gap = λ j. gapFor (marked marks j) (period - c);
 }
 
 -- whether it is fitted there and its first n tasks are met
-unfoldable pub worksAt : (above : ℕ → ℕ) → (period : ℕ) → (run every deadline : ℕ → ℕ) → (n c : ℕ) → Bool
-worksAt above period run every deadline n c = acceptedIn (triedSystem above period run every c) deadline n
+unfoldable pub worksAt : (above : ℕ → ℕ) → (period marks : ℕ) → (run every deadline : ℕ → ℕ) → (n c : ℕ) → Bool
+worksAt above period marks run every deadline n c = acceptedIn (triedSystem above period marks run every c) deadline n
 
 -- the capacity that was found, or else the best before it
 abbrev pub orBest : Found → (best : ℕ) → ℕ

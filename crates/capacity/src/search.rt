@@ -6,8 +6,9 @@ ghost use Rattle.lists.specs.All.{allTo};
 ghost use Rattle.lists.specs.Places.{nth};
 ghost use Rattle.lists.specs.Search.{least};
 ghost use Rattle.rounding.specs.Cut.{bound};
+ghost use Rattle.plan.specs.Ranges.{longest};
 ghost use Rattle.response.specs.Columns.{guestsTake, fittedAt, acceptedUnder};
-ghost use Rattle.response.specs.Ready.{EachRuns, Seated};
+ghost use Rattle.response.specs.Ready.{EachRuns, EachShort, Seated};
 ghost use Rattle.capacity.specs.Capacity.{atCapacity};
 ghost use Rattle.capacity.specs.Answer.{capacitySays};
 ghost use Rattle.capacity.specs.Search.{worksAt, smallestOf, foundAs, Halves};
@@ -17,6 +18,7 @@ use plan::Guest;
 use response::Trial;
 use response::all_fitted;
 use response::charged_of;
+use response::gaps_of;
 use response::guest_response;
 use response::try_guest;
 
@@ -44,6 +46,7 @@ fn halved(
     periods: &[u32; 16],
     k: usize,
     period: u32,
+    marks: u16,
     run: &[u32; 16],
     every: &[u32; 16],
     deadline: &[u32; 16],
@@ -53,15 +56,16 @@ fn halved(
     best: u32,
 ) -> Span
     requires { ⌜ ((k ≤ 16) × (tasks ≤ 16)) × ((1 ≤ lo) × ((lo < hi) × (hi ≤ period + 1))) ⌝ }
-    requires { ⌜ EachRuns (now run) tasks ⌝ }
+    requires { ⌜ (period ≤ longest) × (EachRuns (now run) tasks × EachShort (now deadline) tasks) ⌝ }
     ensures { λ r. ⌜
-        Halves (worksAt (guestsTake (now (capacities .entry)) (now (periods .entry)) k) period
+        Halves (worksAt (guestsTake (now (capacities .entry)) (now (periods .entry)) k) period marks
         (nth (now (run .entry))) (nth (now (every .entry))) (nth (now (deadline .entry))) tasks) lo hi best r
         ⌝ }
 {
     let mid = lo + (hi - lo) / 2;
     let next = mid + 1;
     let f = guest_response(capacities, periods, k, mid, period);
+    let late = gaps_of(marks, period - mid, tasks);
     let t = try_guest(
         f,
         capacities,
@@ -71,6 +75,7 @@ fn halved(
         period,
         run,
         every,
+        &late,
         deadline,
         tasks,
     );
@@ -92,6 +97,7 @@ fn smallest_in(
     periods: &[u32; 16],
     k: usize,
     period: u32,
+    marks: u16,
     run: &[u32; 16],
     every: &[u32; 16],
     deadline: &[u32; 16],
@@ -101,10 +107,10 @@ fn smallest_in(
     best: u32,
 ) -> u32
     requires { ⌜ ((k ≤ 16) × (tasks ≤ 16)) × ((1 ≤ lo) × (hi ≤ period + 1)) ⌝ }
-    requires { ⌜ EachRuns (now run) tasks ⌝ }
+    requires { ⌜ (period ≤ longest) × (EachRuns (now run) tasks × EachShort (now deadline) tasks) ⌝ }
     ensures { λ r. ⌜
         r
-        ≡ smallestOf (worksAt (guestsTake (now (capacities .entry)) (now (periods .entry)) k) period
+        ≡ smallestOf (worksAt (guestsTake (now (capacities .entry)) (now (periods .entry)) k) period marks
         (nth (now (run .entry))) (nth (now (every .entry))) (nth (now (deadline .entry))) tasks) lo hi best
         ⌝ }
 {
@@ -116,6 +122,7 @@ fn smallest_in(
         periods,
         k,
         period,
+        marks,
         run,
         every,
         deadline,
@@ -129,6 +136,7 @@ fn smallest_in(
         periods,
         k,
         period,
+        marks,
         run,
         every,
         deadline,
@@ -172,6 +180,7 @@ pub fn smallest_at(g: Guest, capacities: &[u32; 16], periods: &[u32; 16], k: usi
         periods,
         k,
         period,
+        g.marks,
         &run,
         &every,
         &deadline,

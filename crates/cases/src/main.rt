@@ -16,7 +16,20 @@ mod judging;
 mod say;
 mod sheets;
 
-// The plan after a line: `new` empties it, `count` says how many of its guests count.
+// The plan with these marks for the guest at a place, also past its tasks.
+fn with_marks(p: Plan, place: u32, marks: u32) -> Plan {
+    let mut guests = p.guests;
+    let count = p.count;
+    let k = place as usize;
+    if k < 8 {
+        if marks <= 65535 {
+            guests[k].marks = marks as u16;
+        }
+    }
+    Plan { count, guests }
+}
+
+// The plan after a line: `new` empties it, `count` says how many of its guests count, `marks` sets those of a guest.
 fn planned(p: Plan, row: Row) -> Plan {
     let x = row.numbers;
     if row.first == b'n' {
@@ -28,6 +41,9 @@ fn planned(p: Plan, row: Row) -> Plan {
             count: x[0],
             guests,
         };
+    }
+    if row.first == b'm' {
+        return with_marks(p, x[0], x[1]);
     }
     text::with_line(p, row)
 }

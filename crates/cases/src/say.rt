@@ -19,9 +19,8 @@ pub fn byte(row: Row, b: u8) {
 pub fn end(row: Row) {
     let first = row.first;
     match first {
-        0 | b'n' | b'c' | b'g' | b't' | b'p' | b'K' | b'L' | b'P' | b'J' | b'W' | b'A' => text(
-            b"\n",
-        ),
+        0 | b'n' | b'c' | b'm' | b'g' | b't' | b'p' | b'K' | b'L' | b'P' | b'J' | b'W' | b'A' =>
+            text(b"\n"),
         _ => {}
     }
 }

@@ -1,12 +1,14 @@
--- Release by guest id and task number from 1: 14, 7, 8, 9, 10.
+-- Release by guest id and task number from 1: 14, 7, 8, 17, 9, 10.
 use mathlib.Core.List.{[], _∷_}
 use Prim.Native.Nat.{ℕ, zero, suc, _-_}
 use lib.ListN.{set}
 use lib.Dec.{eqb}
+use Rattle.lists.specs.Places.{nth}
 use Rattle.lists.specs.Refusals.{refusal, _orRefuse_}
 use Rattle.plan.specs.Records.{everyOf}
 use Rattle.plan.specs.Charge.{charged}
 use Rattle.plan.specs.First.{refused, fine}
+use Rattle.plan.specs.Marks.{mayStart}
 use Rattle.plan.specs.Place.{placeOf, hasGuest, hasTask}
 use Rattle.dispatcher.specs.declared.Dispatcher.{Dispatcher}
 use Rattle.dispatcher.specs.declared.Released.{Released}
@@ -35,6 +37,7 @@ releaseNumber d id task =
     stateOk d orRefuse 14
     ∷ hasGuest (d .plan) id orRefuse 7
     ∷ hasTask (d .plan) id task orRefuse 8
+    ∷ mayStart (guestIn d k) (nth (d .position) k) (task - 1) orRefuse 17
     ∷ eqb (waitAt d k (task - 1)) 0 orRefuse 9
     ∷ eqb (restAt d k (task - 1)) 0 orRefuse 10
     ∷ [])

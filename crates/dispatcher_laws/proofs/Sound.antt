@@ -9,8 +9,11 @@ use Rattle.dispatcher.specs.Tick.{next}
 use Rattle.dispatcher.specs.Release.{taken, release}
 use Rattle.plan.specs.Place.{placeOf}
 use Rattle.plan.specs.Records.{guestAt}
+use Rattle.plan.specs.Marks.{isBound}
+use Rattle.dispatcher.specs.State.{guestIn}
+use Rattle.plan.proofs.MarksLaws.{bound-starts}
 use Rattle.dispatcher_laws.proofs.Release.{Free, release-number, release-none}
-use Rattle.dispatcher_laws.proofs.Seen.{Shaped}
+use Rattle.dispatcher_laws.proofs.Seen.{posAt, Shaped}
 use Rattle.dispatcher_laws.proofs.Shape.{shaped-next, shaped-taken}
 use Rattle.dispatcher_laws.proofs.Tick.{next-plan}
 use Rattle.dispatcher_laws.proofs.Valid.{ok-next, taken-plan, ok-taken}
@@ -48,3 +51,9 @@ module _ (p : Plan) (d : Dispatcher) (D : Sound p d) (id number : ℕ) (taken-it
   -- The task of a taken release is in the guest.
   pub task-in : number - 1 < guestAt (p .guests) (placeOf p id) .tasks
   task-in = rw (D .plan) at (free-task .in-guest)
+
+  -- Where the task of a taken release is bound, its guest is at position 0.
+  pub at-0 : isBound (guestAt (p .guests) (placeOf p id)) (number - 1) ≡ true → posAt d (placeOf p id) ≡ 0
+  at-0 b =
+      bound-starts (guestIn d (placeOf p id)) (posAt d (placeOf p id)) (number - 1) (free-task .may-start)
+      (rw (D .plan) b)

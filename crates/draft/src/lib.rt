@@ -19,8 +19,8 @@ pub fn guest(id: u32, capacity: u32, period: u32, charge: u16) -> Guest {
     g
 }
 
-// The guest with one task more, below the others; a seventeenth is left out.
-pub fn with_task(g: Guest, run: u32, every: u32, deadline: u32) -> Guest {
+// The guest with one task more, below the others, and its mark if it is bound; a seventeenth is left out.
+pub fn with_task(g: Guest, run: u32, every: u32, deadline: u32, bound: bool) -> Guest {
     let mut g = g;
     let mut runs = g.run;
     let mut periods = g.every;
@@ -35,6 +35,10 @@ pub fn with_task(g: Guest, run: u32, every: u32, deadline: u32) -> Guest {
         g.every = periods;
         g.deadline = deadlines;
         g.tasks = n + 1;
+        if bound {
+            let first: u16 = 1;
+            g.marks = g.marks | (first << i);
+        }
     }
     g
 }

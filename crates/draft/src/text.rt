@@ -1,13 +1,22 @@
 // A line of text: its first letter says what it is, and whatever is no digit parts its numbers.
-// A guest's line is `guest ID CAPACITY/PERIOD charge CHARGE`, a task's `task RUN/PERIOD/DEADLINE`.
+// A guest's line is `guest ID CAPACITY/PERIOD charge CHARGE`, a task's `task RUN/PERIOD/DEADLINE`, with the word
+// `bound` behind it if the task is bound.
 use plan::Plan;
 
-// A line as far as it is read: its first byte, its numbers, and whether the last byte was a digit.
+// The letters of the word `bound`.
+const BOUND: u32 = 5;
+
+// What stands for any other word, or for more than one.
+const OTHER: u32 = 6;
+
+// A line as far as it is read: its first byte, its numbers, whether the last byte was a digit, and how many letters of
+// the word `bound` stand behind its numbers.
 pub struct Row {
     pub first: u8,
     pub count: u32,
     pub inside: bool,
     pub numbers: [u32; 6],
+    pub letters: u32,
 }
 
 pub fn blank_row() -> Row {
@@ -16,6 +25,7 @@ pub fn blank_row() -> Row {
         count: 0,
         inside: false,
         numbers: [0; 6],
+        letters: 0,
     }
 }
 
@@ -35,6 +45,7 @@ fn with_digit(row: Row, digit: u8) -> Row {
         }
         row.inside = true;
     }
+    row.letters = 0;
     let n = row.count as usize;
     if n < 1 {
         return row;
@@ -45,6 +56,31 @@ fn with_digit(row: Row, digit: u8) -> Row {
         row.numbers = numbers;
     }
     row
+}
+
+// The letter of the word `bound` that comes after so many.
+fn letter_after(letters: u32) -> u8 {
+    match letters {
+        0 => b'b',
+        1 => b'o',
+        2 => b'u',
+        3 => b'n',
+        _ => b'd',
+    }
+}
+
+// How many letters of the word `bound` stand there with a byte more that is no digit. Blanks may stand around it.
+fn letters_with(letters: u32, b: u8) -> u32 {
+    let blank = (b == b' ') | (b == b'\t') | (b == b'\r');
+    if blank & ((letters == 0) | (letters == BOUND)) {
+        return letters;
+    }
+    if letters < BOUND {
+        if b == letter_after(letters) {
+            return letters + 1;
+        }
+    }
+    OTHER
 }
 
 // The line with a byte more.
@@ -59,6 +95,7 @@ pub fn with_byte(row: Row, b: u8) -> Row {
         }
     }
     row.inside = false;
+    row.letters = letters_with(row.letters, b);
     row
 }
 
@@ -76,13 +113,14 @@ fn last_tasks(p: Plan) -> u32 {
 // What the line is below a plan: 0 nothing, 1 a guest, 2 a task, 3 none of these.
 pub fn kind_of(row: Row, p: Plan) -> u32 {
     let x = row.numbers;
+    let ended = (row.letters == 0) | (row.letters == BOUND);
     if (row.first == 0) | (row.first == b'#') {
         return 0;
     }
     if (row.first == b'g') & (row.count == 4) & (x[3] <= 65535) & (p.count < 8) {
         return 1;
     }
-    if (row.first == b't') & (row.count == 3) & (last_tasks(p) < 16) {
+    if (row.first == b't') & (row.count == 3) & (last_tasks(p) < 16) & ended {
         return 2;
     }
     3
@@ -97,7 +135,7 @@ fn with_guest(p: Plan, x: [u32; 6]) -> Plan {
 }
 
 // The plan with the line's task below the last guest's others.
-fn with_task(p: Plan, x: [u32; 6]) -> Plan {
+fn with_task(p: Plan, x: [u32; 6], bound: bool) -> Plan {
     let mut guests = p.guests;
     let count = p.count;
     let n = count as usize;
@@ -106,7 +144,7 @@ fn with_task(p: Plan, x: [u32; 6]) -> Plan {
     }
     let k = n - 1;
     if k < 8 {
-        guests[k] = crate::with_task(guests[k], x[0], x[1], x[2]);
+        guests[k] = crate::with_task(guests[k], x[0], x[1], x[2], bound);
     }
     Plan { count, guests }
 }
@@ -119,7 +157,7 @@ pub fn with_line(p: Plan, row: Row) -> Plan {
         return with_guest(p, x);
     }
     if kind == 2 {
-        return with_task(p, x);
+        return with_task(p, x, row.letters == BOUND);
     }
     p
 }

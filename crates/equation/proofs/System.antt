@@ -1,12 +1,19 @@
--- A task's equation taken apart into whole server periods and the last one. Assumes nothing.
+-- What a task meets of a gap, and its equation taken apart into whole server periods and the last one. Assumes nothing.
 use mathlib.Core.Path.{_≡_, sym, _∙_, ap}
+use mathlib.Core.Bool.{Bool, true, false}
 use Prim.Native.Nat.{ℕ, suc, _+_, _-_, _*_, _≤_, _<_}
 use native.Mathlib.Nat.{mul-add}
 use native.Mathlib.Omega.{arith}
 use Rattle.equation.specs.Guest.{guestSide}
-use Rattle.equation.specs.System.{System, load, serverPeriods, rightAt, right}
+use Rattle.equation.specs.System.{gapFor, System, load, serverPeriods, rightAt, right}
 use Rattle.rounding.proofs.Asked.{asked-mono}
 use Rattle.rounding.proofs.Up.{Blocks, blocks}
+
+-- of a gap that is at most e longer a task meets at most e more, bound or not
+pub gap-for-grows : (b : Bool) (c d e : ℕ) → d ≤ e + c → gapFor b d ≤ e + gapFor b c
+unfolding gapFor
+gap-for-grows true c d e h = omega arith
+gap-for-grows false c d e h = h
 
 -- What the laws ask of task i of a system: x is the guest's own response.
 pub record Regular (S : System) (i x : ℕ) : Type 0 where
@@ -26,6 +33,12 @@ load-grows S i h = omega (arith, asked-mono (S .run) (S .every) (S .gap) i h)
 pub load-some : (S : System) (i w : ℕ) → 0 < S .run i → 0 < load S i w
 unfolding load
 load-some S i w h = omega arith
+
+-- a task meets no more than the gap
+pub gap-for-most : (b : Bool) (d : ℕ) → gapFor b d ≤ d
+unfolding gapFor
+gap-for-most true d = omega arith
+gap-for-most false d = omega arith
 
 -- The right side taken apart: m whole server periods, and 1 to C ticks in the last.
 pub record Parts (S : System) (i w m : ℕ) : Type 0 where

@@ -1,11 +1,18 @@
 -- The equation of a task, over functions of a place. The records of a plan, the columns that the code reads, and the
 -- windows behind demand 3 each say which numbers these functions are.
+use mathlib.Core.Bool.{Bool, true, false}
 use Prim.Native.Nat.{ℕ, _+_, _-_, _*_}
 use Rattle.lists.specs.declared.Found.{Found}
 use Rattle.lists.specs.declared.Found.the-variants.{At, Nothing}
 use Rattle.rounding.specs.Up.{up}
 use Rattle.rounding.specs.Asked.{asked}
 use Rattle.equation.specs.Solve.{solve}
+
+-- what a task meets of a gap before its guest's next period: nothing where it is bound, for its releases are taken at a
+-- period's start alone
+unfoldable pub gapFor : (isBound : Bool) → (gap : ℕ) → ℕ
+gapFor true gap = 0
+gapFor false gap = gap
 
 -- A guest seen from its tasks: its capacity C and its period T, what the guests above take from v ticks, and of the
 -- task at each place its charged run, its period and its J, the first gap that a release of it can meet.

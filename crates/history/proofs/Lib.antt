@@ -9,6 +9,7 @@ pub mod Stays
 pub mod Refused
 pub mod Since
 pub mod Clocks
+pub mod ByState
 pub mod Again
 pub mod Settings
 -- The invariants that are kept.
@@ -26,5 +27,6 @@ pub mod Above
 pub mod FinishedBy
 pub mod NeverLate
 pub mod NeverTurnedAway
+pub mod Positions
 pub mod Pairs
 pub mod Times

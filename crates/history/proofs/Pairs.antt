@@ -12,9 +12,10 @@ use Rattle.sheet.specs.Sheet.{pairGuest, pairTask, answerTo}
 use Rattle.verdict.specs.Quoted.{Quoted}
 use Rattle.history.specs.Calls.{Call, releasing, sheeting, start, after, play, released, ticksIn, NoneTaken}
 use Rattle.history.specs.Finished.{FinishedBy}
-use Rattle.history.specs.Named.{everyBy, deadlineBy}
+use Rattle.history.specs.Named.{everyBy, deadlineBy, StartsHere}
 use Rattle.history.specs.Sheets.{releases, upToPair, PairOf, NotBefore}
 use Rattle.history.proofs.FinishedBy.{finished-by-R}
+use Rattle.history.proofs.Positions.{here-in-sheet}
 use Rattle.history.proofs.Sheets.{play-append, sheet-is-releases, pair-is-release, around, ticks-append, releases-none, none-up-to, finished-later}
 use Rattle.history.proofs.NeverTurnedAway as turned
 
@@ -59,15 +60,17 @@ module _ (p : Plan) (id number R : ℕ) (quoted : Quoted p id number R) (cs : Li
       (later ++ ds)
       (omega (arith, ticks-append later ds e, releases-none (drop (suc i) pairs) e))))
 
-  -- A pair is taken if no release of the task was taken before, in the history or in the sheet.
+  -- A pair is taken if no release of the task was taken before, in the history or in the sheet, where it may start.
   pub pair-first-taken :
       NoneTaken id number cs (start p)
+      → StartsHere p id number (play cs (start p))
       → NotBefore (play cs (start p)) pairs i id number
       → answerTo (play cs (start p)) pairs i ≡ 0
-  pair-first-taken none not =
+  pair-first-taken none here not =
       as-release (start p) cs pairs room i Q
       ∙ turned.first-taken p id number R quoted (upToPair cs pairs i)
       (none-up-to cs pairs i (start p) (omega (arith, Q .there)) none not)
+      (here-in-sheet p id number cs pairs i (start p) here)
 
   -- A pair is never refused by 10.
   pub pair-never-10 : answerTo (play cs (start p)) pairs i ≡ 10 → ⊥
@@ -76,20 +79,22 @@ module _ (p : Plan) (id number R : ℕ) (quoted : Quoted p id number R) (cs : Li
 
 module _ (p : Plan) (id number R : ℕ) (quoted : Quoted p id number R) where
   -- A pair is taken if at least the task's period of ticks was done since the last release of it that was taken, and
-  -- none was taken earlier in the sheet.
+  -- none was taken earlier in the sheet, where it may start.
   pub pair-next-taken :
       (cs : List Call)
       → release (play cs (start p)) id number .refusal .number ≡ 0
       → (ds : List Call)
       → NoneTaken id number ds (released p id number cs)
       → everyBy p id number ≤ ticksIn ds (released p id number cs)
+      → StartsHere p id number (play ds (released p id number cs))
       → (pairs : List ℕ) (room i : ℕ)
       → PairOf (play ds (released p id number cs)) pairs room i id number
       → NotBefore (play ds (released p id number cs)) pairs i id number
       → answerTo (play ds (released p id number cs)) pairs i ≡ 0
-  pair-next-taken cs taken ds none long pairs room i Q not =
+  pair-next-taken cs taken ds none long here pairs room i Q not =
       let e = released p id number cs in
       as-release e ds pairs room i Q
       ∙ turned.next-taken p id number R quoted cs taken (upToPair ds pairs i)
       (none-up-to ds pairs i e (omega (arith, Q .there)) none not)
       (omega (arith, ticks-append ds (releases (take i pairs)) e, releases-none (take i pairs) (play ds e)))
+      (here-in-sheet p id number ds pairs i e here)

@@ -12,7 +12,7 @@ use Rattle.dispatcher.specs.Release.{release}
 use Rattle.dispatcher.specs.Valid.{stateOk}
 use Rattle.verdict.specs.Quoted.{Quoted}
 use Rattle.history.specs.Calls.{Call, releasing, ticking, start, after, play, released, times, ticksOf, ticksIn, Throughout, NoneTaken, EachRelease}
-use Rattle.history.specs.Named.{everyBy}
+use Rattle.history.specs.Named.{everyBy, StartsHere}
 use Rattle.verdict_laws.proofs.Tasks.{quoted-means}
 use Rattle.history.proofs.Ticks.{tick-one}
 use Rattle.history.proofs.Play.{sound-after}
@@ -51,10 +51,11 @@ pub early-again :
     → release (play cs (start p)) id number .refusal .number ≡ 0
     → (n : ℕ)
     → n < everyBy p id number
+    → StartsHere p id number (play (times n) (released p id number cs))
     → release (play (times n) (released p id number cs)) id number .refusal .number ≡ 9
-early-again p id number order cs taken-it n h =
+early-again p id number order cs taken-it n h here =
     nine-exactly p order id number cs taken-it (times n) (none-in-times id number n (released p id number cs)) .1
-    (omega (arith, ticks-since p id number order cs n))
+    (here, omega (arith, ticks-since p id number order cs n))
 
 -- Released again after as many ticks as its period or more, a quoted task is taken.
 pub due-again :
@@ -64,7 +65,8 @@ pub due-again :
     → release (play cs (start p)) id number .refusal .number ≡ 0
     → (n : ℕ)
     → everyBy p id number ≤ n
+    → StartsHere p id number (play (times n) (released p id number cs))
     → release (play (times n) (released p id number cs)) id number .refusal .number ≡ 0
-due-again p id number R quoted cs taken-it n h =
+due-again p id number R quoted cs taken-it n h here =
     next-taken p id number R quoted cs taken-it (times n) (none-in-times id number n (released p id number cs))
-    (omega (arith, ticks-since p id number (quoted-means p id number R quoted .0 .there .order) cs n))
+    (omega (arith, ticks-since p id number (quoted-means p id number R quoted .0 .there .order) cs n)) here

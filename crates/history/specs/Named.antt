@@ -1,7 +1,11 @@
 -- A guest and a task as callers name them: by the guest's id, and the task's number from 1.
+use mathlib.Core.Path.{_≡_}
+use mathlib.Core.Bool.{Bool, true}
 use Prim.Native.Nat.{ℕ, _-_}
+use Rattle.lists.specs.Places.{nth}
 use Rattle.plan.specs.declared.Guest.{Guest}
 use Rattle.plan.specs.declared.Plan.{Plan}
+use Rattle.plan.specs.Marks.{isBound}
 use Rattle.plan.specs.Place.{placeOf}
 use Rattle.plan.specs.Records.{guestAt}
 use Rattle.dispatcher.specs.declared.Dispatcher.{Dispatcher}
@@ -31,3 +35,15 @@ waitBy p id number d = waitAt d (placeOf p id) (number - 1)
 -- the age of that task, in a state of the plan
 abbrev pub ageBy : Plan → (id number : ℕ) → Dispatcher → ℕ
 ageBy p id number d = ageAt d (placeOf p id) (number - 1)
+
+-- whether that task is bound to its guest's period
+abbrev pub boundBy : Plan → (id number : ℕ) → Bool
+boundBy p id number = isBound (guestBy p id) (number - 1)
+
+-- the position of that guest, in a state of the plan
+abbrev pub positionBy : Plan → (id : ℕ) → Dispatcher → ℕ
+positionBy p id d = nth (d .position) (placeOf p id)
+
+-- That task may be released where its guest stands: if it is bound, at position 0.
+abbrev pub StartsHere : Plan → (id number : ℕ) → Dispatcher → Type 0
+StartsHere p id number d = boundBy p id number ≡ true → positionBy p id d ≡ 0

@@ -8,9 +8,11 @@ use native.Mathlib.Decide.{ℕ-discrete}
 use native.Mathlib.Omega.{arith}
 use lib.Dec.{eqb}
 use borrow.Author.Tests.{lt-ltb}
+use Rattle.lists.specs.Places.{nth}
 use Rattle.lists.specs.Refusals.{refusal, _orRefuse_}
 use Rattle.plan.specs.declared.Guest.{Guest}
 use Rattle.plan.specs.declared.Plan.{Plan}
+use Rattle.plan.specs.Marks.{mayStart}
 use Rattle.plan.specs.Place.{placeOf, hasGuest, hasNumber, hasTask}
 use Rattle.plan.specs.Records.{everyOf}
 use Rattle.plan.specs.Charge.{charged}
@@ -27,10 +29,10 @@ use Rattle.dispatcher_laws.proofs.Sound.{Sound, sound-taken}
 use Rattle.dispatcher_laws.proofs.Release.{Free, Took, kept, took, release-took, release-number, free-taken, taken-here, taken-else}
 use Rattle.independence.proofs.Alike.{Alike, tasksOf, in-one, in-other, same-record, tasks-one, tasks-other}
 
--- The number of a release once the guest is known to be there: 8, 9, 10.
-abbrev ownNumber : (tasks wait rest task : ℕ) → ℕ
-ownNumber tasks wait rest task =
-    refusal (hasNumber tasks task orRefuse 8 ∷ eqb wait 0 orRefuse 9 ∷ eqb rest 0 orRefuse 10 ∷ [])
+-- The number of a release once the guest is known to be there: 8, 17, 9, 10.
+abbrev ownNumber : Bool → (tasks wait rest task : ℕ) → ℕ
+ownNumber may tasks wait rest task =
+    refusal (hasNumber tasks task orRefuse 8 ∷ may orRefuse 17 ∷ eqb wait 0 orRefuse 9 ∷ eqb rest 0 orRefuse 10 ∷ [])
 
 -- Where the guest is there, 14 and 7 are not given.
 number-here :
@@ -38,18 +40,20 @@ number-here :
     → Sound p d
     → placeOf (d .plan) id ≡ k
     → k < d .plan .count
-    → releaseNumber d id task ≡ ownNumber (guestIn d k .tasks) (waitAt d k (task - 1)) (restAt d k (task - 1)) task
+    → releaseNumber d id task
+    ≡ ownNumber (mayStart (guestIn d k) (nth (d .position) k) (task - 1)) (guestIn d k .tasks) (waitAt d k (task - 1))
+    (restAt d k (task - 1)) task
 unfolding releaseNumber hasGuest hasTask
 number-here d id k task D e h = rw e (go-on 14 _ (D .ok) ∙ go-on 7 _ (lt-ltb k (d .plan .count) h))
 
 -- Numbers that agree on a task that is there give the same answer.
 own-number :
-    (b : Bool) (tasks wait rest wait' rest' task : ℕ)
+    (b may : Bool) (tasks wait rest wait' rest' task : ℕ)
     → hasNumber tasks task ≡ b
     → (task - 1 < tasks → (wait ≡ wait') × (rest ≡ rest'))
-    → ownNumber tasks wait rest task ≡ ownNumber tasks wait' rest' task
-own-number false tasks wait rest wait' rest' task e h = stop 8 _ e ∙ sym (stop 8 _ e)
-own-number true tasks wait rest wait' rest' task e h =
+    → ownNumber may tasks wait rest task ≡ ownNumber may tasks wait' rest' task
+own-number false may tasks wait rest wait' rest' task e h = stop 8 _ e ∙ sym (stop 8 _ e)
+own-number true may tasks wait rest wait' rest' task e h =
     let w = within-says 1 tasks task e in
     let s = h (omega (arith, w .0, w .1)) in
     rw (s .0, s .1) refl
@@ -65,12 +69,18 @@ module _ {id k : ℕ} {p q : Plan} (S : SameFor id k p q) {d e : Dispatcher} (A 
   place-other = ap (λ (z : Plan). placeOf z id) (A .other .plan) ∙ there-place q id k (S .there)
 
   -- ---- its own release
+  -- A task of its own may start in both or in neither.
+  same-start :
+      (task : ℕ)
+      → mayStart (guestIn d k) (nth (d .position) k) (task - 1) ≡ mayStart (guestIn e k) (nth (e .position) k) (task - 1)
+  same-start task = rw (same-record S A, A .position k (omega arith)) refl
+
   -- A release of its own comes to the same number in both.
   same-number : (task : ℕ) → releaseNumber d id task ≡ releaseNumber e id task
   same-number task =
       number-here d id k task (A .one) place-one (in-one S A)
-      ∙ rw (tasks-one S A, tasks-other S A)
-      (own-number (hasNumber (tasksOf p k) task) (tasksOf p k) (waitAt d k (task - 1)) (restAt d k (task - 1))
+      ∙ rw (same-start task, tasks-one S A, tasks-other S A)
+      (own-number (hasNumber (tasksOf p k) task) (mayStart (guestIn e k) (nth (e .position) k) (task - 1)) (tasksOf p k) (waitAt d k (task - 1)) (restAt d k (task - 1))
       (waitAt e k (task - 1)) (restAt e k (task - 1)) task refl (λ l. (A .wait (task - 1) l, A .rest (task - 1) l)))
       ∙ sym (number-here e id k task (A .other) place-other (in-other S A))
 

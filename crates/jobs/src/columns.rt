@@ -1,9 +1,10 @@
-// What a taken release sets, gathered once for a sheet: each task's charged run and period at its place.
+// What a sheet gathers once: each task's charged run and period at its place, and each guest's barred tasks.
 ghost use mathlib.Core.Path.{_≡_};
 ghost use Prim.Native.Nat.{_<_};
 ghost use Rattle.plan.specs.Order.{planRefusal};
 ghost use Rattle.plan.specs.Ranges.{mostGuests};
 ghost use Rattle.jobs.specs.Rows.{ShortRuns, Long, RowTo, JobsOf};
+ghost use Rattle.jobs.specs.Barred.{barredBy, BarredTo};
 use crate::Jobs;
 use plan::Guest;
 use plan::Plan;
@@ -30,19 +31,39 @@ fn put_row(g: Guest, k: usize, runs: &mut [u32; 128], periods: &mut [u32; 128])
     }
 }
 
-// The charged run and the period of each task of a plan in order.
-pub fn jobs_of(plan: Plan) -> Jobs
+// The marks of a guest's tasks that may not be released where it stands.
+fn barred_by(marks: u16, position: u32) -> u16
+    ensures { λ r. ⌜ r ≡ barredBy marks position ⌝ }
+{
+    if 0 < position { marks } else { 0 }
+}
+
+// The charged run and the period of each task of a plan in order, and the barred tasks of each guest.
+pub fn jobs_of(plan: Plan, position: &[u32; 8]) -> Jobs
     requires { ⌜ planRefusal plan .number ≡ 0 ⌝ }
-    ensures { λ r. ⌜ JobsOf plan (r .runs) (r .periods) ⌝ }
+    ensures { λ r. ⌜
+        JobsOf plan (r .runs) (r .periods)
+        × BarredTo plan (now (position .entry)) (plan .count) (r .barred) (r .clear)
+        ⌝ }
 {
     let n = plan.count as usize;
     let mut runs = [0u32; 128];
     let mut periods = [0u32; 128];
+    let mut barred = [0u16; 16];
+    let mut clear = true;
     let mut k: usize = 0;
     while k < n {
         let g = plan.guests[k];
         put_row(g, k, &mut runs, &mut periods);
+        let marks = barred_by(g.marks, position[k]);
+        barred[k] = marks;
+        clear = clear & (marks < 1);
         k += 1;
     }
-    Jobs { runs, periods }
+    Jobs {
+        runs,
+        periods,
+        barred,
+        clear,
+    }
 }

@@ -21,9 +21,17 @@ pub stop : {b : Bool} (n : ℕ) (ts : List Test) → b ≡ false → refusal (b 
 unfolding refusal unless
 stop n ts e = rw e refl
 
+-- where the number is another than the first test's, that test passed and the tests after it give the number
+pub passed-on :
+    (b : Bool) (n m : ℕ) (ts : List Test)
+    → (n ≡ m → ⊥)
+    → refusal (b orRefuse n ∷ ts) ≡ m
+    → (b ≡ true) × (refusal ts ≡ m)
+unfolding refusal unless
+passed-on true n m ts d e = (refl, e)
+passed-on false n m ts d e = absurd (d e)
+
 -- where the number is 0 the first test passed and nothing after it refused
 pub passed :
     (b : Bool) (n : ℕ) (ts : List Test) → 0 < n → refusal (b orRefuse n ∷ ts) ≡ 0 → (b ≡ true) × (refusal ts ≡ 0)
-unfolding refusal unless
-passed true n ts p e = (refl, e)
-passed false n ts p e = absurd (omega arith)
+passed b n ts p e = passed-on b n 0 ts (λ q. omega arith) e

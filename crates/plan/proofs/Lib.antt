@@ -2,6 +2,7 @@
 pub mod Filled
 pub mod Charge
 pub mod First
+pub mod MarksLaws
 pub mod RangesLaws
 pub mod Order
 pub mod Place

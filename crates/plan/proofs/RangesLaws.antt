@@ -1,13 +1,15 @@
 -- What the tests of the ranges say. Assumes nothing.
 use mathlib.Core.Path.{_≡_, refl}
-use mathlib.Core.Bool.{true, _&&_}
-use Prim.Native.Nat.{ℕ, _≤_, _<_}
+use mathlib.Core.Bool.{Bool, true, false, false≢true, _&&_}
+use Prim.Native.Nat.{ℕ, _%_, _≤_, _<_}
 use native.Mathlib.Omega.{arith}
 use lib.Dec.{leb}
-use borrow.Author.Tests.{leb-true, le-leb}
+use borrow.Author.Tests.{leb-true, le-leb, eqb-true}
 use Rattle.plan.specs.declared.Guest.{Guest}
 use Rattle.plan.specs.Records.{runOf, everyOf, deadlineOf}
-use Rattle.plan.specs.Ranges.{mostTasks, longest, within, headOk, guestOk, taskOk, tasksOk}
+use Rattle.plan.specs.Marks.{isBound}
+use Rattle.plan.specs.Ranges.{mostTasks, longest, within, headOk, guestOk, taskOk, startOk, tasksOk}
+use Rattle.lists.specs.All.{allTo}
 use Rattle.lists.proofs.All.{and-left, and-right, and-true, all-at}
 
 -- a task in its ranges
@@ -32,6 +34,7 @@ pub record HeadIn (id capacity period tasks : ℕ) : Type 0 where
 pub record GuestIn (g : Guest) : Type 0 where
   pub head : HeadIn (g .id) (g .capacity) (g .period) (g .tasks)
   pub tasks : (i : ℕ) → i < g .tasks → TaskIn (runOf g i) (everyOf g i) (deadlineOf g i)
+  pub starts : (i : ℕ) → i < g .tasks → isBound g i ≡ true → everyOf g i % g .period ≡ 0
 
 -- a number that is from low to high
 pub within-says : (low high x : ℕ) → within low high x ≡ true → (low ≤ x) × (x ≤ high)
@@ -80,10 +83,18 @@ task-says run every deadline e =
     let w3 = within-says 1 every deadline (and-right (within 1 longest run && within 1 longest every) _ e) in
     record { runs = w1 .0; run-short = w1 .1; some = w2 .0; short = w2 .1; due = w3 .0; in-time = w3 .1 }
 
+-- a bound task whose period passes is a multiple of its guest's
+pub start-says : (b : Bool) (period every : ℕ) → startOk b period every ≡ true → b ≡ true → every % period ≡ 0
+unfolding startOk
+start-says true period every e h = eqb-true (every % period) 0 e
+start-says false period every e h = absurd (false≢true h)
+
 -- a guest that passes both tests is in its ranges with all its tasks
 pub guest-says : (g : Guest) → guestOk g ≡ true → tasksOk g ≡ true → GuestIn g
 unfolding tasksOk
 guest-says g h t = record {
   head = head-says (g .id) (g .capacity) (g .period) (g .tasks) h;
-  tasks = λ i l. task-says (runOf g i) (everyOf g i) (deadlineOf g i) (all-at _ (g .tasks) i l t);
+  tasks = λ i l.
+      task-says (runOf g i) (everyOf g i) (deadlineOf g i) (all-at _ (g .tasks) i l (and-left (allTo _ (g .tasks)) _ t));
+  starts = λ i l b. start-says (isBound g i) (g .period) (everyOf g i) (all-at _ (g .tasks) i l (and-right (allTo _ (g .tasks)) _ t)) b;
 }

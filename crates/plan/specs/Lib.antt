@@ -1,4 +1,5 @@
 pub mod Records
+pub mod Marks
 pub mod Ranges
 pub mod Charge
 pub mod First

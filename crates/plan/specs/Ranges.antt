@@ -1,11 +1,12 @@
 -- The ranges of document 01's table. The same definitions serve the reader, the records' order, the writer and the
 -- dispatcher's state.
-use mathlib.Core.Bool.{Bool, _&&_}
-use Prim.Native.Nat.{ℕ}
-use lib.Dec.{leb}
+use mathlib.Core.Bool.{Bool, not, _&&_, _||_}
+use Prim.Native.Nat.{ℕ, _%_}
+use lib.Dec.{leb, eqb}
 use Rattle.lists.specs.All.{allTo}
 use Rattle.plan.specs.declared.Guest.{Guest}
 use Rattle.plan.specs.Records.{runOf, everyOf, deadlineOf}
+use Rattle.plan.specs.Marks.{marked}
 
 -- the most guests in a plan
 abbrev pub mostGuests : ℕ
@@ -36,6 +37,12 @@ guestOk g = headOk (g .id) (g .capacity) (g .period) (g .tasks)
 unfoldable pub taskOk : (run every deadline : ℕ) → Bool
 taskOk run every deadline = within 1 longest run && within 1 longest every && within 1 every deadline
 
--- whether each task of a guest passes refusal 6's test
+-- whether the period of a task, where it is bound, is a multiple of its guest's
+unfoldable pub startOk : (isBound : Bool) → (period every : ℕ) → Bool
+startOk isBound period every = not isBound || eqb (every % period) 0
+
+-- whether each task of a guest passes refusal 6's test: its numbers, and the multiple where it is bound
 unfoldable pub tasksOk : Guest → Bool
-tasksOk g = allTo (λ i. taskOk (runOf g i) (everyOf g i) (deadlineOf g i)) (g .tasks)
+tasksOk g =
+    allTo (λ i. taskOk (runOf g i) (everyOf g i) (deadlineOf g i)) (g .tasks)
+    && allTo (λ i. startOk (marked (g .marks) i) (g .period) (everyOf g i)) (g .tasks)

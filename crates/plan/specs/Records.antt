@@ -8,7 +8,17 @@ use Rattle.plan.specs.declared.Plan.{Plan}
 
 -- the guest that is read past the end of a plan
 abbrev pub absent : Guest
-absent = record { id = 0; capacity = 0; period = 0; tasks = 0; charge = 0; run = []; every = []; deadline = [] }
+absent = record {
+  id = 0;
+  capacity = 0;
+  period = 0;
+  tasks = 0;
+  charge = 0;
+  marks = 0;
+  run = [];
+  every = [];
+  deadline = [];
+}
 
 -- the guest at place k, from 0
 abbrev pub guestAt : List Guest → ℕ → Guest
@@ -34,6 +44,7 @@ blank = record {
   period = 0;
   tasks = 0;
   charge = 0;
+  marks = 0;
   run = replicate 16 0;
   every = replicate 16 0;
   deadline = replicate 16 0;

@@ -36,7 +36,7 @@ pub fn guest_number(g: Guest, new: bool) -> u32
     if !new {
         return 4;
     }
-    if !tasks_ok(&run, &every, &deadline, tasks as usize) {
+    if !tasks_ok(g.marks, g.period, &run, &every, &deadline, tasks as usize) {
         return 6;
     }
     0

@@ -7,6 +7,7 @@ ghost use Rattle.plan.specs.Promises.{Checks};
 mod column;
 mod find;
 mod guests;
+mod marks;
 mod ranges;
 
 pub use column::columns_of;
@@ -14,11 +15,13 @@ pub use find::has_task;
 pub use find::look_up;
 pub use find::place_of;
 pub use guests::new_id;
+pub use marks::is_marked;
+pub use marks::live_marks;
 pub use ranges::LONGEST;
 pub use ranges::head_ok;
 pub use ranges::tasks_ok;
 
-// A guest: its server, and a column for each number of its tasks. `every` is each task's period.
+// A guest: its server, its tasks' marks, and a column for each number of its tasks. `every` is each task's period.
 #[repr(C)]
 pub struct Guest {
     pub id: u32,
@@ -26,6 +29,7 @@ pub struct Guest {
     pub period: u32,
     pub tasks: u32,
     pub charge: u16,
+    pub marks: u16,
     pub run: [u32; 16],
     pub every: [u32; 16],
     pub deadline: [u32; 16],
@@ -69,6 +73,7 @@ pub fn blank_guest() -> Guest
         period: 0,
         tasks: 0,
         charge: 0,
+        marks: 0,
         run: [0; 16],
         every: [0; 16],
         deadline: [0; 16],

@@ -1,9 +1,12 @@
 // Document 01's ranges, on numbers and lent columns.
 ghost use mathlib.Core.Path.{_≡_};
+ghost use mathlib.Core.Bool.{_&&_};
 ghost use Prim.Native.Nat.{_≤_};
 ghost use Rattle.lists.specs.Places.{nth};
 ghost use Rattle.lists.specs.All.{allTo};
-ghost use Rattle.plan.specs.Ranges.{mostTasks, headOk, taskOk};
+ghost use Rattle.plan.specs.Marks.{marked};
+ghost use Rattle.plan.specs.Ranges.{mostTasks, headOk, taskOk, startOk};
+use crate::marks::is_marked;
 
 // The longest period and run, in ticks.
 pub const LONGEST: u32 = 1000000;
@@ -31,7 +34,7 @@ fn task_ok(run: u32, every: u32, deadline: u32) -> bool
 }
 
 // Whether each of the first n tasks is in its ranges.
-pub fn tasks_ok(run: &[u32; 16], every: &[u32; 16], deadline: &[u32; 16], n: usize) -> bool
+fn ranges_ok(run: &[u32; 16], every: &[u32; 16], deadline: &[u32; 16], n: usize) -> bool
     requires { ⌜ n ≤ mostTasks ⌝ }
     ensures { λ r. ⌜
         r
@@ -45,4 +48,48 @@ pub fn tasks_ok(run: &[u32; 16], every: &[u32; 16], deadline: &[u32; 16], n: usi
         i += 1;
     }
     ok
+}
+
+// Whether the period of a task, where it is bound, is a multiple of its guest's.
+fn start_ok(bound: bool, period: u32, every: u32) -> bool
+    requires { ⌜ 1 ≤ period ⌝ }
+    ensures { λ r. ⌜ r ≡ startOk bound period every ⌝ }
+{
+    !bound | (every % period == 0)
+}
+
+// Whether each of the first n tasks that is bound has a multiple of its guest's period. Without marks no task is asked.
+fn starts_ok(marks: u16, period: u32, every: &[u32; 16], n: usize) -> bool
+    requires { ⌜ (n ≤ mostTasks) × (1 ≤ period) ⌝ }
+    ensures { λ r. ⌜ r ≡ allTo (λ i. startOk (marked marks i) period (nth (now (every .entry)) i)) n ⌝ }
+{
+    if marks < 1 {
+        return true;
+    }
+    let mut ok = true;
+    let mut i: usize = 0;
+    while i < n {
+        ok = ok & start_ok(is_marked(marks, i), period, every[i]);
+        i += 1;
+    }
+    ok
+}
+
+// Whether each of the first n tasks is in its ranges and may start where its mark says.
+pub fn tasks_ok(
+    marks: u16,
+    period: u32,
+    run: &[u32; 16],
+    every: &[u32; 16],
+    deadline: &[u32; 16],
+    n: usize,
+) -> bool
+    requires { ⌜ (n ≤ mostTasks) × (1 ≤ period) ⌝ }
+    ensures { λ r. ⌜
+        r
+        ≡ (allTo (λ i. taskOk (nth (now (run .entry)) i) (nth (now (every .entry)) i) (nth (now (deadline .entry)) i)) n
+        && allTo (λ i. startOk (marked marks i) period (nth (now (every .entry)) i)) n)
+        ⌝ }
+{
+    ranges_ok(run, every, deadline, n) & starts_ok(marks, period, every, n)
 }

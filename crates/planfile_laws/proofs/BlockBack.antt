@@ -3,33 +3,37 @@
 use mathlib.Core.Path.{_≡_, refl, sym, ap, _∙_}
 use mathlib.Core.Bool.{Bool, true, _&&_}
 use mathlib.Core.List.{List, [], append-nil}
-use Prim.Native.Nat.{ℕ, _+_, _-_, _≤_, _<_}
+use Prim.Native.Nat.{ℕ, _+_, _-_, _^_, _≤_, _<_}
 use native.Mathlib.Decide.{decLt}
 use native.Mathlib.Omega.{arith}
 use lib.ListN.{length}
 use lib.Dec.{ltb}
 use borrow.Author.Tests.{eq-eqb, lt-ltb, le-ltb}
 use Rattle.plan.specs.Ranges.{mostTasks, guestOk, tasksOk}
-use Rattle.block.specs.Layout.{blockSize, blockWords, kindPlaceWord, guestKind, lastPlace, idWord, capacityWord, periodWord, tasksChargeWord, spareFrom, spareTo, runWord, everyWord, deadlineWord, unusedFrom, checkWord, lowHalf, highHalf, halves}
+use Rattle.plan.specs.Marks.{liveMarks}
+use Rattle.block.specs.Layout.{blockSize, blockWords, kindPlaceWord, lastPlace, idWord, capacityWord, periodWord, tasksChargeWord, marksWord, spareFrom, spareTo, runWord, everyWord, deadlineWord, unusedFrom, checkWord, highHalf, halves}
 use Rattle.words.specs.Word.{word}
 use Rattle.words.specs.Bytes.{bytesOf}
-use Rattle.block.specs.Reading.{column, guestOf, sumsToZero, kindOk, ownPlace, zeroBetween, zerosOk, blockNumber}
+use Rattle.block.specs.Reading.{kindIn, placeIn, taskCount, marksIn, column, guestOf, sumsToZero, kindOk, ownPlace, zeroBetween, zerosOk, blockNumber}
+use Rattle.lists.specs.All.{allTo}
 use Rattle.lists.specs.Choice.{pick}
 use Rattle.lists.specs.Places.{nth}
 use Rattle.lists.specs.Sum.{sumTo}
 use Rattle.words.specs.Wrap.{wrapped}
 use Rattle.plan.specs.declared.Guest.{Guest}
-use Rattle.blockwriter.specs.Writing.{wordsOf, withCheck, blockOf}
+use Rattle.blockwriter.specs.Writing.{kindFor, wordsOf, withCheck, blockOf}
 use Rattle.planfile_laws.specs.File.{firstTasks, clearedGuest}
 use Rattle.planfile_laws.specs.Fits.{GuestInTypes}
-use Rattle.lists.proofs.All.{and-true, all-by, all-ext}
+use Rattle.lists.proofs.All.{and-left, and-right, and-true, all-by, all-ext}
 use Rattle.lists.proofs.Sum.{sum-last, sum-same}
 use Rattle.lists.proofs.Table.{table-at, table-ext}
 use Rattle.words.proofs.Bytes.{word-bytesOf, length-bytesOf}
 use Rattle.words.proofs.Wrap.{complement-sum}
+use Rattle.plan.proofs.MarksLaws.{marks-same, marks-below}
 use Rattle.plan.proofs.RangesLaws.{head-says}
 use Rattle.block.proofs.Reading.{none}
 use Rattle.blockwriter.proofs.Writing.{words-length}
+use Rattle.planfile_laws.proofs.Marks.{live-fits, kind-most, kind-passes, marks-pass}
 use Rattle.planfile_laws.proofs.Words.{WordsAt, words-at, words-fit, check-other, check-at, check-fits}
 
 -- A block has 512 bytes.
@@ -67,12 +71,29 @@ module _ (g : Guest) (p : ℕ) (fits : GuestInTypes g) (low : p ≤ lastPlace) (
       )
       (complement-sum (sumTo (nth (wordsOf g p)) checkWord)))
 
+  -- The number of tasks, the kind and the marks are the guest's.
+  count-is : taskCount (blockOf g p) ≡ g .tasks
+  count-is = let e = at tasksChargeWord (omega arith) ∙ written .tasks-charge in omega (arith, e, few)
+
+  opening : word (blockOf g p) kindPlaceWord ≡ halves (kindFor (liveMarks g)) p
+  opening = at kindPlaceWord (omega arith) ∙ written .kind-place
+
+  kind-is : kindIn (blockOf g p) ≡ kindFor (liveMarks g)
+  kind-is = omega (arith, opening, kind-most (liveMarks g))
+
+  marks-at : word (blockOf g p) marksWord ≡ liveMarks g
+  marks-at = at marksWord (omega arith) ∙ written .marks
+
+  few-there : taskCount (blockOf g p) ≤ mostTasks
+  few-there = rw count-is few
+
+  below : liveMarks g < 2 ^ taskCount (blockOf g p)
+  below = rw count-is (marks-below (g .marks) (g .tasks))
+
   opens : (kindOk (blockOf g p) && ownPlace (blockOf g p) p) ≡ true
   opens =
-      let e : word (blockOf g p) kindPlaceWord ≡ halves guestKind p =
-      at kindPlaceWord (omega arith) ∙ written .kind-place in
-      and-true (eq-eqb (lowHalf (word (blockOf g p) kindPlaceWord)) guestKind (omega arith))
-      (eq-eqb (highHalf (word (blockOf g p) kindPlaceWord)) p (omega arith))
+      and-true (kind-passes (blockOf g p) (liveMarks g) kind-is marks-at few-there below)
+      (eq-eqb (placeIn (blockOf g p)) p (omega (arith, opening, kind-most (liveMarks g))))
 
   -- A column of the block is the guest's, with zeros past the tasks.
   column-is :
@@ -100,8 +121,9 @@ module _ (g : Guest) (p : ℕ) (fits : GuestInTypes g) (low : p ≤ lastPlace) (
       let e1 : word (blockOf g p) idWord ≡ g .id = at idWord (omega arith) ∙ written .id in
       let e2 : word (blockOf g p) capacityWord ≡ g .capacity = at capacityWord (omega arith) ∙ written .capacity in
       let e3 : word (blockOf g p) periodWord ≡ g .period = at periodWord (omega arith) ∙ written .period in
-      let e4 : lowHalf (word (blockOf g p) tasksChargeWord) ≡ g .tasks = omega (arith, few) in
       let e5 : highHalf (word (blockOf g p) tasksChargeWord) ≡ g .charge = omega (arith, few) in
+      let e6 : marksIn (blockOf g p) ≡ liveMarks g =
+      omega (arith, marks-at, live-fits (g .marks) (g .tasks) few) in
       let r =
       column-is runWord (g .run)
       (λ i l. entry-is i (runWord i) (nth (g .run) i) (omega arith)
@@ -119,8 +141,9 @@ module _ (g : Guest) (p : ℕ) (fits : GuestInTypes g) (low : p ≤ lastPlace) (
         id = e1 k;
         capacity = e2 k;
         period = e3 k;
-        tasks = e4 k;
+        tasks = count-is k;
         charge = e5 k;
+        marks = e6 k;
         run = r k;
         every = e k;
         deadline = d k;
@@ -136,9 +159,13 @@ module _ (g : Guest) (p : ℕ) (fits : GuestInTypes g) (low : p ≤ lastPlace) (
   tasks-pass : tasksOk (clearedGuest g) ≡ true
   unfolding tasksOk
   tasks-pass =
-      all-ext _ _ (g .tasks)
+      and-true
+      (all-ext _ _ (g .tasks)
       (λ i l. rw (first-at (g .run) i l, first-at (g .every) i l, first-at (g .deadline) i l) refl)
-      ∙ tasks
+      ∙ and-left (allTo _ (g .tasks)) _ tasks)
+      (all-ext _ _ (g .tasks)
+      (λ i l. rw (marks-same (g .marks) (g .tasks) i l, first-at (g .every) i l) refl)
+      ∙ and-right (allTo _ (g .tasks)) _ tasks)
 
   zero-between : (from to : ℕ) → ((k : ℕ) → from ≤ k → k < to → word (blockOf g p) k ≡ 0)
       → zeroBetween (blockOf g p) from to ≡ true
@@ -147,10 +174,11 @@ module _ (g : Guest) (p : ℕ) (fits : GuestInTypes g) (low : p ≤ lastPlace) (
 
   zeros : zerosOk (blockOf g p) ≡ true
   zeros =
-      let n : lowHalf (word (blockOf g p) tasksChargeWord) ≡ g .tasks = ap (λ (x : Guest). x .tasks) record-is in
       and-true
-      (zero-between spareFrom spareTo (λ k h l. at k (omega arith) ∙ written .spare k h l))
-      (rw n (zero-between (unusedFrom (g .tasks)) checkWord (λ k h l. at k l ∙ written .unused k h (omega arith))))
+      (and-true (marks-pass (blockOf g p) (liveMarks g) kind-is marks-at few-there below)
+      (zero-between spareFrom spareTo (λ k h l. at k (omega arith) ∙ written .spare k h l)))
+      (rw count-is
+      (zero-between (unusedFrom (g .tasks)) checkWord (λ k h l. at k l ∙ written .unused k h (omega arith))))
 
   -- What the reader says of what the writer writes.
   pub number-back : (new : Bool) → new ≡ true → blockNumber (blockOf g p) (ownPlace (blockOf g p) p) new ≡ 0

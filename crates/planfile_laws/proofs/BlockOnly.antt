@@ -1,7 +1,7 @@
 -- One block that is read: each word is the one that the writer would write for its record. Assumes nothing.
 use mathlib.Core.Path.{_≡_, sym, _∙_}
 use mathlib.Core.Logic.{⊎-elim}
-use mathlib.Core.Bool.{Bool}
+use mathlib.Core.Bool.{Bool, true, _&&_}
 use mathlib.Core.List.{List}
 use Prim.Native.Nat.{ℕ, zero, suc, _-_, _/_, _≤_, _<_}
 use native.Mathlib.Decide.{decLt}
@@ -11,10 +11,10 @@ use lib.ListN.{length}
 use lib.Seq.{take-all}
 use borrow.Author.Tests.{eqb-true}
 use Rattle.plan.specs.Ranges.{mostTasks}
-use Rattle.block.specs.Layout.{blockSize, blockWords, kindPlaceWord, guestKind, idWord, capacityWord, periodWord, tasksChargeWord, spareFrom, spareTo, entryWords, runWord, everyWord, deadlineWord, unusedFrom, checkWord}
+use Rattle.block.specs.Layout.{blockSize, blockWords, kindPlaceWord, idWord, capacityWord, periodWord, tasksChargeWord, marksWord, spareFrom, spareTo, entryWords, runWord, everyWord, deadlineWord, unusedFrom, checkWord}
 use Rattle.words.specs.Word.{word}
 use Rattle.words.specs.Bytes.{Bytes}
-use Rattle.block.specs.Reading.{kindIn, placeIn, taskCount, guestOf, kindOk, ownPlace, zeroBetween, blockNumber}
+use Rattle.block.specs.Reading.{placeIn, taskCount, guestOf, kindOk, ownPlace, zeroBetween, marksOk, blockNumber}
 use Rattle.lists.specs.Places.{nth}
 use Rattle.lists.specs.Sum.{sumTo}
 use Rattle.words.specs.Wrap.{wrapped}
@@ -26,17 +26,19 @@ use Rattle.words.proofs.Bytes.{bytes-ext, bytesOf-word}
 use Rattle.words.proofs.Wrap.{complement-only}
 use Rattle.block.proofs.Reading.{BlockIn, block-in, few-in-block, zero-at, column-at}
 use Rattle.blockwriter.proofs.Writing.{words-length}
+use Rattle.planfile_laws.proofs.Marks.{marks-again, kind-again}
 use Rattle.planfile_laws.proofs.Words.{WordsAt, words-at, check-other, check-at}
 
--- A word of the head is one of five.
+-- A word of the head is one of six.
 head-word : (P : ℕ → Type 0) → P kindPlaceWord → P idWord → P capacityWord → P periodWord → P tasksChargeWord
-    → (k : ℕ) → k < spareFrom → P k
-head-word P a b c d e zero h = a
-head-word P a b c d e (suc zero) h = b
-head-word P a b c d e (suc (suc zero)) h = c
-head-word P a b c d e (suc (suc (suc zero))) h = d
-head-word P a b c d e (suc (suc (suc (suc zero)))) h = e
-head-word P a b c d e (suc (suc (suc (suc (suc j))))) h = absurd (omega arith)
+    → P marksWord → (k : ℕ) → k < spareFrom → P k
+head-word P a b c d e f zero h = a
+head-word P a b c d e f (suc zero) h = b
+head-word P a b c d e f (suc (suc zero)) h = c
+head-word P a b c d e f (suc (suc (suc zero))) h = d
+head-word P a b c d e f (suc (suc (suc (suc zero)))) h = e
+head-word P a b c d e f (suc (suc (suc (suc (suc zero))))) h = f
+head-word P a b c d e f (suc (suc (suc (suc (suc (suc j)))))) h = absurd (omega arith)
 
 -- A word of entry i is its run, its period or its deadline.
 entry-word : (P : ℕ → Type 0) (i k : ℕ) → runWord i ≤ k → k < runWord (suc i) → P (runWord i) → P (everyWord i)
@@ -61,28 +63,34 @@ module _ (b : List ℕ) (p : ℕ) (new : Bool) (long : length b ≡ blockSize) (
   written : WordsAt (guestOf b) p
   written = words-at (guestOf b) p few
 
+  -- The tests of 5 that it passed.
+  before-unused : (marksOk b && zeroBetween b spareFrom spareTo) ≡ true
+  before-unused = and-left (marksOk b && zeroBetween b spareFrom spareTo) _ (passed .zeros)
+
   -- The head.
   head-at : (k : ℕ) → k < spareFrom → nth (wordsOf (guestOf b) p) k ≡ word b k
   head-at =
-      let k1 : kindIn b ≡ guestKind = eqb-true _ _ (and-left (kindOk b) (ownPlace b p) (passed .opens)) in
+      let k = and-left (kindOk b) (ownPlace b p) (passed .opens) in
+      let m = and-left (marksOk b) _ before-unused in
+      let k1 = kind-again b k m few in
       let k2 : placeIn b ≡ p = eqb-true _ _ (and-right (kindOk b) (ownPlace b p) (passed .opens)) in
       let e0 = written .kind-place in
       let e4 = written .tasks-charge in
       head-word (λ k. nth (wordsOf (guestOf b) p) k ≡ word b k) (omega arith) (written .id) (written .capacity)
-      (written .period) (omega arith)
+      (written .period) (omega arith) (written .marks ∙ marks-again b k m few)
 
   -- The bytes that must be zero.
   spare-at : (k : ℕ) → spareFrom ≤ k → k < spareTo → nth (wordsOf (guestOf b) p) k ≡ word b k
   spare-at k h l =
       written .spare k h l
-      ∙ sym (zero-at b spareFrom spareTo k h l (and-left (zeroBetween b spareFrom spareTo) _ (passed .zeros)))
+      ∙ sym (zero-at b spareFrom spareTo k h l (and-right (marksOk b) _ before-unused))
 
   unused-at : (k : ℕ) → unusedFrom (taskCount b) ≤ k → k < checkWord → nth (wordsOf (guestOf b) p) k ≡ word b k
   unused-at k h l =
       written .unused k h (omega arith)
       ∙ sym
       (zero-at b (unusedFrom (taskCount b)) checkWord k h l
-      (and-right (zeroBetween b spareFrom spareTo) _ (passed .zeros)))
+      (and-right (marksOk b && zeroBetween b spareFrom spareTo) _ (passed .zeros)))
 
   -- The words of entry i.
   entry-at : (i : ℕ) → i < taskCount b → (k : ℕ) → runWord i ≤ k → k < runWord (suc i)

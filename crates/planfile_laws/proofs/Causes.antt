@@ -1,31 +1,30 @@
--- Each test of plan files fails exactly when document 01's cause holds. Assumes nothing.
+-- Each test of plan files but that of zero bytes fails exactly when document 01's cause holds. Assumes nothing.
 use mathlib.Core.Path.{_≡_, refl, sym}
-use mathlib.Core.Logic.{_⊎_, inl, inr, ⊎-elim}
+use mathlib.Core.Logic.{_⊎_, _≢_, inl, inr, ⊎-elim}
 use mathlib.Core.Bool.{Bool, true, false, false≢true, not, _&&_, _||_, and-true}
 use mathlib.Core.List.{List}
-use Prim.Native.Nat.{ℕ, _+_, _*_, _-_, _%_, _≤_, _<_}
-use native.Mathlib.Decide.{decLt}
+use Prim.Native.Nat.{ℕ, _%_, _<_}
+use native.Mathlib.Decide.{ℕ-discrete}
 use native.Mathlib.Omega.{arith}
 use lib.Dec.{eqb, leb}
 use borrow.Author.Tests.{lt-leb, leb-false, eq-eqb, ne-eqb, eqb-true, eqb-false, not-false}
 use Rattle.lists.specs.All.{allTo}
-use Rattle.lists.specs.Places.{nth}
 use Rattle.words.specs.Word.{word}
 use Rattle.words.specs.Wrap.{wrapped}
 use Rattle.plan.specs.declared.Guest.{Guest}
 use Rattle.plan.specs.Records.{runOf, everyOf, deadlineOf}
-use Rattle.plan.specs.Ranges.{mostTasks, longest, within, headOk, guestOk, taskOk, tasksOk}
+use Rattle.plan.specs.Marks.{isBound}
+use Rattle.plan.specs.Ranges.{mostTasks, longest, within, headOk, guestOk, taskOk, startOk, tasksOk}
 use Rattle.plan.specs.Order.{newId}
 use Rattle.lists.specs.Exactly.{_exactlyWhen_}
-use Rattle.block.specs.Layout.{blockSize, blockWords, guestKind, spareFrom, spareTo, unusedFrom, checkWord}
-use Rattle.block.specs.Reading.{kindIn, placeIn, taskCount, sumsToZero, kindOk, ownPlace, zeroBetween, zerosOk}
+use Rattle.block.specs.Layout.{blockSize, blockWords, unmarkedKind, markedKind}
+use Rattle.block.specs.Reading.{kindIn, placeIn, marksIn, sumsToZero, kindOk, ownPlace}
 use Rattle.blockfile.specs.File.{mostBytes, sizeOk}
-use Rattle.planfile_laws.specs.Causes.{Outside, WrongLength, WrongSum, WrongOpening, WrongHead, Seen, WrongGuest, WrongZero, TaskOutside, WrongTask}
+use Rattle.planfile_laws.specs.Causes.{Outside, WrongLength, WrongSum, WrongKind, WrongOpening, WrongHead, Seen, WrongGuest, TaskOutside, NoMultiple, WrongTask}
 use Rattle.lists.proofs.All.{all-false, all-fails}
-use Rattle.block.proofs.Table.{word-bytes, zero-bytes}
 
 -- One of two tests fails.
-both-fail : (a b : Bool) {A B : Type 0} → (a ≡ false) exactlyWhen A → (b ≡ false) exactlyWhen B
+pub both-fail : (a b : Bool) {A B : Type 0} → (a ≡ false) exactlyWhen A → (b ≡ false) exactlyWhen B
     → ((a && b) ≡ false) exactlyWhen (A ⊎ B)
 both-fail true b p q = (
   λ e. inr (q .0 e),
@@ -69,12 +68,29 @@ length-fails n =
 pub sum-fails : (b : List ℕ) → (sumsToZero b ≡ false) exactlyWhen WrongSum b
 sum-fails b = eqb-fails (wrapped (word b) blockWords) 0
 
+-- 3: the kind, by what it is.
+pub kind-fails : (b : List ℕ) → (kindOk b ≡ false) exactlyWhen WrongKind b
+kind-fails b =
+    elim (ℕ-discrete (kindIn b) unmarkedKind) [
+      | yes k ↦ rw (eq-eqb (kindIn b) unmarkedKind k) (
+        λ e. absurd (false≢true (sym e)),
+        λ h. absurd (⊎-elim (λ n. n .0 k) (λ t. omega (arith, k, t .0)) h),
+      )
+      | no n ↦ elim (ℕ-discrete (kindIn b) markedKind) [
+        | yes k ↦ rw k (
+          λ e. inr (refl, omega (arith, leb-false 1 (marksIn b) e)),
+          λ h. lt-leb 1 (marksIn b) (⊎-elim (λ n. absurd (n .1 refl)) (λ t. omega (arith, t .1)) h),
+        )
+        | no m ↦ rw (ne-eqb (kindIn b) unmarkedKind n, ne-eqb (kindIn b) markedKind m) (λ e. inl (n, m), λ h. refl)
+      ]
+    ]
+
 -- 3: kind and, where it counts, place.
 pub opening-fails : (placed : Bool) (b : List ℕ) (place : ℕ)
     → ((kindOk b && (not placed || ownPlace b place)) ≡ false) exactlyWhen WrongOpening placed b place
 opening-fails true b place =
-    both-fail (kindOk b) (ownPlace b place) (eqb-fails (kindIn b) guestKind) (eqb-fails (placeIn b) place)
-opening-fails false b place = rw (and-true (kindOk b)) (eqb-fails (kindIn b) guestKind)
+    both-fail (kindOk b) (ownPlace b place) (kind-fails b) (eqb-fails (placeIn b) place)
+opening-fails false b place = rw (and-true (kindOk b)) (kind-fails b)
 
 -- 4: the guest's own numbers.
 pub head-fails : (g : Guest) → (guestOk g ≡ false) exactlyWhen WrongHead g
@@ -109,63 +125,6 @@ pub guest-fails : (g : Guest) (id : ℕ → ℕ) (k : ℕ)
     → ((guestOk g && newId id k) ≡ false) exactlyWhen WrongGuest g id k
 guest-fails g id k = both-fail (guestOk g) (newId id k) (head-fails g) (id-fails id k)
 
--- A word that is not zero has a byte that is not.
-some-byte : (b : List ℕ) (q : ℕ) → (word b q ≡ 0 → ⊥) → (i : ℕ) × (((4 * q ≤ i) × (i < 4 * q + 4)) × (nth b i ≡ 0 → ⊥))
-some-byte b q d =
-    elim (decLt 0 (nth b (4 * q))) [
-      | yes h ↦ (4 * q, ((omega arith, omega arith), λ e. omega arith))
-      | no h ↦ elim (decLt 0 (nth b (4 * q + 1))) [
-        | yes i ↦ (4 * q + 1, ((omega arith, omega arith), λ e. omega arith))
-        | no i ↦ elim (decLt 0 (nth b (4 * q + 2))) [
-          | yes j ↦ (4 * q + 2, ((omega arith, omega arith), λ e. omega arith))
-          | no j ↦ elim (decLt 0 (nth b (4 * q + 3))) [
-            | yes k ↦ (4 * q + 3, ((omega arith, omega arith), λ e. omega arith))
-            | no k ↦ absurd (d (omega (arith, word-bytes b q)))
-          ]
-        ]
-      ]
-    ]
-
--- A byte of the words from one on, up to another, is not zero.
-byte-between : List ℕ → (from to : ℕ) → Type 0
-byte-between b from to = (i : ℕ) × (((4 * from ≤ i) × (i < 4 * to)) × (nth b i ≡ 0 → ⊥))
-
-between-some : (b : List ℕ) (from to : ℕ) → zeroBetween b from to ≡ false → byte-between b from to
-unfolding zeroBetween byte-between
-between-some b from to e =
-    let o = all-false (λ k. eqb (word b (from + k)) 0) (to - from) e in
-    let l : o .0 < to - from = o .1 in
-    let s = some-byte b (from + o .0) (eqb-false (word b (from + o .0)) 0 (o .2)) in
-    (s .0, ((omega (arith, s .1 .0 .0), omega (arith, s .1 .0 .1)), s .1 .1))
-
-between-none : (b : List ℕ) (from to : ℕ) (t : Bool) → zeroBetween b from to ≡ t → byte-between b from to → t ≡ false
-unfolding byte-between
-between-none b from to false e o = refl
-between-none b from to true e o = absurd (o .1 .1 (zero-bytes b from to .0 e (o .0) (o .1 .0 .0) (o .1 .0 .1)))
-
-between-fails : (b : List ℕ) (from to : ℕ) → (zeroBetween b from to ≡ false) exactlyWhen byte-between b from to
-between-fails b from to = (between-some b from to, between-none b from to (zeroBetween b from to) refl)
-
--- 5: the bytes that must be zero.
-pub zeros-fail : (b : List ℕ) → (zerosOk b ≡ false) exactlyWhen WrongZero b
-unfolding byte-between
-zeros-fail b =
-    let w =
-    both-fail (zeroBetween b spareFrom spareTo) (zeroBetween b (unusedFrom (taskCount b)) checkWord)
-    (between-fails b spareFrom spareTo) (between-fails b (unusedFrom (taskCount b)) checkWord) in (
-      λ e.
-          ⊎-elim
-          (λ o. (o .0, (inl (o .1 .0), o .1 .1)))
-          (λ o. (o .0, (inr (omega (arith, o .1 .0 .0), omega (arith, o .1 .0 .1)), o .1 .1)))
-          (w .0 e),
-      λ h.
-          w .1
-          (⊎-elim
-          (λ l. inl (h .0, (l, h .1 .1)))
-          (λ l. inr (h .0, ((omega (arith, l .0), omega (arith, l .1)), h .1 .1)))
-          (h .1 .0)),
-    )
-
 -- A task's numbers.
 task-fails :
     (run every deadline : ℕ)
@@ -179,11 +138,32 @@ task-fails run every deadline =
       λ h. b .1 (⊎-elim (λ x. inl (inl x)) (λ x. ⊎-elim (λ y. inl (inr y)) (λ y. inr y) x) h),
     )
 
+-- The multiple of a bound task.
+start-fails : (bound : Bool) (period every : ℕ)
+    → (startOk bound period every ≡ false) exactlyWhen ((bound ≡ true) × (every % period ≢ 0))
+unfolding startOk
+start-fails true period every = (
+  λ e. (refl, eqb-false (every % period) 0 e),
+  λ h. ne-eqb (every % period) 0 (h .1),
+)
+start-fails false period every = (λ e. absurd (false≢true (sym e)), λ h. absurd (false≢true (h .0)))
+
 -- 6: the tasks.
 pub tasks-fail : (g : Guest) → (tasksOk g ≡ false) exactlyWhen WrongTask g
 unfolding tasksOk
 tasks-fail g =
+    let a =
     some-fails
     (λ i. taskOk (runOf g i) (everyOf g i) (deadlineOf g i)) (g .tasks)
     (λ i. TaskOutside (runOf g i) (everyOf g i) (deadlineOf g i))
-    (λ i. task-fails (runOf g i) (everyOf g i) (deadlineOf g i))
+    (λ i. task-fails (runOf g i) (everyOf g i) (deadlineOf g i)) in
+    let b =
+    some-fails
+    (λ i. startOk (isBound g i) (g .period) (everyOf g i)) (g .tasks) (NoMultiple g)
+    (λ i. start-fails (isBound g i) (g .period) (everyOf g i)) in
+    let w = both-fail _ _ a b in (
+      λ e.
+          ⊎-elim (λ o. (o .0, (o .1 .0, inl (o .1 .1)))) (λ o. (o .0, (o .1 .0, inr (o .1 .1)))) (w .0 e),
+      λ o.
+          w .1 (⊎-elim (λ x. inl (o .0, (o .1 .0, x))) (λ x. inr (o .0, (o .1 .0, x))) (o .1 .1)),
+    )

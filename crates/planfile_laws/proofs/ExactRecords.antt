@@ -43,7 +43,7 @@ module _ (g : Guest) (place size : ℕ) where
       (given-later (leb place lastPlace) 3 4 _ (λ q. omega arith) (leb-fails place lastPlace)
       (given-first (guestOk g) 4 _ (omega arith) refl (head-fails g)))
 
-  -- 6: a task's run, period or deadline is outside its range.
+  -- 6: a task's run, period or deadline is outside its range, or a bound task's period is no multiple of its guest's.
   pub write-six : (writeNumber g place size ≡ 6)
       exactlyWhen ((size < blockSize) notBut (lastPlace < place) notBut WrongHead g notBut WrongTask g)
   unfolding writeNumber among
@@ -62,7 +62,7 @@ module _ (gs : List Guest) (k : ℕ) where
       given-first (guestOk (guestAt gs k) && newId (λ j. guestAt gs j .id) k) 4 _ (omega arith) refl
       (guest-fails (guestAt gs k) (λ j. guestAt gs j .id) k)
 
-  -- 6: a task's run, period or deadline is outside its range.
+  -- 6: a task's run, period or deadline is outside its range, or a bound task's period is no multiple of its guest's.
   pub records-six : (guestNumber gs k ≡ 6)
       exactlyWhen (WrongGuest (guestAt gs k) (λ j. guestAt gs j .id) k notBut WrongTask (guestAt gs k))
   unfolding guestNumber numberOf among

@@ -1,4 +1,5 @@
 -- The theorems are in ReadBack, OnlyOurs and Exact; the other files are what they are made of.
+pub mod Marks
 pub mod Words
 pub mod BlockBack
 pub mod BlockOnly
@@ -6,6 +7,7 @@ pub mod Joined
 pub mod ReadBack
 pub mod OnlyOurs
 pub mod Causes
+pub mod Zeros
 pub mod Order
 pub mod Exact
 pub mod ExactRecords

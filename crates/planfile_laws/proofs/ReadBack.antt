@@ -1,18 +1,19 @@
 -- Read-back: a plan that passes the records' order, written and read, is that plan with zeros past its guests and
 -- tasks. Assumes nothing.
 use mathlib.Core.Path.{_≡_, refl, sym, ap, _∙_}
-use mathlib.Core.Bool.{true}
+use mathlib.Core.Bool.{Bool, true, false}
 use mathlib.Core.List.{List, _++_}
 use Prim.Native.Nat.{ℕ, _*_, _%_, _≤_, _<_}
 use native.Mathlib.Omega.{arith}
 use lib.ListN.{length, drop, replicate}
 use borrow.Author.Tests.{eq-eqb, le-leb}
-use Rattle.plan.specs.Ranges.{mostGuests, headOk, taskOk, tasksOk}
+use Rattle.plan.specs.Marks.{isBound}
+use Rattle.plan.specs.Ranges.{mostGuests, headOk, taskOk, startOk, tasksOk}
 use Rattle.block.specs.Layout.{blockSize}
 use Rattle.block.specs.Reading.{guestOf}
 use Rattle.plan.specs.declared.Guest.{Guest}
 use Rattle.plan.specs.declared.Plan.{Plan}
-use Rattle.plan.specs.Records.{guestAt, blank}
+use Rattle.plan.specs.Records.{guestAt, everyOf, blank}
 use Rattle.plan.specs.First.{fine}
 use Rattle.plan.specs.Order.{newId, planRefusal}
 use Rattle.blockwriter.specs.Writing.{blockOf, writeNumber, writeRefusal, written}
@@ -49,9 +50,16 @@ task-passes t =
     (and-true (le-leb _ _ (t .some)) (le-leb _ _ (t .short))))
     (and-true (le-leb _ _ (t .due)) (le-leb _ _ (t .in-time)))
 
+start-passes : (b : Bool) (period every : ℕ) → (b ≡ true → every % period ≡ 0) → startOk b period every ≡ true
+unfolding startOk
+start-passes true period every h = eq-eqb _ _ (h refl)
+start-passes false period every h = refl
+
 tasks-pass : (g : Guest) → GuestIn g → tasksOk g ≡ true
 unfolding tasksOk
-tasks-pass g i = all-by _ (g .tasks) (λ k l. task-passes (i .tasks k l))
+tasks-pass g i =
+    and-true (all-by _ (g .tasks) (λ k l. task-passes (i .tasks k l)))
+    (all-by _ (g .tasks) (λ k l. start-passes (isBound g k) (g .period) (everyOf g k) (i .starts k l)))
 
 module _ (p : Plan) (fits : PlanInTypes p) (ok : planRefusal p .number ≡ 0) where
   inside : PlanIn p

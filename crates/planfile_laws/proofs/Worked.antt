@@ -1,7 +1,7 @@
 -- Worked examples, by computation. Assumes nothing.
 use mathlib.Core.Path.{_≡_, refl}
-use mathlib.Core.List.{[]}
-use Prim.Native.Nat.{_*_}
+use mathlib.Core.List.{[], _∷_}
+use Prim.Native.Nat.{ℕ, _*_}
 use lib.ListN.{length, replicate}
 use Rattle.lists.specs.All.{allTo}
 use Rattle.lists.specs.Sum.{sumTo}
@@ -9,15 +9,17 @@ use Rattle.lists.specs.Table.{table}
 use Rattle.lists.specs.Refusals.{unless, refusal}
 use Rattle.words.specs.Word.{word}
 use Rattle.words.specs.Bytes.{bytesOf}
+use Rattle.plan.specs.declared.Guest.{Guest}
 use Rattle.plan.specs.Records.{blankPlan}
-use Rattle.plan.specs.Ranges.{headOk, taskOk, tasksOk}
+use Rattle.plan.specs.Marks.{marked, marksOf}
+use Rattle.plan.specs.Ranges.{headOk, taskOk, startOk, tasksOk}
 use Rattle.plan.specs.First.{refused, fine, orElse, firstRefused}
 use Rattle.plan.specs.Order.{newId}
 use Rattle.block.specs.Layout.{blockSize}
-use Rattle.block.specs.Reading.{column, zeroBetween, blockNumber}
-use Rattle.blockwriter.specs.Writing.{withHead, withEntry, withEntries, wordsOf, withCheck, blockOf}
+use Rattle.block.specs.Reading.{column, zeroBetween, marksOk, blockNumber}
+use Rattle.blockwriter.specs.Writing.{withKind, withHead, withEntry, withEntries, wordsOf, withCheck, blockOf}
 use Rattle.blockfile.specs.File.{numberAt, sizedBy, blocksRefusal}
-use Rattle.worked.specs.Plans.{A}
+use Rattle.worked.specs.Plans.{planOf, top, nine, A}
 use Rattle.blockfile.specs.Records.{recordsOf}
 use Rattle.planfile.specs.Records.{planBy, readOf}
 use Rattle.planfile_laws.specs.File.{joined, fileOf}
@@ -40,6 +42,34 @@ plan-a-length = refl
 -- It is read back as it was.
 pub plan-a-back : readOf (fileOf A) ≡ record { refusal = fine; plan = A }
 unfolding readOf planBy recordsOf blocksRefusal sizedBy firstRefused orElse numberAt blockNumber refusal unless word
-    sumTo newId column table zeroBetween allTo headOk taskOk tasksOk fileOf joined blockOf bytesOf withCheck wordsOf
-    withEntries withEntry withHead
+    sumTo newId column table zeroBetween allTo marksOk headOk taskOk startOk tasksOk marked marksOf fileOf joined blockOf
+    bytesOf withCheck wordsOf withEntries withEntry withHead withKind
 plan-a-back = refl
+
+-- Plan A's first guest with these marks; its one task, every 20 ticks, is a multiple of the period of 5.
+abbrev bound : (marks : ℕ) → Guest
+bound marks = record {
+  id = top .id;
+  capacity = top .capacity;
+  period = top .period;
+  tasks = top .tasks;
+  charge = top .charge;
+  marks = marks;
+  run = top .run;
+  every = top .every;
+  deadline = top .deadline;
+}
+
+-- A plan of both kinds is read back as it was, but for a mark past the one task.
+pub bound-back :
+    readOf (fileOf (planOf (bound 3 ∷ nine 8 ∷ [])))
+    ≡ record { refusal = fine; plan = planOf (bound 1 ∷ nine 8 ∷ []) }
+unfolding readOf planBy recordsOf blocksRefusal sizedBy firstRefused orElse numberAt blockNumber refusal unless word
+    sumTo newId column table zeroBetween allTo marksOk headOk taskOk startOk tasksOk marked marksOf fileOf joined blockOf
+    bytesOf withCheck wordsOf withEntries withEntry withHead withKind
+bound-back = refl
+
+-- A mark past the one task decides nothing by itself: the blocks are those of no mark, of kind 1.
+pub past-alone : fileOf (planOf (bound 2 ∷ nine 8 ∷ [])) ≡ fileOf A
+unfolding fileOf joined blockOf bytesOf withCheck wordsOf withEntries withEntry withHead withKind marksOf
+past-alone = refl

@@ -6,13 +6,14 @@ use mathlib.Core.Bool.{Bool, true, false}
 use mathlib.Core.List.{List}
 use Prim.Native.Nat.{ℕ, _+_, _*_, _%_, _≤_, _<_}
 use Rattle.lists.specs.Places.{nth}
-use Rattle.words.specs.Word.{word}
+use Rattle.words.specs.Word.{u16At, word}
 use Rattle.words.specs.Wrap.{wrapped}
 use Rattle.plan.specs.declared.Guest.{Guest}
 use Rattle.plan.specs.Records.{runOf, everyOf, deadlineOf}
+use Rattle.plan.specs.Marks.{marked, isBound}
 use Rattle.plan.specs.Ranges.{mostTasks, longest}
-use Rattle.block.specs.Layout.{blockSize, blockWords, guestKind}
-use Rattle.block.specs.Reading.{kindIn, placeIn, taskCount}
+use Rattle.block.specs.Layout.{blockSize, blockWords, unmarkedKind, markedKind}
+use Rattle.block.specs.Reading.{kindIn, placeIn, taskCount, marksIn}
 use Rattle.blockfile.specs.File.{mostBytes}
 
 -- A number lies outside its range.
@@ -27,10 +28,15 @@ WrongLength n = (n ≡ 0) ⊎ ((n % blockSize ≢ 0) ⊎ (mostBytes < n))
 abbrev pub WrongSum : List ℕ → Type 0
 WrongSum b = wrapped (word b) blockWords ≢ 0
 
--- 3: the kind is not 1, or, where places count, the place is not the block's own.
+-- 3: the kind is neither 1 nor 2, or it is 2 and the marks are zero.
+abbrev pub WrongKind : List ℕ → Type 0
+WrongKind b =
+    ((kindIn b ≢ unmarkedKind) × (kindIn b ≢ markedKind)) ⊎ ((kindIn b ≡ markedKind) × (marksIn b ≡ 0))
+
+-- 3: the kind is wrong, or, where places count, the place is not the block's own.
 abbrev pub WrongOpening : (placed : Bool) → List ℕ → (place : ℕ) → Type 0
-WrongOpening true b place = (kindIn b ≢ guestKind) ⊎ (placeIn b ≢ place)
-WrongOpening false b place = kindIn b ≢ guestKind
+WrongOpening true b place = WrongKind b ⊎ (placeIn b ≢ place)
+WrongOpening false b place = WrongKind b
 
 -- 4: the id is 0, or capacity, period or number of tasks is outside its range.
 abbrev pub WrongHead : Guest → Type 0
@@ -46,22 +52,33 @@ Seen id k = (j : ℕ) × ((j < k) × (id j ≡ id k))
 abbrev pub WrongGuest : Guest → (id : ℕ → ℕ) → ℕ → Type 0
 WrongGuest g id k = WrongHead g ⊎ Seen id k
 
--- Byte i of a block of n tasks must be zero: bytes 20-31, the entries past the number of tasks, and those up to the
--- check.
-abbrev pub MustBeZero : (n i : ℕ) → Type 0
-MustBeZero n i = ((20 ≤ i) × (i < 32)) ⊎ ((32 + 12 * n ≤ i) × (i < 508))
+-- Byte i of a block of this kind and n tasks must be zero: bytes 20-21 but in kind 2, bytes 22-31, the entries past the
+-- number of tasks, and those up to the check.
+abbrev pub MustBeZero : (kind n i : ℕ) → Type 0
+MustBeZero kind n i =
+    ((kind ≢ markedKind) × ((20 ≤ i) × (i < 22))) ⊎
+    (((22 ≤ i) × (i < 32)) ⊎ ((32 + 12 * n ≤ i) × (i < 508)))
 
--- 5: a byte that must be zero is not.
+-- A block of kind 2 has a mark, in bytes 20-21, past its tasks.
+abbrev pub MarkPast : List ℕ → Type 0
+MarkPast b =
+    (kindIn b ≡ markedKind) × ((i : ℕ) × ((taskCount b ≤ i) × (marked (u16At b 20) i ≡ true)))
+
+-- 5: a byte that must be zero is not, or a mark is past the tasks.
 abbrev pub WrongZero : List ℕ → Type 0
-WrongZero b = (i : ℕ) × (MustBeZero (taskCount b) i × (nth b i ≢ 0))
+WrongZero b = ((i : ℕ) × (MustBeZero (kindIn b) (taskCount b) i × (nth b i ≢ 0))) ⊎ MarkPast b
 
 -- A task's run, period or deadline is outside its range.
 abbrev pub TaskOutside : (run every deadline : ℕ) → Type 0
 TaskOutside run every deadline = Outside 1 longest run ⊎ (Outside 1 longest every ⊎ Outside 1 every deadline)
 
--- 6: one of the guest's tasks has such a number.
+-- A task is bound, and its period is not a multiple of its guest's.
+abbrev pub NoMultiple : Guest → ℕ → Type 0
+NoMultiple g i = (isBound g i ≡ true) × (everyOf g i % g .period ≢ 0)
+
+-- 6: one of the guest's tasks has such a number, or is bound without such a multiple.
 abbrev pub WrongTask : Guest → Type 0
 WrongTask g =
     (i : ℕ)
     ×
-    ((i < g .tasks) × TaskOutside (runOf g i) (everyOf g i) (deadlineOf g i))
+    ((i < g .tasks) × (TaskOutside (runOf g i) (everyOf g i) (deadlineOf g i) ⊎ NoMultiple g i))

@@ -9,6 +9,7 @@ use Rattle.lists.specs.Table.{table}
 use Rattle.plan.specs.declared.Guest.{Guest}
 use Rattle.plan.specs.declared.Plan.{Plan}
 use Rattle.plan.specs.Records.{guestAt, blank}
+use Rattle.plan.specs.Marks.{liveMarks}
 use Rattle.plan.specs.Ranges.{mostGuests, mostTasks}
 use Rattle.blockwriter.specs.Writing.{blockOf}
 
@@ -33,6 +34,7 @@ clearedGuest g = record {
   period = g .period;
   tasks = g .tasks;
   charge = g .charge;
+  marks = liveMarks g;
   run = firstTasks (g .tasks) (g .run);
   every = firstTasks (g .tasks) (g .every);
   deadline = firstTasks (g .tasks) (g .deadline);

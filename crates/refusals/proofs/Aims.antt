@@ -1,19 +1,21 @@
 -- How a release's tests come to its refusals and to what it sets. Assumes nothing.
 use mathlib.Core.Path.{_≡_, refl, sym, _∙_}
 use mathlib.Core.Bool.{true, false}
-use mathlib.Core.List.{List, []}
+use mathlib.Core.List.{List, [], _∷_}
 use Prim.Native.Nat.{ℕ, _^_, _-_, _≤_, _<_}
 use native.Mathlib.Omega.{arith}
 use lib.Dec.{leb, eqb}
 use borrow.Author.Tests.{lt-ltb, le-ltb, le-leb, lt-leb, eq-eqb, ne-eqb}
 use Rattle.lists.specs.Places.{nth}
 use Rattle.lists.specs.Search.{firstFrom}
+use Rattle.lists.specs.Refusals.{refusal, _orRefuse_}
 use Rattle.plan.specs.declared.Guest.{Guest}
 use Rattle.plan.specs.declared.Plan.{Plan}
 use Rattle.plan.specs.declared.Columns.{Columns}
 use Rattle.plan.specs.Records.{guestAt, runOf}
 use Rattle.plan.specs.Ranges.{within, guestOk, tasksOk}
 use Rattle.plan.specs.Charge.{charged}
+use Rattle.plan.specs.Marks.{mayStart}
 use Rattle.plan.specs.Place.{placeOf, hasGuest, hasTask}
 use Rattle.plan.specs.Filled.{ColumnsOf}
 use Rattle.arrays.specs.Place.{placeAt}
@@ -32,17 +34,22 @@ pub few-tasks : (g : Guest) → guestOk g ≡ true → g .tasks ≤ 16
 few-tasks g e = head-says (g .id) (g .capacity) (g .period) (g .tasks) e .few
 
 -- The refusals of a release that is for guest g.
-module _ (g : Guest) (k task : ℕ) (rest wait : List ℕ) (r : Aim) where
+module _ (g : Guest) (k task position : ℕ) (rest wait : List ℕ) (r : Aim) where
   -- Where some number refuses it, nothing is taken.
-  numbered : (n : ℕ) → 0 < n → r .number ≡ n → n ≡ takeNumber g k task rest wait → AimsAt g k task rest wait r
+  numbered :
+      (n : ℕ)
+      → 0 < n
+      → r .number ≡ n
+      → n ≡ takeNumber g k task position rest wait
+      → AimsAt g k task position rest wait r
   numbered n h e f = record { refuses = e ∙ f; takes = λ z. absurd (omega arith) }
 
   -- No task has number 0.
-  pub no-task : r .number ≡ 8 → task < 1 → AimsAt g k task rest wait r
+  pub no-task : r .number ≡ 8 → task < 1 → AimsAt g k task position rest wait r
   no-task e h = numbered 8 (omega arith) e (sym (stop 8 _ (and-false-left _ (lt-leb 1 task h))))
 
   -- No task has a number above the guest's.
-  pub past-tasks : r .number ≡ 8 → g .tasks < task → AimsAt g k task rest wait r
+  pub past-tasks : r .number ≡ 8 → g .tasks < task → AimsAt g k task position rest wait r
   past-tasks e h = numbered 8 (omega arith) e (sym (stop 8 _ (and-false-right (leb 1 task) (lt-leb task (g .tasks) h))))
 
   module _ (h : 1 ≤ task) (l : task ≤ g .tasks) where
@@ -50,25 +57,42 @@ module _ (g : Guest) (k task : ℕ) (rest wait : List ℕ) (r : Aim) where
     named : within 1 (g .tasks) task ≡ true
     named = and-true (le-leb 1 task h) (le-leb task (g .tasks) l)
 
-    -- A release while the wait is above 0 has 9.
-    pub too-soon : r .number ≡ 9 → 0 < nth wait (placeAt k (task - 1)) → AimsAt g k task rest wait r
-    too-soon e w = numbered 9 (omega arith) e (sym (go-on 8 _ named ∙ stop 9 _ (ne-eqb (nth wait (placeAt k (task - 1))) 0 (λ z. omega arith))))
+    -- A task that may not be released where its guest stands has 17.
+    pub not-here : r .number ≡ 17 → mayStart g position (task - 1) ≡ false → AimsAt g k task position rest wait r
+    not-here e m = numbered 17 (omega arith) e (sym (go-on 8 _ named ∙ stop 17 _ m))
 
-    module _ (w : nth wait (placeAt k (task - 1)) ≤ 0) where
-      -- A wait of 0 passes.
-      waited : eqb (nth wait (placeAt k (task - 1))) 0 ≡ true
-      waited = eq-eqb (nth wait (placeAt k (task - 1))) 0 (omega arith)
+    module _ (m : mayStart g position (task - 1) ≡ true) where
+      -- A release while the wait is above 0 has 9.
+      pub too-soon : r .number ≡ 9 → 0 < nth wait (placeAt k (task - 1)) → AimsAt g k task position rest wait r
+      too-soon e w =
+          numbered 9 (omega arith) e
+          (sym
+          (go-on 8 _ named ∙ go-on 17 _ m ∙ stop 9 _ (ne-eqb (nth wait (placeAt k (task - 1))) 0 (λ z. omega arith))))
 
-      -- A release while the last job is unfinished has 10.
-      pub unfinished : r .number ≡ 10 → 0 < nth rest (placeAt k (task - 1)) → AimsAt g k task rest wait r
-      unfinished e u = numbered 10 (omega arith) e (sym (go-on 8 _ named ∙ go-on 9 _ waited ∙ stop 10 [] (ne-eqb (nth rest (placeAt k (task - 1))) 0 (λ z. omega arith))))
+      module _ (w : nth wait (placeAt k (task - 1)) ≤ 0) where
+        -- Past 8, 17 and 9 what is left decides.
+        waited :
+            takeNumber g k task position rest wait ≡ refusal (eqb (nth rest (placeAt k (task - 1))) 0 orRefuse 10 ∷ [])
+        waited =
+            go-on 8 _ named ∙ go-on 17 _ m ∙ go-on 9 _ (eq-eqb (nth wait (placeAt k (task - 1))) 0 (omega arith))
 
-      -- A release that nothing refuses is taken.
-      pub takes-it : r .number ≡ 0 → nth rest (placeAt k (task - 1)) ≤ 0 → Taking g k (task - 1) r → AimsAt g k task rest wait r
-      takes-it e u t = record {
-        refuses = e ∙ sym (go-on 8 _ named ∙ go-on 9 _ waited ∙ go-on 10 [] (eq-eqb (nth rest (placeAt k (task - 1))) 0 (omega arith)) ∙ none-left);
-        takes = λ z. t;
-      }
+        -- A release while the last job is unfinished has 10.
+        pub unfinished : r .number ≡ 10 → 0 < nth rest (placeAt k (task - 1)) → AimsAt g k task position rest wait r
+        unfinished e u =
+            numbered 10 (omega arith) e
+            (sym (waited ∙ stop 10 [] (ne-eqb (nth rest (placeAt k (task - 1))) 0 (λ z. omega arith))))
+
+        -- A release that nothing refuses is taken.
+        pub takes-it :
+            r .number ≡ 0
+            → nth rest (placeAt k (task - 1)) ≤ 0
+            → Taking g k (task - 1) r
+            → AimsAt g k task position rest wait r
+        takes-it e u t = record {
+          refuses =
+              e ∙ sym (waited ∙ go-on 10 [] (eq-eqb (nth rest (placeAt k (task - 1))) 0 (omega arith)) ∙ none-left);
+          takes = λ z. t;
+        }
 
 -- The refusals of a release.
 module _ (p : Plan) (left position rest wait age : List ℕ) (id task : ℕ) (r : Aim) where
@@ -87,7 +111,10 @@ module _ (p : Plan) (left position rest wait age : List ℕ) (id task : ℕ) (r 
     }
 
     -- The rest are the guest's own refusals.
-    pub aims-on : k < p .count → AimsAt (guestAt (p .guests) k) k task rest wait r → Aims p left position rest wait age id task r
+    pub aims-on :
+        k < p .count
+        → AimsAt (guestAt (p .guests) k) k task (nth position k) rest wait r
+        → Aims p left position rest wait age id task r
     unfolding aimNumber hasGuest hasTask
     aims-on h a = record {
       refuses = a .refuses ∙ sym (go-on 14 _ s ∙ go-on 7 _ (rw (← q) (lt-ltb k (p .count) h)) ∙ rw (← q) refl);

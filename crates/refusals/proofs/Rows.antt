@@ -14,7 +14,7 @@ use Rattle.plan.specs.Ranges.{mostTasks, guestOk, tasksOk, longest}
 use Rattle.plan.specs.Charge.{chargedRun}
 use Rattle.arrays.specs.Ranges.{serverOk, noServer, jobOk, noJob}
 use Rattle.refusals.specs.Rows.{jobIn, blankAt, guestIsOk, rowIsBlank}
-use Rattle.lists.proofs.All.{all-at, all-end}
+use Rattle.lists.proofs.All.{and-left, all-at, all-end}
 use Rattle.plan.proofs.Charge.{charged-most}
 use Rattle.plan.proofs.RangesLaws.{task-says}
 
@@ -68,4 +68,6 @@ blank-is k left position rest wait age i e p q = rw (all-end (blankAt rest wait 
 -- The runs of tasks in their ranges are small.
 pub runs-small : (g : Guest) → tasksOk g ≡ true → (t : ℕ) → t < g .tasks → runOf g t ≤ longest
 unfolding tasksOk
-runs-small g e t h = task-says (runOf g t) (everyOf g t) (deadlineOf g t) (all-at _ (g .tasks) t h e) .run-short
+runs-small g e t h =
+    task-says (runOf g t) (everyOf g t) (deadlineOf g t) (all-at _ (g .tasks) t h (and-left (allTo _ (g .tasks)) _ e))
+    .run-short

@@ -10,6 +10,7 @@ use Rattle.plan.specs.declared.Guest.{Guest}
 use Rattle.plan.specs.declared.Plan.{Plan}
 use Rattle.plan.specs.Records.{guestAt, everyOf}
 use Rattle.plan.specs.Charge.{charged}
+use Rattle.plan.specs.Marks.{mayStart}
 use Rattle.plan.specs.Place.{placeOf, hasNumber, hasGuest, hasTask}
 use Rattle.arrays.specs.Place.{placeAt}
 use Rattle.refusals.specs.declared.Aim.{Aim}
@@ -23,21 +24,22 @@ pub record Taking (g : Guest) (k i : ℕ) (r : Aim) : Type 0 where
   pub run : r .run ≡ charged g i
   pub period : r .every ≡ everyOf g i
 
--- the refusals of a release that is for guest g, at place k: 8, 9, 10
-abbrev pub takeNumber : Guest → (k task : ℕ) (rest wait : List ℕ) → ℕ
-takeNumber g k task rest wait =
+-- the refusals of a release that is for guest g, at place k: 8, 17, 9, 10
+abbrev pub takeNumber : Guest → (k task position : ℕ) (rest wait : List ℕ) → ℕ
+takeNumber g k task position rest wait =
     refusal (
     hasNumber (g .tasks) task orRefuse 8
+    ∷ mayStart g position (task - 1) orRefuse 17
     ∷ eqb (nth wait (placeAt k (task - 1))) 0 orRefuse 9
     ∷ eqb (nth rest (placeAt k (task - 1))) 0 orRefuse 10
     ∷ [])
 
 -- the outcome of the refusals of a release that is for guest g, at place k
-pub record AimsAt (g : Guest) (k task : ℕ) (rest wait : List ℕ) (r : Aim) : Type 0 where
-  pub refuses : r .number ≡ takeNumber g k task rest wait
+pub record AimsAt (g : Guest) (k task position : ℕ) (rest wait : List ℕ) (r : Aim) : Type 0 where
+  pub refuses : r .number ≡ takeNumber g k task position rest wait
   pub takes : r .number ≡ 0 → Taking g k (task - 1) r
 
--- all refusals of a release: 14, 7, 8, 9, 10
+-- all refusals of a release: 14, 7, 8, 17, 9, 10
 unfoldable pub aimNumber : Plan → (left position rest wait age : List ℕ) (id task : ℕ) → ℕ
 aimNumber p left position rest wait age id task =
     let k = placeOf p id in
@@ -45,6 +47,7 @@ aimNumber p left position rest wait age id task =
     passes p left position rest wait age orRefuse 14
     ∷ hasGuest p id orRefuse 7
     ∷ hasTask p id task orRefuse 8
+    ∷ mayStart (guestAt (p .guests) k) (nth position k) (task - 1) orRefuse 17
     ∷ eqb (nth wait (placeAt k (task - 1))) 0 orRefuse 9
     ∷ eqb (nth rest (placeAt k (task - 1))) 0 orRefuse 10
     ∷ [])

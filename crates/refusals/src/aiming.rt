@@ -1,8 +1,10 @@
 // A release's refusals, and what a release that is taken sets.
 ghost use mathlib.Core.Path.{_≡_};
-ghost use mathlib.Core.Bool.{true};
+ghost use mathlib.Core.Bool.{true, not, _||_};
 ghost use Prim.Native.Nat.{_<_};
-ghost use Rattle.plan.specs.Ranges.{guestOk, tasksOk};
+ghost use lib.Dec.{eqb};
+ghost use Rattle.plan.specs.Ranges.{mostTasks, guestOk, tasksOk};
+ghost use Rattle.plan.specs.Marks.{marked};
 ghost use Rattle.refusals.specs.Aims.{AimsAt, Aims};
 use crate::Aim;
 use crate::validating::examine;
@@ -21,10 +23,18 @@ fn missed(number: u32) -> Aim
     }
 }
 
-// The release of a task of guest g at place k: 8, 9, 10, or what the task of that number gets.
-fn aim_at(g: Guest, k: usize, task: u32, rest: &[u32; 128], wait: &[u32; 128]) -> Aim
+// Whether task t of a guest with these marks may be released where the guest stands.
+fn may_start(marks: u16, position: u32, t: usize) -> bool
+    requires { ⌜ t < mostTasks ⌝ }
+    ensures { λ r. ⌜ r ≡ (not (marked marks t) || eqb position 0) ⌝ }
+{
+    !plan::is_marked(marks, t) | (position == 0)
+}
+
+// The release of a task of guest g, which stands at place k: 8, 17, 9, 10, or what the task of that number gets.
+fn aim_at(g: Guest, k: usize, task: u32, position: u32, rest: &[u32; 128], wait: &[u32; 128]) -> Aim
     requires { ⌜ (k < 8) × ((guestOk g ≡ true) × (tasksOk g ≡ true)) ⌝ }
-    ensures { λ r. ⌜ AimsAt g k task (now (rest .entry)) (now (wait .entry)) r ⌝ }
+    ensures { λ r. ⌜ AimsAt g k task position (now (rest .entry)) (now (wait .entry)) r ⌝ }
 {
     if task < 1 {
         return missed(8);
@@ -33,6 +43,9 @@ fn aim_at(g: Guest, k: usize, task: u32, rest: &[u32; 128], wait: &[u32; 128]) -
         return missed(8);
     }
     let t = (task - 1) as usize;
+    if !may_start(g.marks, position, t) {
+        return missed(17);
+    }
     let at = k * 16 + t;
     if 0 < wait[at] {
         return missed(9);
@@ -48,7 +61,7 @@ fn aim_at(g: Guest, k: usize, task: u32, rest: &[u32; 128], wait: &[u32; 128]) -
     }
 }
 
-// The release of a task of a guest by its id: 14, 7, 8, 9, 10, or what the task of that number gets.
+// The release of a task of a guest by its id: 14, 7, 8, 17, 9, 10, or what the task of that number gets.
 pub fn aim_by_id(
     plan: Plan,
     left: &[u32; 8],
@@ -75,5 +88,5 @@ pub fn aim_by_id(
     if n <= k {
         return missed(7);
     }
-    aim_at(plan.guests[k], k, task, rest, wait)
+    aim_at(plan.guests[k], k, task, position[k], rest, wait)
 }

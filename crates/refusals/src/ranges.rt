@@ -98,7 +98,7 @@ pub fn guest_ok(
     if !plan::head_ok(g.id, g.capacity, g.period, g.tasks) {
         return false;
     }
-    if !plan::tasks_ok(&run, &every, &deadline, many) {
+    if !plan::tasks_ok(g.marks, g.period, &run, &every, &deadline, many) {
         return false;
     }
     let server = (left <= g.capacity) & (position < g.period);

@@ -10,9 +10,9 @@ use Rattle.lists.specs.Places.{nth}
 use Rattle.lists.specs.Search.{isAt}
 use Rattle.lists.specs.declared.Found.{Found}
 use Rattle.equation.specs.Guest.{guestUnder}
-use Rattle.equation.specs.Solve.{solve}
-use Rattle.equation.specs.System.{load, rightAt, right, later, taskUnder}
-use Rattle.plan.specs.Records.{guestAt, everyOf}
+use Rattle.equation.specs.System.{System, gapFor}
+use Rattle.plan.specs.Records.{guestAt}
+use Rattle.plan.specs.Marks.{isBound}
 use Rattle.plan.specs.Charge.{charged}
 use Rattle.plan.specs.Filled.{Filled, ColumnsOf}
 use Rattle.plan.specs.Ranges.{mostGuests}
@@ -23,8 +23,9 @@ use Rattle.response.specs.Interference.{jitter, interference}
 use Rattle.response.specs.Guest.{guestResponse, fitted, fittedTo}
 use Rattle.response.specs.Task.{gap, systemOf, responseTo}
 use Rattle.response.specs.Met.{met, allMet, accepted}
-use Rattle.response.specs.Columns.{guestsTake, fittedAt, columnSystem, metUnder, acceptedIn, acceptedUnder}
+use Rattle.response.specs.Columns.{guestsTake, fittedAt, columnSystem, metUnder, fittedIn, acceptedIn, acceptedUnder}
 use Rattle.rounding.proofs.Asked.{asked-mono, asked-same}
+use Rattle.equation.proofs.Alike.{Alike, task-alike}
 use Rattle.equation.proofs.Rise.{Grows}
 use Rattle.lists.proofs.All.{all-ext, all-and}
 
@@ -45,23 +46,22 @@ pub interference-grows : (p : Plan) (k : ℕ) → Grows (interference p k)
 unfolding interference
 interference-grows p k a b h = asked-mono _ _ _ k h
 
--- the load off the column of charged runs is the guest's
-load-is : (above : ℕ → ℕ) (g : Guest) (run : List ℕ) (n i : ℕ) → i < n → Filled run (charged g) n → (w : ℕ)
-    → load (columnSystem above (g .capacity) (g .period) run (g .every)) i w ≡ load (systemOf above g) i w
-unfolding load gap
-load-is above g run n i h f w =
-    let e = asked-same (nth run) (everyOf g) (λ j. g .period - g .capacity) (charged g) _ _ i w
-    (λ j l. f .holds j (omega arith)) (λ j l. refl) (λ j l. refl) in
-    omega (arith, f .holds i h)
+-- a guest off the columns of its charged runs and of its tasks' J is the guest, seen from its tasks
+pub columns-alike : (above : ℕ → ℕ) (g : Guest) {run late : List ℕ} → Filled run (charged g) (g .tasks)
+    → Filled late (λ i. gapFor (isBound g i) (g .period - g .capacity)) (g .tasks)
+    → Alike (columnSystem above (g .capacity) (g .period) run (g .every) late) (systemOf above g) (g .tasks)
+unfolding gap
+columns-alike above g f l =
+    record { capacity = refl; period = refl; above = refl; run = f .holds; every = λ j h. refl; gap = l .holds }
 
--- the response off the column of charged runs is the guest's
-pub task-is : (above : ℕ → ℕ) (g : Guest) (run : List ℕ) (n i most : ℕ) → i < n → Filled run (charged g) n
-    → taskUnder (columnSystem above (g .capacity) (g .period) run (g .every)) i most ≡ taskUnder (systemOf above g) i most
-unfolding taskUnder right gap
-task-is above g run n i most h f =
-    let J = g .period - g .capacity in
-    ap (λ (l : ℕ → ℕ). later J (solve (λ w. rightAt above (g .capacity) (g .period) (l w) w) (most - J)))
-    (fun-ext (load-is above g run n i h f))
+-- the guests of two systems that are alike in their first n tasks are accepted alike
+pub accepted-alike : (S S′ : System) (deadline : ℕ → ℕ) (n : ℕ) → Alike S S′ n
+    → acceptedIn S deadline n ≡ acceptedIn S′ deadline n
+unfolding acceptedIn metUnder
+accepted-alike S S′ deadline n a =
+    ap (λ (b : Bool). fittedIn S && b)
+    (all-ext _ _ n (λ i h. ap isAt (task-alike S S′ n i h a (deadline i))))
+    ∙ rw (a .capacity, a .period, a .above) refl
 
 -- what the code's test of an answer says of the answer
 pub test-is : {f a : Found} {r b : Bool} → f ≡ a → r ≡ isAt f → r ≡ b → isAt a ≡ b

@@ -7,9 +7,11 @@ use native.Mathlib.Omega.{arith}
 use Rattle.lists.specs.declared.Found.the-variants.{At, Nothing}
 use Rattle.lists.specs.Places.{nth}
 use Rattle.rounding.specs.Asked.{asked}
-use Rattle.rounding.specs.Cut.{bound, cut}
+use Rattle.rounding.specs.Cut.{cut}
 use Rattle.equation.specs.Guest.{guestSide, guestUnder}
+use Rattle.plan.specs.Ranges.{longest}
 use Rattle.response.specs.Columns.{guestsTake}
+use Rattle.response.specs.Ready.{ServerIn}
 use Rattle.rounding.proofs.Asked.{asked-mono}
 use Rattle.equation.proofs.Solve.{solve-at, solve-none, Solved, solve-answers}
 use Rattle.equation.proofs.Rise.{Grows, Rising, rise-turn, rise-under}
@@ -30,22 +32,21 @@ take-cut capacities periods n v e = e
 pub record GuestInv (above : ℕ → ℕ) (capacity period x : ℕ) : Type 0 where
   pub grows : Grows above
   pub some : 1 ≤ capacity
-  pub small : period < bound
+  pub short : period ≤ longest
   pub low : capacity ≤ x
   pub high : x ≤ period
   pub rising : Rising (guestSide above capacity) x
 
 -- the invariant holds at C
-pub guest-start : {above : ℕ → ℕ} {capacity period : ℕ} → Grows above → 1 ≤ capacity → capacity ≤ period
-    → period < bound
+pub guest-start : {above : ℕ → ℕ} {capacity period : ℕ} → Grows above → ServerIn capacity period
     → GuestInv above capacity period capacity
 unfolding guestSide
-guest-start g pos h small = record {
+guest-start g s = record {
   grows = g;
-  some = pos;
-  small = small;
+  some = s .some;
+  short = s .short;
   low = omega arith;
-  high = h;
+  high = s .within;
   rising = record { rises = omega arith; under = λ z k. omega arith };
 }
 
@@ -61,7 +62,7 @@ module _ {above : ℕ → ℕ} {capacity period x y : ℕ} (i : GuestInv above c
   pub guest-turn : y ≤ period → GuestInv above capacity period y
   guest-turn h =
       let q : y ≡ guestSide above capacity x = unfold guestSide in omega arith in
-      record { grows = i .grows; some = i .some; small = i .small; low = omega arith; high = h; rising = rw q turned }
+      record { grows = i .grows; some = i .some; short = i .short; low = omega arith; high = h; rising = rw q turned }
 
   -- the loop's end at a solution
   pub guest-found : y ≤ x → At x ≡ guestUnder above capacity period

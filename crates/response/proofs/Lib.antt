@@ -2,6 +2,7 @@
 -- file's name.
 pub mod GuestLaws
 pub mod TaskLaws
+pub mod GapsLaws
 pub mod ColumnsLaws
 pub mod ReadyLaws
 pub mod TrialLaws

@@ -9,6 +9,7 @@ use Rattle.rounding.specs.Cut.{bound, cut}
 use Rattle.equation.specs.Guest.{guestUnder}
 use Rattle.equation.specs.Solve.{solve}
 use Rattle.equation.specs.System.{System, load, rightAt, right, later, taskUnder}
+use Rattle.plan.specs.Ranges.{longest}
 use Rattle.response.specs.Ready.{Ready}
 use Rattle.lists.proofs.Search.{at-of}
 use Rattle.equation.proofs.Solve.{solve-at, solve-none, Under}
@@ -74,16 +75,16 @@ task-late S i most h = ap (later (S .gap i)) (solve-none (right S i) (most - S .
 pub record TaskInv (S : System) (i room w : ℕ) : Type 0 where
   pub x : ℕ
   pub sure : Regular S i x
-  pub small : room < bound
+  pub short : room ≤ longest
   pub low : 1 ≤ w
   pub high : w ≤ room
   pub climbs : Climbing S i x w
   pub under : Under (right S i) w
 
 -- the invariant holds at 1
-pub task-start : {S : System} {i x room : ℕ} → Regular S i x → 1 ≤ room → room < bound → TaskInv S i room 1
-task-start {S} {i} {x} s h small =
-    record { x = x; sure = s; small = small; low = omega arith; high = h; climbs = climb-start S i x s; under = λ z k e. k }
+pub task-start : {S : System} {i x room : ℕ} → Regular S i x → 1 ≤ room → room ≤ longest → TaskInv S i room 1
+task-start {S} {i} {x} s h short =
+    record { x = x; sure = s; short = short; low = omega arith; high = h; climbs = climb-start S i x s; under = λ z k e. k }
 
 -- Here y is the right side, cut off.
 module _ {S : System} {i room w y : ℕ} (v : TaskInv S i room w) (e : y ≡ cut (right S i w)) where
@@ -94,7 +95,7 @@ module _ {S : System} {i room w y : ℕ} (v : TaskInv S i room w) (e : y ≡ cut
       rw q record {
         x = v .x;
         sure = v .sure;
-        small = v .small;
+        short = v .short;
         low = omega (arith, right-past S i (v .x) (v .sure) w);
         high = omega arith;
         climbs = climb-turn S i (v .x) (v .sure) w (v .climbs);

@@ -3,7 +3,7 @@
 -- Inner: no promise of an entry names this.
 use mathlib.Core.Bool.{Bool, _&&_}
 use mathlib.Core.List.{List}
-use Prim.Native.Nat.{ℕ, _-_}
+use Prim.Native.Nat.{ℕ}
 use Rattle.lists.specs.Places.{nth}
 use Rattle.lists.specs.All.{allTo}
 use Rattle.lists.specs.Search.{isAt}
@@ -22,15 +22,15 @@ guestsTake capacities periods n = asked (nth capacities) (nth periods) (λ j. 0)
 unfoldable pub fittedAt : (capacities periods : List ℕ) → ℕ → Bool
 fittedAt capacities periods k = isAt (guestUnder (guestsTake capacities periods k) (nth capacities k) (nth periods k))
 
--- a guest seen from its tasks, off columns: run being the charged runs, and each J the guest's gap
-abbrev pub columnSystem : (above : ℕ → ℕ) → (capacity period : ℕ) → (run every : List ℕ) → System
-columnSystem above capacity period run every = record {
+-- a guest seen from its tasks, off columns: run being the charged runs, and late the J of each
+abbrev pub columnSystem : (above : ℕ → ℕ) → (capacity period : ℕ) → (run every late : List ℕ) → System
+columnSystem above capacity period run every late = record {
   capacity = capacity;
   period = period;
   above = above;
   run = nth run;
   every = nth every;
-  gap = λ j. period - capacity;
+  gap = nth late;
 }
 
 -- whether the first n tasks of a system are met

@@ -17,25 +17,39 @@ pub record Ready (S : System) (i : ℕ) : Type 0 where
   pub fits : fittedIn S ≡ true
   pub runs : 1 ≤ S .run i
 
--- the first n capacities are from 1 to the periods
-abbrev pub Ranged : (capacities periods : List ℕ) → ℕ → Type 0
-Ranged capacities periods n = (k : ℕ) → k < n → (1 ≤ nth capacities k) × (nth capacities k ≤ nth periods k)
+-- A capacity from 1 to the period, and a period in its range.
+pub record ServerIn (capacity period : ℕ) : Type 0 where
+  pub some : 1 ≤ capacity
+  pub within : capacity ≤ period
+  pub short : period ≤ longest
 
--- At most 16 tasks, each with a run in its range.
-pub record RunsIn (g : Guest) : Type 0 where
+-- the first n capacities and periods are in their ranges
+abbrev pub Ranged : (capacities periods : List ℕ) → ℕ → Type 0
+Ranged capacities periods n = (k : ℕ) → k < n → ServerIn (nth capacities k) (nth periods k)
+
+-- the first n ticks of a column are no more than a period can have
+abbrev pub EachShort : (column : List ℕ) → ℕ → Type 0
+EachShort column n = (i : ℕ) → i < n → nth column i ≤ longest
+
+-- At most 16 tasks, each with its numbers in their ranges.
+pub record TasksIn (g : Guest) : Type 0 where
   pub few : g .tasks ≤ mostTasks
   pub some : (i : ℕ) → i < g .tasks → 1 ≤ runOf g i
-  pub short : (i : ℕ) → i < g .tasks → runOf g i ≤ longest
+  pub runs : EachShort (g .run) (g .tasks)
+  pub periods : EachShort (g .every) (g .tasks)
+  pub deadlines : EachShort (g .deadline) (g .tasks)
 
 -- the first n of a column of charged runs are at least 1
 abbrev pub EachRuns : (run : List ℕ) → ℕ → Type 0
 EachRuns run n = (i : ℕ) → i < n → 1 ≤ nth run i
 
--- A capacity that can be tried: it is from 1 to the period, and each of the n tasks has a run.
-pub record InRange (capacity period : ℕ) (run : List ℕ) (n : ℕ) : Type 0 where
-  pub some : 1 ≤ capacity
-  pub within : capacity ≤ period
+-- A capacity that can be tried: it is in its range, and each of the n tasks has a run, and a J and a deadline in their
+-- ranges.
+pub record InRange (capacity period : ℕ) (run late deadline : List ℕ) (n : ℕ) : Type 0 where
+  pub server : ServerIn capacity period
   pub runs : EachRuns run n
+  pub gaps : EachShort late n
+  pub deadlines : EachShort deadline n
 
 -- Columns of capacities and periods in their ranges, whose guest at place k is g.
 pub record Seated (g : Guest) (capacities periods : List ℕ) (k : ℕ) : Type 0 where
@@ -43,4 +57,4 @@ pub record Seated (g : Guest) (capacities periods : List ℕ) (k : ℕ) : Type 0
   pub ranged : Ranged capacities periods (k + 1)
   pub capacity : nth capacities k ≡ g .capacity
   pub period : nth periods k ≡ g .period
-  pub runs : RunsIn g
+  pub tasks : TasksIn g

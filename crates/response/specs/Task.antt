@@ -1,16 +1,17 @@
 -- The task's equation and its response: which numbers of the records the functions of the equation are.
 use Prim.Native.Nat.{ℕ, _-_}
 use Rattle.lists.specs.declared.Found.{Found}
-use Rattle.equation.specs.System.{System, right, taskUnder}
+use Rattle.equation.specs.System.{System, gapFor, right, taskUnder}
 use Rattle.plan.specs.Records.{guestAt, everyOf}
 use Rattle.plan.specs.Charge.{charged}
+use Rattle.plan.specs.Marks.{isBound}
 use Rattle.plan.specs.declared.Guest.{Guest}
 use Rattle.plan.specs.declared.Plan.{Plan}
 use Rattle.response.specs.Interference.{interference}
 
--- a task's J, the first gap that a release can meet: T - C of its guest
+-- a task's J, the first gap that a release can meet: 0 of a bound task, else T - C of its guest
 unfoldable pub gap : Guest → ℕ → ℕ
-gap g i = g .period - g .capacity
+gap g i = gapFor (isBound g i) (g .period - g .capacity)
 
 -- a guest seen from its tasks, under guests that take `above v` from v ticks: each task loads with its charged run, its
 -- period and its J

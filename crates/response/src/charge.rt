@@ -1,13 +1,13 @@
 // The column of charged runs that the equations of tasks are read off.
 ghost use Rattle.plan.specs.Charge.{charged};
 ghost use Rattle.plan.specs.Filled.{Filled};
-ghost use Rattle.response.specs.Ready.{RunsIn};
+ghost use Rattle.response.specs.Ready.{TasksIn};
 use plan::Guest;
 use plan::charged_run;
 
 // The charged runs of a guest's tasks.
 pub fn charged_of(g: Guest) -> [u32; 16]
-    requires { ⌜ RunsIn g ⌝ }
+    requires { ⌜ TasksIn g ⌝ }
     ensures { λ r. ⌜ Filled r (charged g) (g .tasks) ⌝ }
 {
     let run = g.run;

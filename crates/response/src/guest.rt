@@ -3,10 +3,10 @@ ghost use mathlib.Core.Path.{_≡_};
 ghost use Prim.Native.Nat.{_+_, _≤_, _<_};
 ghost use Rattle.lists.specs.All.{allTo};
 ghost use Rattle.lists.specs.Places.{nth};
-ghost use Rattle.rounding.specs.Cut.{cut};
+ghost use Rattle.rounding.specs.Cut.{long, cut};
 ghost use Rattle.equation.specs.Guest.{guestUnder};
 ghost use Rattle.response.specs.Columns.{guestsTake, fittedAt};
-ghost use Rattle.response.specs.Ready.{Ranged};
+ghost use Rattle.response.specs.Ready.{ServerIn, Ranged};
 use lists::Found;
 use lists::is_at;
 use rounding::asked_of;
@@ -14,10 +14,10 @@ use rounding::wide;
 
 // The right side of the guest's equation at x, the interference cut off.
 fn guest_right(capacities: &[u32; 16], periods: &[u32; 16], n: usize, capacity: u32, x: u32) -> u64
-    requires { ⌜ n ≤ 16 ⌝ }
+    requires { ⌜ (n ≤ 16) × (x < long) ⌝ }
     ensures { λ r. ⌜ r ≡ capacity + cut (guestsTake (now (capacities .entry)) (now (periods .entry)) n x) ⌝ }
 {
-    wide(capacity) + asked_of(capacities, periods, 0, n, x)
+    wide(capacity) + asked_of(capacities, periods, n, x)
 }
 
 // The response under the first n guests: the recurrence, from the capacity on.
@@ -28,7 +28,7 @@ pub fn guest_response(
     capacity: u32,
     period: u32,
 ) -> Found
-    requires { ⌜ (n ≤ 16) × ((1 ≤ capacity) × (capacity ≤ period)) ⌝ }
+    requires { ⌜ (n ≤ 16) × ServerIn capacity period ⌝ }
     ensures { λ r. ⌜ r ≡ guestUnder (guestsTake (now (capacities .entry)) (now (periods .entry)) n) capacity period ⌝ }
 {
     let mut x = capacity;
@@ -46,7 +46,7 @@ pub fn guest_response(
 
 // The response of the guest at place k of the columns.
 pub fn response_at(capacities: &[u32; 16], periods: &[u32; 16], k: usize) -> Found
-    requires { ⌜ (k < 16) × ((1 ≤ nth (now capacities) k) × (nth (now capacities) k ≤ nth (now periods) k)) ⌝ }
+    requires { ⌜ (k < 16) × ServerIn (nth (now capacities) k) (nth (now periods) k) ⌝ }
     ensures { λ r. ⌜
         r
         ≡ guestUnder (guestsTake (now (capacities .entry)) (now (periods .entry)) k) (nth (now (capacities .entry)) k)

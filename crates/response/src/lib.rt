@@ -1,11 +1,13 @@
 // The responses of guests and tasks, off lent columns: what verdicts and capacities are made of. Inner.
 mod charge;
+mod gaps;
 mod guest;
 mod met;
 mod task;
 mod trial;
 
 pub use charge::charged_of;
+pub use gaps::gaps_of;
 pub use guest::all_fitted;
 pub use guest::guest_response;
 pub use guest::response_at;

@@ -3,7 +3,7 @@ ghost use mathlib.Core.Path.{_≡_};
 ghost use Prim.Native.Nat.{ℕ, _≤_, _<_};
 ghost use Rattle.lists.specs.Places.{nth};
 ghost use Rattle.response.specs.Columns.{guestsTake, columnSystem, metUnder};
-ghost use Rattle.response.specs.Ready.{Ready};
+ghost use Rattle.response.specs.Ready.{Ready, EachShort};
 use crate::task::task_response;
 use lists::is_at;
 
@@ -16,18 +16,21 @@ pub fn all_met(
     period: u32,
     run: &[u32; 16],
     every: &[u32; 16],
+    late: &[u32; 16],
     deadline: &[u32; 16],
     tasks: usize,
 ) -> bool
     requires { ⌜ (k ≤ 16) × (tasks ≤ 16) ⌝ }
     requires { ⌜
         ((i : ℕ) → i < tasks
-        → Ready (columnSystem (guestsTake (now capacities) (now periods) k) capacity period (now run) (now every)) i)
+        → Ready (columnSystem (guestsTake (now capacities) (now periods) k) capacity period (now run) (now every)
+        (now late)) i)
         ⌝ }
+    requires { ⌜ EachShort (now late) tasks × EachShort (now deadline) tasks ⌝ }
     ensures { λ r. ⌜
         r
         ≡ metUnder (columnSystem (guestsTake (now (capacities .entry)) (now (periods .entry)) k) capacity period
-        (now (run .entry)) (now (every .entry)))
+        (now (run .entry)) (now (every .entry)) (now (late .entry)))
         (nth (now (deadline .entry))) tasks
         ⌝ }
 {
@@ -41,6 +44,7 @@ pub fn all_met(
             period,
             run,
             every,
+            late,
             i,
             deadline[i],
         )) {

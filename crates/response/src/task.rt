@@ -3,25 +3,29 @@ ghost use mathlib.Core.Path.{_≡_};
 ghost use Prim.Native.Nat.{_+_, _-_, _*_, _≤_, _<_};
 ghost use Rattle.lists.specs.Places.{nth};
 ghost use Rattle.rounding.specs.Asked.{asked};
-ghost use Rattle.rounding.specs.Cut.{bound, cut};
+ghost use Rattle.rounding.specs.Cut.{bound, long, cut, Short};
 ghost use Rattle.equation.specs.System.{serverPeriods, rightAt, right, taskUnder};
 ghost use Rattle.response.specs.Columns.{guestsTake, columnSystem};
-ghost use Rattle.response.specs.Ready.{Ready};
+ghost use Rattle.plan.specs.Ranges.{longest};
+ghost use Rattle.response.specs.Ready.{Ready, EachShort};
 use lists::Found;
 use rounding::BOUND;
 use rounding::asked_of;
+use rounding::asked_of_each;
 use rounding::capped;
 use rounding::quotient;
 use rounding::wide;
 
-// The load of task i in a window w, cut off; gap is the J of each task.
-fn load_in(run: &[u32; 16], every: &[u32; 16], gap: u32, i: usize, w: u32) -> u64
-    requires { ⌜ (i < 16) × (w + gap < bound) ⌝ }
+// The load of task i in a window w, cut off; late is the J of each task.
+fn load_in(run: &[u32; 16], every: &[u32; 16], late: &[u32; 16], i: usize, w: u32) -> u64
+    requires { ⌜ (i < 16) × Short (now late) i w ⌝ }
     ensures { λ r. ⌜
-        r ≡ cut (nth (now (run .entry)) i + asked (nth (now (run .entry))) (nth (now (every .entry))) (λ j. gap) i w)
+        r
+        ≡ cut (nth (now (run .entry)) i
+        + asked (nth (now (run .entry))) (nth (now (every .entry))) (nth (now (late .entry))) i w)
         ⌝ }
 {
-    capped(wide(run[i]) + asked_of(run, every, gap, i, w))
+    capped(wide(run[i]) + asked_of_each(run, every, late, i, w))
 }
 
 // The server periods before the last one.
@@ -57,14 +61,14 @@ fn right_at(
     load: u32,
     w: u32,
 ) -> u64
-    requires { ⌜ (n ≤ 16) × ((1 ≤ capacity) × ((capacity ≤ period) × (1 ≤ load))) ⌝ }
+    requires { ⌜ ((n ≤ 16) × (w < long)) × ((1 ≤ capacity) × ((capacity ≤ period) × (1 ≤ load))) ⌝ }
     ensures { λ r. ⌜
         r ≡ cut (rightAt (guestsTake (now (capacities .entry)) (now (periods .entry)) n) capacity period load w)
         ⌝ }
 {
     let m = whole_of(load, capacity);
     let v = rest_of(w, times(m, period));
-    capped(wide(load) + times(m, period - capacity) + asked_of(capacities, periods, 0, n, v))
+    capped(wide(load) + times(m, period - capacity) + asked_of(capacities, periods, n, v))
 }
 
 // The right side of task i's equation in a window w, cut off: a load at the bound decides alone, so that no product is
@@ -77,19 +81,20 @@ fn right_of(
     period: u32,
     run: &[u32; 16],
     every: &[u32; 16],
+    late: &[u32; 16],
     i: usize,
     w: u32,
 ) -> u64
     requires { ⌜ ((n ≤ 16) × (i < 16)) × ((1 ≤ capacity) × ((capacity ≤ period) × (1 ≤ nth (now run) i))) ⌝ }
-    requires { ⌜ w + (period - capacity) < bound ⌝ }
+    requires { ⌜ (w ≤ longest) × EachShort (now late) i ⌝ }
     ensures { λ r. ⌜
         r
         ≡ cut (right (columnSystem (guestsTake (now (capacities .entry)) (now (periods .entry)) n) capacity period
-        (now (run .entry)) (now (every .entry)))
+        (now (run .entry)) (now (every .entry)) (now (late .entry)))
         i w)
         ⌝ }
 {
-    let load = load_in(run, every, period - capacity, i, w);
+    let load = load_in(run, every, late, i, w);
     if BOUND <= load {
         return load;
     }
@@ -105,28 +110,42 @@ pub fn task_response(
     period: u32,
     run: &[u32; 16],
     every: &[u32; 16],
+    late: &[u32; 16],
     i: usize,
     most: u32,
 ) -> Found
     requires { ⌜ (n ≤ 16) × (i < 16) ⌝ }
     requires { ⌜
-        Ready (columnSystem (guestsTake (now capacities) (now periods) n) capacity period (now run) (now every)) i
+        Ready (columnSystem (guestsTake (now capacities) (now periods) n) capacity period (now run) (now every)
+        (now late)) i
         ⌝ }
+    requires { ⌜ (most ≤ longest) × EachShort (now late) i ⌝ }
     ensures { λ r. ⌜
         r
         ≡ taskUnder (columnSystem (guestsTake (now (capacities .entry)) (now (periods .entry)) n) capacity period
-        (now (run .entry)) (now (every .entry)))
+        (now (run .entry)) (now (every .entry)) (now (late .entry)))
         i most
         ⌝ }
 {
-    let gap = period - capacity;
+    let gap = late[i];
     if most <= gap {
         return Found::Nothing;
     }
     let room = most - gap;
     let mut w: u32 = 1;
     loop {
-        let next = right_of(capacities, periods, n, capacity, period, run, every, i, w);
+        let next = right_of(
+            capacities,
+            periods,
+            n,
+            capacity,
+            period,
+            run,
+            every,
+            late,
+            i,
+            w,
+        );
         if next <= wide(w) {
             return Found::At(w + gap);
         }

@@ -18,7 +18,8 @@ pub enum Trial {
 }
 
 // What a guest comes to with a capacity under the first k guests of the columns, f being its response: its tasks are
-// read off lent columns, run being the charged runs, so that a search copies nothing for a capacity that it tries.
+// read off lent columns, run being the charged runs and late the J of each, so that a search copies nothing for a
+// capacity that it tries.
 pub fn try_guest(
     f: Found,
     capacities: &[u32; 16],
@@ -28,15 +29,16 @@ pub fn try_guest(
     period: u32,
     run: &[u32; 16],
     every: &[u32; 16],
+    late: &[u32; 16],
     deadline: &[u32; 16],
     tasks: usize,
 ) -> Trial
-    requires { ⌜ ((k ≤ 16) × (tasks ≤ 16)) × InRange capacity period (now run) tasks ⌝ }
+    requires { ⌜ ((k ≤ 16) × (tasks ≤ 16)) × InRange capacity period (now run) (now late) (now deadline) tasks ⌝ }
     requires { ⌜ f ≡ guestUnder (guestsTake (now capacities) (now periods) k) capacity period ⌝ }
     ensures { λ r. ⌜
         r
         ≡ trialOf (columnSystem (guestsTake (now (capacities .entry)) (now (periods .entry)) k) capacity period
-        (now (run .entry)) (now (every .entry)))
+        (now (run .entry)) (now (every .entry)) (now (late .entry)))
         (nth (now (deadline .entry))) tasks
         ⌝ }
 {
@@ -51,6 +53,7 @@ pub fn try_guest(
         period,
         run,
         every,
+        late,
         deadline,
         tasks,
     ) {

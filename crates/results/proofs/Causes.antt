@@ -1,6 +1,6 @@
 -- Demand 1, causes are exact: when each number is given for plan files, for records handed over as a plan and by the
 -- writer, and when not. `A notBut B`: the cause A, which is asked earlier, does not hold, but B does. When 9 and 10
--- are given stands in Dispatcher.
+-- are given, and 17, stands in Dispatcher.
 use mathlib.Core.Path.{_≡_}
 use mathlib.Core.Bool.{Bool}
 use mathlib.Core.List.{List, []}
@@ -47,7 +47,8 @@ module _ (placed : Bool) (s : List ℕ) (k : ℕ) where
   pub two-exactly : (numberAt placed s k ≡ 2) exactlyWhen WrongSum (blockAt s k)
   two-exactly = exact.two-exactly placed s k
 
-  -- 3: the kind is not 1, or, where places count, the place is not the block's own.
+  -- 3: the kind is neither 1 nor 2, or it is 2 and the marks are zero, or, where places count, the place is not the
+  -- block's own.
   pub three-exactly :
       (numberAt placed s k ≡ 3) exactlyWhen (WrongSum (blockAt s k) notBut WrongOpening placed (blockAt s k) k)
   three-exactly = exact.three-exactly placed s k
@@ -60,7 +61,7 @@ module _ (placed : Bool) (s : List ℕ) (k : ℕ) where
       notBut WrongGuest (guestOf (blockAt s k)) (idAt s) k)
   four-exactly = exact.four-exactly placed s k
 
-  -- 5: a byte that must be zero is not.
+  -- 5: a byte that must be zero is not, or a mark is past the tasks.
   pub five-exactly :
       (numberAt placed s k ≡ 5)
       exactlyWhen
@@ -70,7 +71,8 @@ module _ (placed : Bool) (s : List ℕ) (k : ℕ) where
       notBut WrongZero (blockAt s k))
   five-exactly = exact.five-exactly placed s k
 
-  -- 6: a task's run, period or deadline is outside its range.
+  -- 6: a task's run, period or deadline is outside its range, or a task is bound and its period is not a multiple of
+  -- its guest's.
   pub six-exactly :
       (numberAt placed s k ≡ 6)
       exactlyWhen
@@ -127,7 +129,8 @@ module _ (gs : List Guest) (k : ℕ) where
   pub records-four : (guestNumber gs k ≡ 4) exactlyWhen WrongGuest (guestAt gs k) (λ j. guestAt gs j .id) k
   records-four = records.records-four gs k
 
-  -- 6: a task's run, period or deadline is outside its range.
+  -- 6: a task's run, period or deadline is outside its range, or a task is bound and its period is not a multiple of
+  -- its guest's.
   pub records-six :
       (guestNumber gs k ≡ 6)
       exactlyWhen (WrongGuest (guestAt gs k) (λ j. guestAt gs j .id) k notBut WrongTask (guestAt gs k))
@@ -148,7 +151,8 @@ module _ (g : Guest) (place size : ℕ) where
       (writeNumber g place size ≡ 4) exactlyWhen ((size < blockSize) notBut (lastPlace < place) notBut WrongHead g)
   write-four = records.write-four g place size
 
-  -- 6: a task's run, period or deadline is outside its range.
+  -- 6: a task's run, period or deadline is outside its range, or a task is bound and its period is not a multiple of
+  -- its guest's.
   pub write-six :
       (writeNumber g place size ≡ 6)
       exactlyWhen ((size < blockSize) notBut (lastPlace < place) notBut WrongHead g notBut WrongTask g)

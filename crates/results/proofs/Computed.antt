@@ -1,6 +1,7 @@
 -- All that is shown by computing, with the one list of definitions that are computed with. Inner: other files of this
 -- crate cite its parts.
 use mathlib.Core.Path.{_≡_, refl}
+use mathlib.Core.Bool.{true, false, false≢true}
 use mathlib.Core.List.{[], _∷_}
 use native.Mathlib.Omega.{arith}
 use lib.IntN.{negsuc}
@@ -12,12 +13,13 @@ use Rattle.rounding.specs.Up.{up}
 use Rattle.rounding.specs.Asked.{asked}
 use Rattle.equation.specs.Solve.{solve}
 use Rattle.equation.specs.Guest.{guestSide, guestUnder}
-use Rattle.equation.specs.System.{load, rightAt, right, responseOf, taskUnder}
+use Rattle.equation.specs.System.{gapFor, load, rightAt, right, responseOf, taskUnder}
 use Rattle.plan.specs.Charge.{chargedRun}
+use Rattle.plan.specs.Marks.{marked, mayStart}
 use Rattle.plan.specs.First.{orElse, firstRefused, refusedBy}
 use Rattle.plan.specs.Order.{newId, numberOf, guestNumber, countedBy, planRefusal, recordsThen}
 use Rattle.plan.specs.Place.{placeOf, hasGuest, hasTask}
-use Rattle.plan.specs.Ranges.{headOk, taskOk, tasksOk}
+use Rattle.plan.specs.Ranges.{headOk, taskOk, startOk, tasksOk}
 use Rattle.response.specs.Interference.{jitter, interference}
 use Rattle.response.specs.Guest.{guestResponse, fitted, fittedTo}
 use Rattle.response.specs.Task.{gap, taskRight, responseTo, limit, taskResponse}
@@ -37,8 +39,9 @@ use Rattle.lists.specs.Table.{table}
 use Rattle.lists.specs.Places.{upTo}
 use Rattle.results.specs.Numbers.{Numbers}
 use Rattle.history.specs.Calls.{running, start, after, play, times}
+use Rattle.history.specs.Named.{boundBy, everyBy}
 use Rattle.verdict_laws.specs.Guests.{There}
-use Rattle.worked.specs.Plans.{A, A35, planB, planD}
+use Rattle.worked.specs.Plans.{A, A35, planB, planD, planE}
 use Rattle.amendment_laws.proofs.Worked.{answers-7}
 use Rattle.amendment_laws.proofs.Worked as pairs
 use Rattle.history.proofs.Times.{early-again, due-again}
@@ -61,8 +64,16 @@ pub record Computed : Type 0 where
   -- The guest 1/1000 of case 7.
   pub there-gap : There planD 7 0
   pub place-gap : placeOf planD 7 ≡ 0
+  -- Guest 9's tasks of plan A are not bound, nor is the task of case 7; with the first mark the first task is.
+  pub unbound-A : boundBy A 9 2 ≡ false
+  pub unbound-gap : boundBy planD 7 1 ≡ false
+  pub bound-E : boundBy (planE 1) 9 1 ≡ true
+  pub there-E : There (planE 1) 9 1
+  pub place-E : placeOf (planE 1) 9 ≡ 1
+  pub every-E : everyBy (planE 1) 9 1 ≡ 60
   -- Released at the start, a task of these guests is taken.
   pub taken-A : release (play [] (start A)) 9 2 .refusal .number ≡ 0
+  pub taken-E : release (play [] (start (planE 1))) 9 1 .refusal .number ≡ 0
   pub taken-gap : release (play [] (start planD)) 7 1 .refusal .number ≡ 0
   pub taken-A35 : release (play [] (start A35)) 9 1 .refusal .number ≡ 0
   -- The margin of a job that is one tick late.
@@ -71,7 +82,7 @@ pub record Computed : Type 0 where
 -- Each part is computed by the definitions; what case 8 has after 49 and 50 ticks follows from the promises, without
 -- 99 ticks computed.
 pub computed : Computed
-unfolding allTo unless refusal least firstFrom sumTo up asked solve guestSide guestUnder load rightAt right
+unfolding marked mayStart startOk gapFor allTo unless refusal least firstFrom sumTo up asked solve guestSide guestUnder load rightAt right
     responseOf taskUnder chargedRun orElse firstRefused newId numberOf guestNumber countedBy planRefusal placeOf
     headOk taskOk tasksOk jitter interference guestResponse fitted fittedTo gap taskRight responseTo limit
     taskResponse hasGuest hasTask recordsThen refusedBy guestVerdict quotedBy taskSays taskVerdict met allMet
@@ -111,8 +122,8 @@ computed = record {
     gap-again = refl;
     released-at-0 = refl;
     released-at-14 = refl;
-    again-after-49 = early-again A 9 1 refl (running 14 ∷ []) refl 49 (omega arith);
-    again-after-50 = due-again A 9 1 36 refl (running 14 ∷ []) refl 50 (omega arith);
+    again-after-49 = early-again A 9 1 refl (running 14 ∷ []) refl 49 (omega arith) (λ b. absurd (false≢true b));
+    again-after-50 = due-again A 9 1 36 refl (running 14 ∷ []) refl 50 (omega arith) (λ b. absurd (false≢true b));
     sheet-answers = refl;
     amended-first = answers-7 .task 9 1;
     amended-second = answers-7 .task 9 2;
@@ -121,6 +132,19 @@ computed = record {
     amended-there = pairs.computed .nine-there;
     amended-not-there = pairs.computed .seven-there;
     amended-misplaced = pairs.computed .misplaced;
+    unbound-first = refl;
+    unbound-second = refl;
+    first-bound-first = refl;
+    first-bound-second = refl;
+    second-bound-first = refl;
+    second-bound-second = refl;
+    both-bound-first = refl;
+    both-bound-second = refl;
+    bound-taken = refl;
+    bound-away = refl;
+    bound-away-waiting = refl;
+    bound-early = refl;
+    unbound-above = refl;
   };
   there-A = record { order = refl; place = omega arith; named = refl };
   there-A35 = record { order = refl; place = omega arith; named = refl };
@@ -132,7 +156,14 @@ computed = record {
   there-none = record { order = refl; place = omega arith; named = refl };
   there-gap = record { order = refl; place = omega arith; named = refl };
   place-gap = refl;
+  unbound-A = refl;
+  unbound-gap = refl;
+  bound-E = refl;
+  there-E = record { order = refl; place = omega arith; named = refl };
+  place-E = refl;
+  every-E = refl;
   taken-A = refl;
+  taken-E = refl;
   taken-gap = refl;
   taken-A35 = refl;
   late-margin = refl;

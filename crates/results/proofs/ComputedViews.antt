@@ -9,8 +9,9 @@ use Rattle.lists.specs.Search.{firstFrom}
 use Rattle.plan.specs.Charge.{chargedRun}
 use Rattle.plan.specs.First.{orElse, firstRefused}
 use Rattle.plan.specs.Order.{newId, numberOf, guestNumber, countedBy, planRefusal}
+use Rattle.plan.specs.Marks.{marked, mayStart}
 use Rattle.plan.specs.Place.{placeOf, hasGuest, hasTask}
-use Rattle.plan.specs.Ranges.{headOk, taskOk, tasksOk}
+use Rattle.plan.specs.Ranges.{headOk, taskOk, startOk, tasksOk}
 use Rattle.dispatcher.specs.Valid.{tasksIn, guestInRange, taskInRange, rowOk, stateOk}
 use Rattle.dispatcher.specs.Fresh.{idle, startedBy, fresh}
 use Rattle.dispatcher.specs.Release.{taken, releaseNumber, releasedBy, release}
@@ -41,7 +42,7 @@ pub record ComputedViews : Type 0 where
 
 -- Each part is computed by the definitions.
 pub computed : ComputedViews
-unfolding upTo allTo unless refusal firstFrom chargedRun orElse firstRefused newId numberOf guestNumber
+unfolding marked mayStart startOk upTo allTo unless refusal firstFrom chargedRun orElse firstRefused newId numberOf guestNumber
     countedBy planRefusal placeOf hasGuest hasTask headOk taskOk tasksOk tasksIn guestInRange taskInRange
     rowOk stateOk idle startedBy fresh taken releaseNumber releasedBy release lessAt refilled holder isHeld
     leftAfter worker isWorked restAfter ageAfter waitAfter positionAfter next marginOf answerBy answer

@@ -1,8 +1,8 @@
 -- The dispatcher over histories of calls, for any plan in order: its states are never refused, a run is its single
--- ticks, wait and age mean what they say, 9 and 10 have exactly their causes, and the numbers beside the state say
+-- ticks, wait and age mean what they say, 17, 9 and 10 have exactly their causes, and the numbers beside the state say
 -- where the ticks went and are looked at by nothing else.
-use mathlib.Core.Path.{_≡_}
-use mathlib.Core.Bool.{true}
+use mathlib.Core.Path.{_≡_, sym, _∙_}
+use mathlib.Core.Bool.{true, false, false≢true}
 use mathlib.Core.List.{List}
 use Prim.Native.Nat.{ℕ, _+_, _-_, _*_, _%_, _≤_, _<_, min}
 use Rattle.lists.specs.Places.{nth}
@@ -18,12 +18,13 @@ use Rattle.dispatcher.specs.Release.{release}
 use Rattle.dispatcher.specs.Valid.{stateOk}
 use Rattle.dispatcher_laws.specs.Usage.{withUsage}
 use Rattle.history.specs.Calls.{Call, start, after, play, released, ticksIn, answers, callNumber, NoneTaken}
-use Rattle.history.specs.Named.{everyBy, restBy, waitBy, ageBy}
+use Rattle.history.specs.Named.{boundBy, positionBy, everyBy, restBy, waitBy, ageBy, StartsHere}
 use Rattle.history.specs.Runs.{RunIs}
 use Rattle.history.specs.Settings.{SameOutcome, Step, handled, callsIn}
 use Rattle.history.specs.Usage.{Accounts}
 use Rattle.history.proofs.Again as again
 use Rattle.history.proofs.Clocks as clocks
+use Rattle.history.proofs.Positions as positions
 use Rattle.history.proofs.Settings as settings
 use Rattle.history.proofs.Stays as stays
 use Rattle.history.proofs.Sure as sure
@@ -73,25 +74,57 @@ module _ (p : Plan) (order : planRefusal p .number ≡ 0) (id number : ℕ) (cs 
       → ageBy p id number (play ds (released p id number cs)) ≡ min (ticksIn ds (released p id number cs)) 1000000
   age-means = clocks.age-since p order id number cs taken ds none
 
-  -- A further release is refused by 9 exactly while fewer ticks than the task's period were done since the last.
+  -- A further release is refused by 9 exactly while the task may start and fewer ticks than its period were done since
+  -- the last.
   pub nine-exactly :
       (release (play ds (released p id number cs)) id number .refusal .number ≡ 9)
-      exactlyWhen (ticksIn ds (released p id number cs) < everyBy p id number)
+      exactlyWhen (StartsHere p id number (play ds (released p id number cs))
+      × (ticksIn ds (released p id number cs) < everyBy p id number))
   nine-exactly = again.nine-exactly p order id number cs taken ds none
 
-  -- A further release is refused by 10 exactly when the period has passed and the last job is unfinished.
+  -- A further release is refused by 10 exactly when the task may start, the period has passed and the last job is
+  -- unfinished.
   pub ten-exactly :
       (release (play ds (released p id number cs)) id number .refusal .number ≡ 10)
-      exactlyWhen ((everyBy p id number ≤ ticksIn ds (released p id number cs))
-      × (0 < restBy p id number (play ds (released p id number cs))))
+      exactlyWhen (StartsHere p id number (play ds (released p id number cs))
+      × ((everyBy p id number ≤ ticksIn ds (released p id number cs))
+      × (0 < restBy p id number (play ds (released p id number cs)))))
   ten-exactly = again.ten-exactly p order id number cs taken ds none
 
-  -- A further release is taken exactly otherwise: the period has passed and the last job is finished.
+  -- A further release is taken exactly when the task may start, the period has passed and the last job is finished.
   pub taken-exactly :
       (release (play ds (released p id number cs)) id number .refusal .number ≡ 0)
-      exactlyWhen ((everyBy p id number ≤ ticksIn ds (released p id number cs))
-      × (restBy p id number (play ds (released p id number cs)) ≡ 0))
+      exactlyWhen (StartsHere p id number (play ds (released p id number cs))
+      × ((everyBy p id number ≤ ticksIn ds (released p id number cs))
+      × (restBy p id number (play ds (released p id number cs)) ≡ 0)))
   taken-exactly = again.taken-exactly p order id number cs taken ds none
+
+-- A release of a task that is there is refused by 17 exactly if the task is bound and its guest's position is not 0.
+pub seventeen-exactly :
+    (p : Plan) (id number : ℕ)
+    → TaskThere p id number
+    → (cs : List Call)
+    → (release (play cs (start p)) id number .refusal .number ≡ 17)
+    exactlyWhen ((boundBy p id number ≡ true) × (0 < positionBy p id (play cs (start p))))
+seventeen-exactly = again.seventeen-exactly
+
+-- The period of a bound task is a multiple of its guest's, so when it has passed since a taken release, once or several
+-- times, the guest stands at position 0 again.
+pub back-at-0 :
+    (p : Plan)
+    → planRefusal p .number ≡ 0
+    → (id number : ℕ) (cs : List Call)
+    → release (play cs (start p)) id number .refusal .number ≡ 0
+    → (ds : List Call)
+    → boundBy p id number ≡ true
+    → (m : ℕ)
+    → ticksIn ds (released p id number cs) ≡ m * everyBy p id number
+    → positionBy p id (play ds (released p id number cs)) ≡ 0
+back-at-0 = positions.back-at-0
+
+-- A task that is not bound may start anywhere.
+pub unbound-here : (p : Plan) (id number : ℕ) (d : Dispatcher) → boundBy p id number ≡ false → StartsHere p id number d
+unbound-here p id number d e b = absurd (false≢true (sym e ∙ b))
 
 -- Before any release of it is taken a task has no wait and no run left.
 pub before-any :
@@ -104,12 +137,13 @@ before-any p id number t cs none =
     let n = clocks.before-any p (t .there .order) id number (t .there .place) (t .in-guest) (t .from-1) cs none in
     (n .due, n .free)
 
--- The first release of a task that is there is taken.
+-- The first release of a task that is there is taken, where it may start.
 pub first-release-taken :
     (p : Plan) (id number : ℕ)
     → TaskThere p id number
     → (cs : List Call)
     → NoneTaken id number cs (start p)
+    → StartsHere p id number (play cs (start p))
     → release (play cs (start p)) id number .refusal .number ≡ 0
 first-release-taken = again.first-taken
 

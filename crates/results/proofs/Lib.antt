@@ -1,6 +1,6 @@
 -- The theorems behind the promises, a file for each subject: statements, each with a line that cites its proof.
--- Numbers, Instances, PlanA and PlanAViews show them at document 01's plans, and Computed and ComputedViews hold what
--- is shown by computing there.
+-- Numbers, Instances, PlanA, BoundTask and PlanAViews show them at the documents' plans, and Computed and ComputedViews
+-- hold what is shown by computing there.
 pub mod Refusals
 pub mod Causes
 pub mod PlanFiles
@@ -15,4 +15,5 @@ pub mod ComputedViews
 pub mod Numbers
 pub mod Instances
 pub mod PlanA
+pub mod BoundTask
 pub mod PlanAViews

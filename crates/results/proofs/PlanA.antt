@@ -21,8 +21,12 @@ use Rattle.worked.specs.Plans.{A, A35, planD}
 use Rattle.verdict.proofs.Quoted.{met-quoted, unmet-quoted}
 use Rattle.results.proofs.Computed.{computed}
 use Rattle.results.proofs.Numbers.{numbers}
-use Rattle.results.proofs.Dispatcher.{nine-exactly, ten-exactly, usage-unseen}
+use Rattle.results.proofs.Dispatcher.{nine-exactly, ten-exactly, unbound-here, usage-unseen}
 use Rattle.results.proofs.Word.{sure-of-capacity, had-by-response, quoted-sure, younger, finished-by-R, first-taken}
+
+-- A cause that holds needs no saying.
+without : {A H B : Type 0} → H → A exactlyWhen (H × B) → A exactlyWhen B
+without h N = (λ a. N .0 a .1, λ b. N .1 (h, b))
 
 -- The second task of guest 9 is met with 80, so it is quoted 80.
 second-80 : Quoted A 9 2 80
@@ -61,7 +65,8 @@ second-below-80 = younger A 9 2 80 second-80
 
 -- Whatever is called before, the first release of that task is taken.
 pub second-taken : (cs : List Call) → NoneTaken 9 2 cs (start A) → release (play cs (start A)) 9 2 .refusal .number ≡ 0
-second-taken = first-taken A 9 2 80 second-80
+second-taken cs none =
+    first-taken A 9 2 80 second-80 cs none (unbound-here A 9 2 (play cs (start A)) (computed .unbound-A))
 
 -- Released at the start, it has been told finished after 80 ticks, however they are called for, 20 ticks or more
 -- before its deadline.
@@ -77,7 +82,10 @@ pub second-nine :
     → NoneTaken 9 2 ds (released A 9 2 [])
     → (release (play ds (released A 9 2 [])) 9 2 .refusal .number ≡ 9)
     exactlyWhen (ticksIn ds (released A 9 2 []) < 100)
-second-nine = rw (computed .place-A) at (nine-exactly A (computed .there-A .order) 9 2 [] (computed .taken-A))
+second-nine ds none =
+    let N = nine-exactly A (computed .there-A .order) 9 2 [] (computed .taken-A) ds none in
+    let here = unbound-here A 9 2 (play ds (released A 9 2 [])) (computed .unbound-A) in
+    rw (computed .place-A) at (without here N)
 
 -- With any numbers beside the state, a run of 50 ticks there has the same outcome but for them.
 pub second-unseen : (u : List ℕ) → SameOutcome (running 50) (withUsage (released A 9 2 []) u) (released A 9 2 [])
@@ -101,7 +109,10 @@ pub case-7-ten :
     → NoneTaken 7 1 ds (released planD 7 1 [])
     → (release (play ds (released planD 7 1 [])) 7 1 .refusal .number ≡ 10)
     exactlyWhen ((10 ≤ ticksIn ds (released planD 7 1 [])) × (0 < restAt (play ds (released planD 7 1 [])) 0 0))
-case-7-ten = rw (computed .place-gap) at (ten-exactly planD (computed .there-gap .order) 7 1 [] (computed .taken-gap))
+case-7-ten ds none =
+    let N = ten-exactly planD (computed .there-gap .order) 7 1 [] (computed .taken-gap) ds none in
+    let here = unbound-here planD 7 1 (play ds (released planD 7 1 [])) (computed .unbound-gap) in
+    rw (computed .place-gap) at (without here N)
 
 -- The guest 1/1000 there is fitted, but its task is not quoted; released at tick 0, it is turned away at tick 10,
 -- though its period has passed.

@@ -16,7 +16,7 @@ use Rattle.dispatcher.specs.Valid.{stateOk}
 use Rattle.sheet.specs.Sheet.{mostPairs, pairGuest, pairTask, answerTo, sheet, answered}
 use Rattle.history.specs.Calls.{Call, sheeting, start, after, play, released, ticksIn, NoneTaken}
 use Rattle.history.specs.Finished.{FinishedBy}
-use Rattle.history.specs.Named.{everyBy, deadlineBy}
+use Rattle.history.specs.Named.{everyBy, deadlineBy, StartsHere}
 use Rattle.history.specs.Sheets.{releases, upToPair, PairOf, NotBefore}
 use Rattle.sheet.proofs.Answered as places
 use Rattle.sheet.proofs.Causes as causes
@@ -81,9 +81,11 @@ module _ (p : Plan) (id number R : ℕ) (quoted : Quoted p id number R) where
         → FinishedBy R (deadlineBy p id number) id number ds (after (sheeting ps room) (play cs (start p)))
     pair-finished-by-R = pairs.pair-finished-by-R p id number R quoted cs ps room i Q
 
-    -- A pair is taken if no release of the task was taken before.
+    -- A pair is taken if no release of the task was taken before, where it may start.
     pub pair-first-taken :
-        NoneTaken id number cs (start p) → NotBefore (play cs (start p)) ps i id number
+        NoneTaken id number cs (start p)
+        → StartsHere p id number (play cs (start p))
+        → NotBefore (play cs (start p)) ps i id number
         → answerTo (play cs (start p)) ps i ≡ 0
     pair-first-taken = pairs.pair-first-taken p id number R quoted cs ps room i Q
 
@@ -91,13 +93,15 @@ module _ (p : Plan) (id number R : ℕ) (quoted : Quoted p id number R) where
     pub pair-never-10 : answerTo (play cs (start p)) ps i ≡ 10 → ⊥
     pair-never-10 = pairs.pair-never-10 p id number R quoted cs ps room i Q
 
-  -- A pair is taken if at least the task's period of ticks was done since the last release of it that was taken.
+  -- A pair is taken if at least the task's period of ticks was done since the last release of it that was taken, where
+  -- it may start.
   pub pair-next-taken :
       (cs : List Call)
       → release (play cs (start p)) id number .refusal .number ≡ 0
       → (ds : List Call)
       → NoneTaken id number ds (released p id number cs)
       → everyBy p id number ≤ ticksIn ds (released p id number cs)
+      → StartsHere p id number (play ds (released p id number cs))
       → (ps : List ℕ) (room i : ℕ)
       → PairOf (play ds (released p id number cs)) ps room i id number
       → NotBefore (play ds (released p id number cs)) ps i id number

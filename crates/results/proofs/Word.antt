@@ -16,7 +16,7 @@ use Rattle.dispatcher.specs.Answer.{marginOf}
 use Rattle.dispatcher.specs.Release.{release}
 use Rattle.history.specs.Calls.{Call, start, play, released, ticksIn, answers, answerOf, NoneTaken}
 use Rattle.history.specs.Finished.{FinishedBy}
-use Rattle.history.specs.Named.{guestBy, everyBy, deadlineBy, restBy, ageBy}
+use Rattle.history.specs.Named.{guestBy, everyBy, deadlineBy, restBy, ageBy, StartsHere}
 use Rattle.history.specs.Share.{share}
 use Rattle.history.proofs.Above as upper
 use Rattle.history.proofs.ByResponse as response
@@ -86,20 +86,24 @@ module _ (p : Plan) (id number R : ℕ) (quoted : Quoted p id number R) where
       → (age ≤ R) × (margin ≡ marginOf (deadlineBy p id number) age)
   never-late = late.never-late p id number R quoted
 
-  -- 3. Never turned away. A release is taken if none was taken before.
+  -- 3. Never turned away. A release is taken if none was taken before, of a bound task while its guest's position is 0
+  -- (`StartsHere`, which asks nothing of a task that is not bound).
   pub first-taken :
       (cs : List Call)
       → NoneTaken id number cs (start p)
+      → StartsHere p id number (play cs (start p))
       → release (play cs (start p)) id number .refusal .number ≡ 0
   first-taken = turned.first-taken p id number R quoted
 
-  -- A release is taken if at least the task's period of ticks was done since the last one taken.
+  -- A release is taken if at least the task's period of ticks was done since the last one taken, of a bound task while
+  -- its guest's position is 0.
   pub next-taken :
       (cs : List Call)
       → release (play cs (start p)) id number .refusal .number ≡ 0
       → (ds : List Call)
       → NoneTaken id number ds (released p id number cs)
       → everyBy p id number ≤ ticksIn ds (released p id number cs)
+      → StartsHere p id number (play ds (released p id number cs))
       → release (play ds (released p id number cs)) id number .refusal .number ≡ 0
   next-taken = turned.next-taken p id number R quoted
 

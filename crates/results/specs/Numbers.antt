@@ -2,7 +2,7 @@
 use mathlib.Core.Path.{_≡_}
 use mathlib.Core.List.{[], _∷_}
 use lib.IntN.{pos}
-use Rattle.worked.specs.Plans.{planOf, top, nine, planA, A, A35, planB, planC, planD}
+use Rattle.worked.specs.Plans.{planOf, top, nine, planA, A, A35, planB, planC, planD, planE, planF}
 use Rattle.blockwriter.specs.Writing.{blockOf}
 use Rattle.planfile_laws.specs.File.{fileOf}
 use Rattle.amendment.specs.Pair.{inPlan, inSheet, pairRefusal}
@@ -80,3 +80,20 @@ pub record Numbers : Type 0 where
   pub amended-there : pairPlace (fileOf A) (blockOf (nine 7) 1) 9 ≡ inSheet 0 0
   pub amended-not-there : pairPlace (fileOf A) (blockOf (nine 7) 1) 7 ≡ inPlan 0 0
   pub amended-misplaced : pairRefusal (fileOf A) (blockOf (nine 7) 0) ≡ inSheet 16 0
+  -- P8: Plan A with guest 9's first task 10/60/60, its two tasks: none bound, the first bound, the second, and both.
+  pub unbound-first : taskVerdict (planE 0) 9 1 ≡ Met 36
+  pub unbound-second : taskVerdict (planE 0) 9 2 ≡ Met 56
+  pub first-bound-first : taskVerdict (planE 1) 9 1 ≡ Met 24
+  pub first-bound-second : taskVerdict (planE 1) 9 2 ≡ Met 56
+  pub second-bound-first : taskVerdict (planE 2) 9 1 ≡ Met 36
+  pub second-bound-second : taskVerdict (planE 2) 9 2 ≡ Met 44
+  pub both-bound-first : taskVerdict (planE 3) 9 1 ≡ Met 24
+  pub both-bound-second : taskVerdict (planE 3) 9 2 ≡ Met 44
+  -- The first task bound: taken at position 0, and refused by 17 one tick later, also while it waits.
+  pub bound-taken : release (start (planE 1)) 9 1 .refusal .number ≡ 0
+  pub bound-away : release (play (times 1) (start (planE 1))) 9 1 .refusal .number ≡ 17
+  pub bound-away-waiting : release (play (times 1) (released (planE 1) 9 1 [])) 9 1 .refusal .number ≡ 17
+  pub bound-early : release (released (planE 1) 9 1 []) 9 1 .refusal .number ≡ 9
+  -- An unbound task above a bound one loads it with its own J: without that 3 would be quoted here, and a run of the
+  -- bound task takes 5 ticks if it is released together with the second job of the one above.
+  pub unbound-above : taskVerdict planF 7 2 ≡ Unmet

@@ -1,15 +1,13 @@
 // The quotient rounded up, and sums of it over lent columns, cut off at 2 to the 32.
 ghost use mathlib.Core.Path.{_≡_};
-ghost use Prim.Native.Nat.{_+_, _-_, _*_, _≤_, _<_};
+ghost use Prim.Native.Nat.{_-_, _*_, _≤_, _<_};
 ghost use Rattle.lists.specs.Places.{nth};
 ghost use Rattle.rounding.specs.Up.{up};
 ghost use Rattle.rounding.specs.Asked.{asked};
-ghost use Rattle.rounding.specs.Cut.{bound, long, cut};
+ghost use Rattle.rounding.specs.Cut.{bound, long, cut, Short};
 
 // The first number that 32 bits do not hold.
 pub const BOUND: u64 = 4294967296;
-// The first window that is not short.
-const LONG: u32 = 134217728;
 
 // The number x in 64 bits.
 pub fn wide(x: u32) -> u64
@@ -47,41 +45,32 @@ pub fn share(v: u32, every: u32, cost: u32) -> u64
     quotient(v, every) * wide(cost)
 }
 
-// What the first n ask of a window that is so short that no sum of 16 leaves 64 bits.
-fn asked_of_short(cost: &[u32; 16], every: &[u32; 16], late: u32, n: usize, v: u32) -> u64
-    requires { ⌜ (n ≤ 16) × (v + late < long) ⌝ }
-    ensures { λ r. ⌜ r ≡ asked (nth (now (cost .entry))) (nth (now (every .entry))) (λ k. late) n v ⌝ }
+// What the first n ask of a window of v ticks, cut off once: the window is so short that no sum of 16 leaves 64 bits.
+pub fn asked_of(cost: &[u32; 16], every: &[u32; 16], n: usize, v: u32) -> u64
+    requires { ⌜ (n ≤ 16) × (v < long) ⌝ }
+    ensures { λ r. ⌜ r ≡ cut (asked (nth (now (cost .entry))) (nth (now (every .entry))) (λ k. 0) n v) ⌝ }
 {
     let mut sum: u64 = 0;
     let mut k: usize = 0;
     while k < n {
-        sum += share(v + late, every[k], cost[k]);
+        sum += share(v, every[k], cost[k]);
         k += 1;
     }
-    sum
+    capped(sum)
 }
 
-// What the first n ask of any window, cut off at each turn.
-fn asked_of_long(cost: &[u32; 16], every: &[u32; 16], late: u32, n: usize, v: u32) -> u64
-    requires { ⌜ (n ≤ 16) × (v + late < bound) ⌝ }
-    ensures { λ r. ⌜ r ≡ cut (asked (nth (now (cost .entry))) (nth (now (every .entry))) (λ k. late) n v) ⌝ }
+// What the first n, each put off by its own number in `late`, ask of a window of v ticks, cut off once.
+pub fn asked_of_each(cost: &[u32; 16], every: &[u32; 16], late: &[u32; 16], n: usize, v: u32) -> u64
+    requires { ⌜ (n ≤ 16) × Short (now late) n v ⌝ }
+    ensures { λ r. ⌜
+        r ≡ cut (asked (nth (now (cost .entry))) (nth (now (every .entry))) (nth (now (late .entry))) n v)
+        ⌝ }
 {
     let mut sum: u64 = 0;
     let mut k: usize = 0;
     while k < n {
-        sum = capped(sum + share(v + late, every[k], cost[k]));
+        sum += share(v + late[k], every[k], cost[k]);
         k += 1;
     }
-    sum
-}
-
-// What the first n, each put off by `late`, ask of a window of v ticks, cut off: once, where the window allows it.
-pub fn asked_of(cost: &[u32; 16], every: &[u32; 16], late: u32, n: usize, v: u32) -> u64
-    requires { ⌜ (n ≤ 16) × (v + late < bound) ⌝ }
-    ensures { λ r. ⌜ r ≡ cut (asked (nth (now (cost .entry))) (nth (now (every .entry))) (λ k. late) n v) ⌝ }
-{
-    if v + late < LONG {
-        return capped(asked_of_short(cost, every, late, n, v));
-    }
-    asked_of_long(cost, every, late, n, v)
+    capped(sum)
 }

@@ -1,7 +1,7 @@
 -- What a sheet comes to: refused whole, and nothing changes, or its releases one by one. Assumes nothing.
 use mathlib.Core.Path.{_≡_, refl, sym, ap, _∙_}
 use mathlib.Core.Bool.{true, false}
-use mathlib.Core.List.{List, []}
+use mathlib.Core.List.{List}
 use Prim.Native.Nat.{ℕ, zero, suc, _<_}
 use native.Mathlib.Omega.{arith}
 use lib.ListN.{length}
@@ -11,8 +11,8 @@ use Rattle.dispatcher.specs.declared.Released.{Released}
 use Rattle.dispatcher.specs.Valid.{stateOk}
 use Rattle.sheet.specs.Sheet.{pairGuest, pairTask, stateAfter, answerTo, sheetNumber, sheetBy, sheet}
 use Rattle.dispatcher_laws.specs.Usage.{SameButUsage}
-use Rattle.lists.proofs.Refusals.{none-left, go-on, stop}
-use Rattle.dispatcher_laws.proofs.Release.{other-number}
+use Rattle.lists.proofs.Refusals.{go-on, stop}
+use Rattle.lists.proofs.Exactly.{among, not-given}
 use Rattle.dispatcher_laws.proofs.Usage.{release-one, ok-one}
 use Rattle.sheet.proofs.Sheet.{ok-after}
 
@@ -69,11 +69,9 @@ pub sheet-not-14 :
     → stateOk d ≡ true
     → sheet d pairs room .refusal .number ≡ 14
     → ⊥
-unfolding sheetNumber
+unfolding sheetNumber among
 sheet-not-14 d pairs room ok e =
-    other-number _ 15 _ 14 (λ q. omega arith)
-    (other-number _ 12 [] 14 (λ q. omega arith) (λ q. omega (arith, none-left)))
-    (sym (go-on 14 _ ok) ∙ sym (sheet-number d pairs room) ∙ e)
+    not-given _ 14 (omega arith) refl (sym (go-on 14 _ ok) ∙ sym (sheet-number d pairs room) ∙ e)
 
 -- A state in its ranges stays there over a sheet.
 pub sheet-ok :

@@ -1,6 +1,6 @@
 -- A sheet as a whole: by the number that it is refused by. Assumes nothing.
 use mathlib.Core.Path.{_≡_, refl, sym, _∙_}
-use mathlib.Core.Bool.{true}
+use mathlib.Core.Bool.{Bool, true}
 use mathlib.Core.List.{List, [], _∷_}
 use Prim.Native.Nat.{ℕ, zero, suc, _≤_, _<_}
 use native.Mathlib.Omega.{arith}
@@ -14,6 +14,7 @@ use Rattle.plan.specs.Order.{planRefusal}
 use Rattle.steps.specs.Step.{Small}
 use Rattle.refusals.specs.declared.Checked.{Checked}
 use Rattle.jobs.specs.Rows.{JobsOf}
+use Rattle.jobs.specs.Barred.{BarredTo}
 use Rattle.dispatcher.specs.declared.Dispatcher.{Dispatcher}
 use Rattle.dispatcher.specs.declared.Released.{Released}
 use Rattle.dispatcher.specs.Valid.{stateOk}
@@ -100,7 +101,15 @@ module _ (d : Dispatcher) (pairs before : List ℕ) {x : ℕ} {found : Checked} 
 
     -- The columns that were read are the plan's.
     pub sheet-columns :
-        {runs periods : List ℕ}
-        → JobsOf (d .plan) runs periods
-        → SheetColumns (d .plan) (d .plan .count) (found .columns .ids) (found .columns .tasks) runs periods
-    sheet-columns J = record { count = refl; id = columns .ids .holds; many = columns .tasks .holds; jobs = J }
+        {barred runs periods : List ℕ} {isClear : Bool}
+        → JobsOf (d .plan) runs periods × BarredTo (d .plan) (d .position) (d .plan .count) barred isClear
+        → SheetColumns (d .plan) (d .plan .count) (d .position) (found .columns .ids) (found .columns .tasks)
+        barred runs periods
+    sheet-columns (J, B) =
+        record {
+          count = refl;
+          id = columns .ids .holds;
+          many = columns .tasks .holds;
+          bars = B .column .holds;
+          jobs = J;
+        }

@@ -53,7 +53,9 @@ pub fn release_all(state: Dispatcher, pairs: &[u64], answers: &mut [u32]) -> Rel
     let ids = columns.ids;
     let tasks = columns.tasks;
     let n = state.plan.count as usize;
-    let set = jobs_of(state.plan);
+    let set = jobs_of(state.plan, &position);
+    let barred = set.barred;
+    let clear = set.clear;
     let runs = set.runs;
     let periods = set.periods;
     pairs::take_all(
@@ -61,6 +63,8 @@ pub fn release_all(state: Dispatcher, pairs: &[u64], answers: &mut [u32]) -> Rel
         answers,
         &ids,
         &tasks,
+        &barred,
+        clear,
         &runs,
         &periods,
         n,

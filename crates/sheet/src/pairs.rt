@@ -4,7 +4,11 @@ ghost use mathlib.Core.Bool.{true};
 ghost use mathlib.Core.List.{List};
 ghost use Prim.Native.Nat.{ℕ, _≤_, _<_};
 ghost use lib.ListN.{length};
+ghost use Rattle.lists.specs.Places.{nth};
 ghost use Rattle.plan.specs.declared.Plan.{Plan};
+ghost use Rattle.plan.specs.Ranges.{mostTasks};
+ghost use Rattle.plan.specs.Marks.{marked};
+ghost use Rattle.jobs.specs.Barred.{Clear};
 ghost use Rattle.dispatcher.specs.Valid.{stateOk};
 ghost use Rattle.steps.specs.Step.{Small};
 ghost use Rattle.dispatcher.specs.Lent.{stateOf};
@@ -32,11 +36,24 @@ fn task_of(pair: u64) -> u32
     (pair % PAIR_BASE) as u32
 }
 
-// One pair: 7, 8, 9, 10, or 0 and the task's run left, wait and age are set.
+// Whether guest k bars its task t. A clear column is not read, so that the pairs of a plan without marks pay nothing.
+fn is_barred(clear: bool, barred: &[u16; 16], k: usize, t: usize) -> bool
+    requires { ⌜ (clear ≡ true → nth (now barred) k ≡ 0) × ((k < 16) × (t < mostTasks)) ⌝ }
+    ensures { λ r. ⌜ r ≡ marked (nth (now (barred .entry)) k) t ⌝ }
+{
+    if clear {
+        return false;
+    }
+    plan::is_marked(barred[k], t)
+}
+
+// One pair: 7, 8, 17, 9, 10, or 0 and the task's run left, wait and age are set.
 fn take(
     pair: u64,
     ids: &[u32; 16],
     tasks: &[u32; 16],
+    barred: &[u16; 16],
+    clear: bool,
     runs: &[u32; 128],
     periods: &[u32; 128],
     n: usize,
@@ -44,10 +61,11 @@ fn take(
     wait: &mut [u32; 128],
     age: &mut [u32; 128],
 ) -> u32
-    requires { ⌜ Small n (now tasks) ⌝ }
+    requires { ⌜ Small n (now tasks) × Clear clear n (now barred) ⌝ }
     ensures { λ r. ⌜
         ((p : Plan) (left position usage : List ℕ)
-        → SheetColumns p n (now (ids .entry)) (now (tasks .entry)) (now (runs .entry)) (now (periods .entry))
+        → SheetColumns p n position (now (ids .entry)) (now (tasks .entry)) (now (barred .entry))
+        (now (runs .entry)) (now (periods .entry))
         → stateOk (stateOf p left position (now (rest .entry)) (now (wait .entry)) (now (age .entry)) usage) ≡ true
         → PairTaken (stateOf p left position (now (rest .entry)) (now (wait .entry)) (now (age .entry)) usage)
         (stateOf p left position (now (rest .exit)) (now (wait .exit)) (now (age .exit)) usage)
@@ -66,7 +84,11 @@ fn take(
     if tasks[k] < task {
         return 8;
     }
-    let at = k * 16 + (task - 1) as usize;
+    let t = (task - 1) as usize;
+    if is_barred(clear, barred, k, t) {
+        return 17;
+    }
+    let at = k * 16 + t;
     if 0 < wait[at] {
         return 9;
     }
@@ -85,6 +107,8 @@ pub fn take_all(
     answers: &mut [u32],
     ids: &[u32; 16],
     tasks: &[u32; 16],
+    barred: &[u16; 16],
+    clear: bool,
     runs: &[u32; 128],
     periods: &[u32; 128],
     n: usize,
@@ -92,10 +116,11 @@ pub fn take_all(
     wait: &mut [u32; 128],
     age: &mut [u32; 128],
 )
-    requires { ⌜ Small n (now tasks) × (length (now pairs) ≤ length (now answers)) ⌝ }
+    requires { ⌜ (Small n (now tasks) × Clear clear n (now barred)) × (length (now pairs) ≤ length (now answers)) ⌝ }
     ensures { λ r. ⌜
         ((p : Plan) (left position usage : List ℕ)
-        → SheetColumns p n (now (ids .entry)) (now (tasks .entry)) (now (runs .entry)) (now (periods .entry))
+        → SheetColumns p n position (now (ids .entry)) (now (tasks .entry)) (now (barred .entry))
+        (now (runs .entry)) (now (periods .entry))
         → stateOk (stateOf p left position (now (rest .entry)) (now (wait .entry)) (now (age .entry)) usage) ≡ true
         → AllTaken (stateOf p left position (now (rest .entry)) (now (wait .entry)) (now (age .entry)) usage)
         (stateOf p left position (now (rest .exit)) (now (wait .exit)) (now (age .exit)) usage)
@@ -104,7 +129,19 @@ pub fn take_all(
 {
     let mut i: usize = 0;
     while i < pairs.len() {
-        answers[i] = take(pairs[i], ids, tasks, runs, periods, n, rest, wait, age);
+        answers[i] = take(
+            pairs[i],
+            ids,
+            tasks,
+            barred,
+            clear,
+            runs,
+            periods,
+            n,
+            rest,
+            wait,
+            age,
+        );
         i += 1;
     }
 }

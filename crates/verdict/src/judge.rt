@@ -18,6 +18,7 @@ use plan::Plan;
 use response::Trial;
 use response::all_fitted;
 use response::charged_of;
+use response::gaps_of;
 use response::guest_response;
 use response::task_response;
 use response::try_guest;
@@ -74,6 +75,7 @@ pub fn judge_task(
         return TaskVerdict::Unjudged;
     }
     let run = charged_of(g);
+    let late = gaps_of(g.marks, g.period - g.capacity, g.tasks as usize);
     let most = every[i];
     let f = task_response(
         capacities,
@@ -83,6 +85,7 @@ pub fn judge_task(
         g.period,
         &run,
         &every,
+        &late,
         i,
         most,
     );
@@ -99,6 +102,7 @@ fn guest_accepted(g: Guest, capacities: &[u32; 16], periods: &[u32; 16], k: usiz
     let deadline = g.deadline;
     let tasks = g.tasks as usize;
     let run = charged_of(g);
+    let late = gaps_of(g.marks, g.period - g.capacity, tasks);
     let trial = try_guest(
         f,
         capacities,
@@ -108,6 +112,7 @@ fn guest_accepted(g: Guest, capacities: &[u32; 16], periods: &[u32; 16], k: usiz
         g.period,
         &run,
         &every,
+        &late,
         &deadline,
         tasks,
     );

@@ -1,10 +1,12 @@
 -- A quoted task: the invariant of the windows stands at the fresh start, and over a tick and a taken release. Assumes
 -- nothing.
-use mathlib.Core.Path.{subst}
+use mathlib.Core.Path.{_≡_, sym, subst}
+use mathlib.Core.Bool.{Bool, true}
 use Prim.Native.Nat.{ℕ, _≤_, _<_}
 use native.Mathlib.Decide.{ℕ-discrete}
 use native.Mathlib.Omega.{arith}
 use Rattle.plan.specs.declared.Plan.{Plan}
+use Rattle.plan.specs.Marks.{isBound}
 use Rattle.plan.specs.Records.{guestAt, runOf}
 use Rattle.response.specs.Interference.{jitter, interference}
 use Rattle.response.specs.Guest.{guestRight}
@@ -21,6 +23,7 @@ use Rattle.windows.specs.TaskTick.{Taken}
 use Rattle.equation.specs.System.{responseOf}
 use Rattle.windows.specs.Kept.{Bounded, Kept}
 use Rattle.plan.proofs.Charge.{charged-least}
+use Rattle.plan.proofs.MarksLaws.{bound-starts}
 use Rattle.plan.proofs.Order.{PlanIn}
 use Rattle.windows.proofs.Kept.{kept-tick, kept-taken, kept-same, kept-fresh, age-below}
 use Rattle.dispatcher_laws.proofs.Fresh.{idle-position, idle-held, idle-rest, idle-wait}
@@ -55,13 +58,18 @@ pub record TaskFits (p : Plan) (g x i w : ℕ) : Type 0 where
   pub solves : TaskSolves p g i w
   pub in-period : responseOf (gapIn p g i) w ≤ everyIn p g i
 
+-- whether task j of guest g is bound
+abbrev pub boundIn : Plan → ℕ → ℕ → Bool
+boundIn p g j = isBound (guestAt (p .guests) g) j
+
 -- what is kept of a state, seen from task i of guest g
 abbrev pub KeptIn : Plan → (g x i w : ℕ) → Dispatcher → Type 0
-KeptIn p g x i w d = Kept (capOf p) (perOf p) g x (runIn p g) (everyIn p g) i w (heldAt d) (posAt d) (tasksAt d g)
+KeptIn p g x i w d =
+    Kept (capOf p) (perOf p) g x (runIn p g) (everyIn p g) (boundIn p g) i w (heldAt d) (posAt d) (tasksAt d g)
 
 module _ (p : Plan) (P : PlanIn p) {g x i w : ℕ} (T : TaskFits p g x i w) where
   -- The ranges of the records bound the task as the windows want it.
-  pub bounded-of : Bounded (capOf p) (perOf p) g x (runIn p g) (everyIn p g) i w
+  pub bounded-of : Bounded (capOf p) (perOf p) g x (runIn p g) (everyIn p g) (boundIn p g) i w
   unfolding taskRight interference jitter gap
   bounded-of =
       let G = P .guests g (T .in-plan) in
@@ -115,6 +123,13 @@ module _ (p : Plan) (P : PlanIn p) {g x i w : ℕ} (T : TaskFits p g x i w) wher
         (D .plan) (guest-tick d (D .shaped) g in-plan))
         (task-mine d (D .shaped) g i in-plan in-guest) (task-else d (D .shaped) g i in-plan in-guest)
 
+    -- Where the task of a taken release of this guest is bound, the guest is at position 0.
+    at-start : {id task k t : ℕ} → k ≡ g → Free d id task k t → boundIn p g t ≡ true → posAt d g ≡ 0
+    at-start {k = k} {t = t} e F b =
+        subst (λ (z : ℕ). posAt d z ≡ 0) e
+        (bound-starts (guestIn d k) (posAt d k) t (F .may-start)
+        (rw (D .plan) (subst (λ (z : ℕ). boundIn p z t ≡ true) (sym e) b)))
+
     -- The invariant stands over a taken release, of this guest or another.
     pub kept-release :
         (id task k t : ℕ) → Free d id task k t → KeptIn p g x i w d → KeptIn p g x i w (taken d k t)
@@ -122,7 +137,7 @@ module _ (p : Plan) (P : PlanIn p) {g x i w : ℕ} (T : TaskFits p g x i w) wher
     kept-release id task k t F K =
         elim (ℕ-discrete k g) [
           | yes e ↦
-              kept-taken bounded-of
+              kept-taken bounded-of (λ b. at-start e F b)
               (subst (λ (z : Plan). Taken (runIn z g) (everyIn z g) t (tasksAt d g) (tasksAt (taken d k t) g)) (D .plan)
               (subst
               (λ (z : ℕ). Taken (runIn (d .plan) z) (everyIn (d .plan) z) t (tasksAt d z) (tasksAt (taken d k t) z))

@@ -1,15 +1,17 @@
 -- Ticks and releases keep the invariant, a fresh state has it, and a quoted response follows from it. Assumes nothing.
 use mathlib.Core.Path.{_≡_}
+use mathlib.Core.Bool.{Bool, true}
 use Prim.Native.Nat.{ℕ, suc, _+_, _-_, _≤_, _<_}
 use native.Mathlib.Decide.{ℕ-discrete}
 use native.Mathlib.Omega.{arith}
-use Rattle.equation.specs.System.{responseOf}
+use Rattle.equation.specs.System.{gapFor, responseOf}
 use Rattle.windows.specs.GuestTick.{Moved, GuestTick}
 use Rattle.windows.specs.Supply.{Supply}
 use Rattle.windows.specs.Equation.{systemAt}
 use Rattle.windows.specs.TaskTick.{Tasks, TaskTick, Taken, Same}
 use Rattle.windows.specs.Kept.{Bounded, Kept}
 use Rattle.lists.proofs.Sum.{sum-zero}
+use Rattle.equation.proofs.System.{gap-for-grows}
 use Rattle.windows.proofs.GuestTick.{moved-inside}
 use Rattle.windows.proofs.Supply.{fits-sum, supply-tick, used-up, supply-fresh, supplied}
 use Rattle.windows.proofs.Equation.{Lies, lies}
@@ -17,14 +19,16 @@ use Rattle.windows.proofs.Clock.{clock-tick, clock-taken, clock-same}
 use Rattle.windows.proofs.Window.{Given, restart, window-tick}
 use Rattle.windows.proofs.Release.{window-same, window-taken}
 
-module _ {cap per : ℕ → ℕ} {g x : ℕ} {run every : ℕ → ℕ} {i w : ℕ} (Q : Bounded cap per g x run every i w) where
+module _ {cap per : ℕ → ℕ} {g x : ℕ} {run every : ℕ → ℕ} {isBound : ℕ → Bool} {i w : ℕ}
+    (Q : Bounded cap per g x run every isBound i w) where
   -- how the solution lies in periods of the guest
-  lies-of : Lies (systemAt cap per g run every) i w
-  lies-of = lies (systemAt cap per g run every) i w (Q .fitted .some) (Q .cap-per) (Q .solves .works) (Q .solves .equal)
+  lies-of : Lies (systemAt cap per g run every isBound) i w
+  lies-of =
+      lies (systemAt cap per g run every isBound) i w (Q .fitted .some) (Q .cap-per) (Q .solves .works) (Q .solves .equal)
 
   -- what the guest part gives the task part
   given : (held pos : ℕ → ℕ) → Supply cap per g x held pos → pos g < per g
-      → Given (systemAt cap per g run every) i w x (pos g) (held g)
+      → Given (systemAt cap per g run every isBound) i w x (pos g) (held g)
   given held pos S p = record {
     lies = lies-of;
     some = Q .solves .some;
@@ -43,8 +47,8 @@ module _ {cap per : ℕ → ℕ} {g x : ℕ} {run every : ℕ → ℕ} {i w : �
       → GuestTick cap per g k held pos left held' pos'
       → (k ≡ g → TaskTick i 1 v v')
       → ((k ≡ g → ⊥) → TaskTick i 0 v v')
-      → Kept cap per g x run every i w held pos v
-      → Kept cap per g x run every i w held' pos' v'
+      → Kept cap per g x run every isBound i w held pos v
+      → Kept cap per g x run every isBound i w held' pos' v'
   kept-tick {k} {held} {pos} {left} {held'} {pos'} {v} {v'} t mine else K =
       elim (ℕ-discrete k g) [
         | yes e ↦ by 1 (rw e at (t .served .took (omega arith))) (mine e)
@@ -63,27 +67,28 @@ module _ {cap per : ℕ → ℕ} {g x : ℕ} {run every : ℕ → ℕ} {i w : �
       place : pos' g < per g
       place = moved-inside move
 
-      by : (a : ℕ) → left g + a ≡ held g → TaskTick i a v v' → Kept cap per g x run every i w held' pos' v'
+      by : (a : ℕ) → left g + a ≡ held g → TaskTick i a v v' → Kept cap per g x run every isBound i w held' pos' v'
       by a la u = record {
         supply = supply;
         place = place;
         window =
-            window-tick (held g) a i v v' move la drained (given held' pos' supply place) (λ j l. omega arith)
-            (Q .solves .periods) (K .clock) u (K .window);
+            window-tick isBound (held g) a i v v' move la drained (given held' pos' supply place)
+            (λ j l. omega arith) (Q .solves .periods) (K .clock) u (K .window);
         clock = clock-tick (Q .solves .short) u (K .clock);
       }
 
-  -- A taken release of task j of this guest keeps the invariant.
+  -- A taken release of task j of this guest keeps the invariant, if it is at a period's start where j is bound.
   pub kept-taken :
       {j : ℕ} {held pos : ℕ → ℕ} {v v' : Tasks}
+      → (isBound j ≡ true → pos g ≡ 0)
       → Taken run every j v v'
       → ((m : ℕ) → m ≤ i → (m ≡ j → ⊥) → Same m v v')
-      → Kept cap per g x run every i w held pos v
-      → Kept cap per g x run every i w held pos v'
-  kept-taken {j} R S K = record {
+      → Kept cap per g x run every isBound i w held pos v
+      → Kept cap per g x run every isBound i w held pos v'
+  kept-taken {j} at R S K = record {
     supply = K .supply;
     place = K .place;
-    window = window-taken j (Q .solves .works) R S (K .window);
+    window = window-taken j (Q .solves .works) at R S (K .window);
     clock = clock-taken R S (K .clock);
   }
 
@@ -91,8 +96,8 @@ module _ {cap per : ℕ → ℕ} {g x : ℕ} {run every : ℕ → ℕ} {i w : �
   pub kept-same :
       {held pos : ℕ → ℕ} {v v' : Tasks}
       → ((m : ℕ) → m ≤ i → Same m v v')
-      → Kept cap per g x run every i w held pos v
-      → Kept cap per g x run every i w held pos v'
+      → Kept cap per g x run every isBound i w held pos v
+      → Kept cap per g x run every isBound i w held pos v'
   kept-same S K = record {
     supply = K .supply;
     place = K .place;
@@ -107,7 +112,7 @@ module _ {cap per : ℕ → ℕ} {g x : ℕ} {run every : ℕ → ℕ} {i w : �
       → ((k : ℕ) → k ≤ g → pos k ≡ 0)
       → ((j : ℕ) → j ≤ i → v .rest j ≡ 0)
       → ((j : ℕ) → j ≤ i → v .wait j ≡ 0)
-      → Kept cap per g x run every i w held pos v
+      → Kept cap per g x run every isBound i w held pos v
   kept-fresh held pos v full start free due = record {
     supply = supply;
     place = place;
@@ -124,18 +129,18 @@ module _ {cap per : ℕ → ℕ} {g x : ℕ} {run every : ℕ → ℕ} {i w : �
   -- An unfinished job is younger than the response.
   pub age-below :
       {held pos : ℕ → ℕ} {v : Tasks}
-      → Kept cap per g x run every i w held pos v
+      → Kept cap per g x run every isBound i w held pos v
       → 0 < v .rest i
-      → v .age i < responseOf (per g - cap g) w
+      → v .age i < responseOf (gapFor (isBound i) (per g - cap g)) w
   unfolding responseOf
   age-below K r =
       let W = K .window in
-      omega (arith, W .aged r, W .inside, W .gap)
+      omega (arith, W .aged r, W .inside, gap-for-grows (isBound i) (per g - cap g) (W .d) (W .e) (W .gap))
 
   -- The response being within the period, the task has nothing left when its wait is over.
   pub free-when-due :
       {held pos : ℕ → ℕ} {v : Tasks}
-      → Kept cap per g x run every i w held pos v
+      → Kept cap per g x run every isBound i w held pos v
       → v .wait i ≡ 0
       → v .rest i ≡ 0
   free-when-due {v = v} K due =

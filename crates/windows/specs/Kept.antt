@@ -2,6 +2,7 @@
 -- together.
 -- Inner: no promise of an entry names this.
 use mathlib.Core.Path.{_≡_}
+use mathlib.Core.Bool.{Bool}
 use Prim.Native.Nat.{ℕ, _≤_, _<_}
 use Rattle.equation.specs.System.{System, right, responseOf}
 use Rattle.windows.specs.Equation.{systemAt}
@@ -22,14 +23,15 @@ pub record TaskSolved (S : System) (i w : ℕ) : Type 0 where
   pub in-period : responseOf (S .gap i) w ≤ S .every i
 
 -- Guest g is fitted with response x, and w solves the equation of its task i in time.
-pub record Bounded (cap per : ℕ → ℕ) (g x : ℕ) (run every : ℕ → ℕ) (i w : ℕ) : Type 0 where
+pub record Bounded (cap per : ℕ → ℕ) (g x : ℕ) (run every : ℕ → ℕ) (isBound : ℕ → Bool) (i w : ℕ) : Type 0 where
   pub fitted : GuestFits cap per g x
   pub cap-per : cap g ≤ per g
-  pub solves : TaskSolved (systemAt cap per g run every) i w
+  pub solves : TaskSolved (systemAt cap per g run every isBound) i w
 
 -- The invariant of a state, seen from task i of guest g.
-pub record Kept (cap per : ℕ → ℕ) (g x : ℕ) (run every : ℕ → ℕ) (i w : ℕ) (held pos : ℕ → ℕ) (v : Tasks) : Type 0 where
+pub record Kept (cap per : ℕ → ℕ) (g x : ℕ) (run every : ℕ → ℕ) (isBound : ℕ → Bool) (i w : ℕ)
+    (held pos : ℕ → ℕ) (v : Tasks) : Type 0 where
   pub supply : Supply cap per g x held pos
   pub place : pos g < per g
-  pub window : Window (systemAt cap per g run every) i w (pos g) (held g) v
+  pub window : Window (systemAt cap per g run every isBound) isBound i w (pos g) (held g) v
   pub clock : Clock i every v

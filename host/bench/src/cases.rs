@@ -49,9 +49,12 @@ fn judging() -> Vec<Case> {
     vec![
         read("read-1-block", inputs::near_a_million()[..512].to_vec()),
         read("read-8-blocks", inputs::near_a_million()),
+        read("read-8-bound", inputs::bound_near_a_million()),
         write("write-block", inputs::near_a_million()),
+        write("write-bound", inputs::bound_near_a_million()),
         accept("accept-plan-a", inputs::plan_a(), true),
         accept("accept-near-a-million", inputs::near_a_million(), true),
+        accept("accept-bound", inputs::bound_near_a_million(), true),
         accept("accept-growing", inputs::growing(), true),
         accept("accept-last-unmet", inputs::last_unmet(), false),
         guest_verdict("guest-long-climb", inputs::long_climb(), 8, 89_600),
@@ -65,6 +68,12 @@ fn judging() -> Vec<Case> {
             4,
             Ok(500_047),
         ),
+        capacity(
+            "capacity-bound",
+            inputs::bound_half_a_million(),
+            4,
+            Ok(500_047),
+        ),
         capacity("capacity-none", inputs::no_capacity(), 4, Err(11)),
     ]
 }
@@ -72,9 +81,11 @@ fn judging() -> Vec<Case> {
 fn dispatching() -> Vec<Case> {
     vec![
         release("release-full", inputs::endless()),
+        release("release-bound", inputs::all_bound()),
         singles("release-256-single", inputs::twice()),
-        sheet("sheet-256", inputs::twice()),
-        sheet("sheet-16", inputs::last_guests()),
+        sheet("sheet-256", inputs::endless(), inputs::twice()),
+        sheet("sheet-256-bound", inputs::all_bound(), inputs::twice()),
+        sheet("sheet-16", inputs::endless(), inputs::last_guests()),
         tick("tick-plan-a", inputs::plan_a()),
         tick("tick-full", inputs::endless()),
         run("run-million-plan-a-idle", inputs::plan_a(), false),

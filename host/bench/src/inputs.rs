@@ -40,10 +40,17 @@ fn plan_a_with(capacity: u32) -> Vec<u8> {
 
 /// 8 guests of 16 tasks with periods near 1,000,000, all met: each recurrence has a few turns.
 pub fn near_a_million() -> Vec<u8> {
-    full(|guest, task| {
-        let every = 999_983 - 1_009 * task - 13 * guest;
-        [3_900, every, every]
-    })
+    full(task_near_a_million)
+}
+
+/// The same with every second task bound.
+pub fn bound_near_a_million() -> Vec<u8> {
+    bound(EVERY_SECOND, task_near_a_million)
+}
+
+fn task_near_a_million(guest: u32, task: u32) -> [u32; 3] {
+    let every = 999_983 - 1_009 * task - 13 * guest;
+    [3_900, every, every]
 }
 
 /// 8 guests of 16 tasks whose periods grow to 1,000,000, all met: each recurrence has many turns.
@@ -104,7 +111,17 @@ pub fn half_a_million() -> Vec<u8> {
     blocks(&guests)
 }
 
-/// The same, with tasks that no capacity is enough for.
+/// The same with every second task bound.
+pub fn bound_half_a_million() -> Vec<u8> {
+    let tasks = [[26_600, 1_000_000, 1_000_000]; 16];
+    let mut last = guest(4, 1, 1_000_000, &tasks);
+    last.marks = EVERY_SECOND;
+    let mut guests = short_guests();
+    guests.push(last);
+    blocks(&guests)
+}
+
+/// The same unbound, with tasks that no capacity is enough for.
 pub fn no_capacity() -> Vec<u8> {
     let mut guests = short_guests();
     guests.push(guest(
@@ -132,6 +149,11 @@ pub fn endless() -> Vec<u8> {
     blocks(&guests)
 }
 
+/// 8 guests of 16 tasks, all of them bound.
+pub fn all_bound() -> Vec<u8> {
+    bound(u16::MAX, |_, _| [1_000_000, 1_000_000, 1_000_000])
+}
+
 /// The pairs of all tasks of a full plan, and then the same again.
 pub fn twice() -> Vec<u64> {
     let once = (1..=8).flat_map(|id| (1..=16).map(move |task| pair(id, task)));
@@ -141,6 +163,22 @@ pub fn twice() -> Vec<u64> {
 /// The pairs of the last guest's tasks.
 pub fn last_guests() -> Vec<u64> {
     (1..=16).map(|task| pair(8, task)).collect()
+}
+
+/// The marks of every second task, the last one's included.
+const EVERY_SECOND: u16 = 0xAAAA;
+
+/// 8 guests with these marks: the period and deadline of a bound task are cut to a multiple of its guest's period.
+fn bound(marks: u16, task: impl Fn(u32, u32) -> [u32; 3]) -> Vec<u8> {
+    let mut guests: Vec<Guest> = guests(task).collect();
+    for guest in &mut guests {
+        guest.marks = marks;
+        for task in (0..16).filter(|task| marks >> task & 1 == 1) {
+            guest.every[task] -= guest.every[task] % guest.period;
+            guest.deadline[task] = guest.every[task];
+        }
+    }
+    blocks(&guests)
 }
 
 fn full(task: impl Fn(u32, u32) -> [u32; 3]) -> Vec<u8> {

@@ -1,7 +1,7 @@
 //! Damaged plan blocks.
 
 use crate::random::Random;
-use reference::plan::{BLOCK, LONGEST_PLAN, Plan, blocks_of, seal};
+use reference::plan::{BLOCK, LONGEST_PLAN, MOST_TASKS, Plan, blocks_of, seal};
 
 /// A plan's blocks with some damage.
 pub fn damaged(random: &mut Random, plan: &Plan) -> Vec<u8> {
@@ -27,7 +27,7 @@ fn damage(random: &mut Random, bytes: &mut [u8]) {
     let at = random.below(bytes.len());
     let start = at / BLOCK * BLOCK;
     let any = random.next() as u8;
-    match random.below(6) {
+    match random.below(7) {
         0 => bytes[at] ^= 1 << random.below(8),
         1 => bytes[at] = random.pick(&[0, 1, 255, any]),
         2 => put(
@@ -39,7 +39,7 @@ fn damage(random: &mut Random, bytes: &mut [u8]) {
             let short = random.edge() as u16;
             put(
                 bytes,
-                start + random.pick(&[0, 2, 16, 18]),
+                start + random.pick(&[0, 2, 16, 18, 20]),
                 &short.to_le_bytes(),
             );
         }
@@ -48,10 +48,29 @@ fn damage(random: &mut Random, bytes: &mut [u8]) {
             start + random.pick(&[4, 8, 12]),
             &random.edge().to_le_bytes(),
         ),
-        _ => bytes.copy_within(
+        5 => bytes.copy_within(
             start..start + BLOCK,
             random.below(bytes.len() / BLOCK) * BLOCK,
         ),
+        _ => damage_marks(random, &mut bytes[start..start + BLOCK]),
+    }
+}
+
+/// Another kind, or other marks, or both, or something behind the marks.
+fn damage_marks(random: &mut Random, block: &mut [u8]) {
+    let tasks = usize::from(block[16]).clamp(1, MOST_TASKS);
+    let kind = random.pick(&[0, 1, 2, 2, 3, 256, 258]);
+    let any = random.next() as u16;
+    let first_past = (1_u32 << tasks) as u16;
+    let marks: u16 = random.pick(&[0, 1, 1 << (tasks - 1), first_past, 0x8000, any]);
+    let what = random.below(4);
+    if what != 0 {
+        put(block, 0, &u16::to_le_bytes(kind));
+    }
+    match what {
+        0 | 1 => put(block, 20, &marks.to_le_bytes()),
+        2 => (),
+        _ => block[20 + random.below(12)] = random.pick(&[1, 128, 255]),
     }
 }
 
@@ -80,7 +99,8 @@ pub fn noise(random: &mut Random) -> Vec<u8> {
     let mut bytes: Vec<u8> = (0..length).map(|_| random.next() as u8).collect();
     if random.once_in(2) {
         for (place, block) in bytes.chunks_exact_mut(BLOCK).enumerate() {
-            block[..4].copy_from_slice(&[1, 0, place as u8, 0]);
+            let kind = random.pick(&[1, 2]);
+            block[..4].copy_from_slice(&[kind, 0, place as u8, 0]);
             seal(block);
         }
     }

@@ -12,7 +12,7 @@ pub fn compare(session: &mut Session) {
         every_verdict(session, &plan);
     }
     lengths(session);
-    flipped_bits(session);
+    flipped_bits(session, &plan_a());
     writes(session);
     plans_of_one_guest(session);
     plans_of_two_guests(session);
@@ -34,9 +34,9 @@ fn lengths(session: &mut Session) {
     }
 }
 
-/// Plan A's blocks with every bit flipped, the check as it was and made anew.
-fn flipped_bits(session: &mut Session) {
-    let bytes = blocks_of(&plan_a());
+/// A plan's blocks with every bit flipped, the check as it was and made anew.
+pub fn flipped_bits(session: &mut Session, plan: &Plan) {
+    let bytes = blocks_of(plan);
     for bit in 0..8 * bytes.len() {
         let mut flipped = bytes.clone();
         flipped[bit / 8] ^= 1 << (bit % 8);
@@ -70,14 +70,14 @@ fn writes(session: &mut Session) {
 }
 
 /// Each capacity and period up to a longest period.
-fn servers(longest: u32) -> Vec<[u32; 2]> {
+pub fn servers(longest: u32) -> Vec<[u32; 2]> {
     (1..=longest)
         .flat_map(|period| (1..=period).map(move |capacity| [capacity, period]))
         .collect()
 }
 
 /// Each task up to a longest run and period, with every deadline.
-fn tasks(run: u32, every: u32) -> Vec<[u32; 3]> {
+pub fn tasks(run: u32, every: u32) -> Vec<[u32; 3]> {
     let times = servers(every);
     (1..=run)
         .flat_map(|run| {
@@ -211,7 +211,8 @@ fn states_of_two_guests(session: &mut Session) {
     }
 }
 
-fn every_call(session: &mut Session, state: &Dispatcher) {
+/// Every call of the dispatcher on a state, of guests and tasks that are there or not.
+pub fn every_call(session: &mut Session, state: &Dispatcher) {
     session.compare(Call::Tick(Box::new(*state)));
     for ticks in [0, 1, 2, 5, 1_000_001] {
         session.compare(Call::Run(Box::new(*state), ticks));

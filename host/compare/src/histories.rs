@@ -2,6 +2,7 @@
 
 use crate::call::Call;
 use crate::plans::{self, FULL, SMALL, TINY, some_id, some_task};
+use crate::random::Random;
 use crate::random_calls::any_calls;
 use crate::session::Session;
 use crate::sheets;
@@ -46,9 +47,22 @@ fn step(session: &mut Session, state: &Dispatcher) -> Call {
         }
         6 => sheets::sheet(random, &state),
         _ => {
-            let id = some_id(random, &state.plan);
+            let id = id_to_release(random, &state);
             let task = some_task(random, &state.plan, id);
             Call::Release(state, id, task)
         }
+    }
+}
+
+/// A guest to release a task of: every other time one at position 0, where bound tasks are taken.
+fn id_to_release(random: &mut Random, state: &Dispatcher) -> u32 {
+    let listed = state.plan.listed().iter().zip(&state.position);
+    let at_start: Vec<u32> = listed
+        .filter(|(_, position)| **position == 0)
+        .map(|(guest, _)| guest.id)
+        .collect();
+    match at_start.is_empty() || random.once_in(2) {
+        true => some_id(random, &state.plan),
+        false => random.pick(&at_start),
     }
 }

@@ -3,10 +3,12 @@
 
 pub mod amendments;
 mod blocks;
+pub mod bound;
 mod call;
 mod exhaustive;
 mod histories;
 pub mod independence;
+mod marks;
 mod pairs;
 mod plans;
 pub mod planview;
@@ -28,6 +30,7 @@ use std::time::{Duration, Instant};
 pub fn everything(session: &mut Session, budget: Duration) {
     let end = Instant::now() + budget;
     exhaustive::compare(session);
+    bound::compare(session);
     pairs::compare(session);
     amendments::compare(session);
     while Instant::now() < end {

@@ -4,7 +4,7 @@ use crate::call::Call;
 use crate::session::Session;
 use reference::dispatcher::{Dispatcher, pair, place_of};
 use reference::plan::{BLOCK, Guest, Plan, blocks_of, seal};
-use reference::samples::plan_a;
+use reference::samples::{plan_a, plan_a_bound};
 
 pub fn compare(session: &mut Session) {
     blocks(session);
@@ -19,15 +19,19 @@ pub fn pairs<T: Copy>(of: &[T]) -> impl Iterator<Item = (T, T)> {
         .flat_map(|first| of.iter().map(|second| (*first, *second)))
 }
 
-/// Words of plan A's block at a place, each wrong in a way of its own: the offset and the word.
-pub fn wrong_words(place: u32) -> Vec<(usize, u32)> {
-    let own = 1 + (place << 16);
-    let guest = plan_a().guests[place as usize];
+/// Words of the block at a place of a plan of two guests, most of them wrong in a way of its own: the offset and the
+/// word. One of the kinds is the block's own, and it depends on the other word of a pair whether kind 2 is right.
+pub fn wrong_words(plan: &Plan, place: u32) -> Vec<(usize, u32)> {
+    let own = place << 16;
+    let guest = plan.guests[place as usize];
     let past = 32 + 12 * guest.tasks as usize;
-    let other = plan_a().guests[1 - place as usize].id;
+    let other = plan.guests[1 - place as usize].id;
     let words = [
+        (0, own),
         (0, own + 1),
-        (0, own + 0x0001_0000),
+        (0, own + 2),
+        (0, own + 3),
+        (0, own + 0x0001_0001),
         (4, 0),
         (4, other),
         (8, 0),
@@ -36,7 +40,11 @@ pub fn wrong_words(place: u32) -> Vec<(usize, u32)> {
         (12, 1_000_001),
         (16, 0),
         (16, 17),
+        (20, 0),
         (20, 1),
+        (20, 1 << guest.tasks),
+        (20, 0x0001_0000),
+        (20, 0x0001_0001),
         (28, 0x0100_0000),
         (past, 1),
         (220, 0x0100_0000),
@@ -45,6 +53,7 @@ pub fn wrong_words(place: u32) -> Vec<(usize, u32)> {
         (32, 0),
         (32, 1_000_001),
         (36, 0),
+        (36, guest.every[0] + 1),
         (36, 1_000_001),
         (40, 0),
         (40, guest.every[0] + 1),
@@ -54,9 +63,10 @@ pub fn wrong_words(place: u32) -> Vec<(usize, u32)> {
 }
 
 fn blocks(session: &mut Session) {
-    let words = [wrong_words(0), wrong_words(1)].concat();
+    let plan = plan_a_bound(1);
+    let words = [wrong_words(&plan, 0), wrong_words(&plan, 1)].concat();
     for (first, second) in pairs(&words) {
-        let mut bytes = blocks_of(&plan_a());
+        let mut bytes = blocks_of(&plan);
         for (at, word) in [first, second] {
             bytes[at..at + 4].copy_from_slice(&word.to_le_bytes());
         }
@@ -74,7 +84,7 @@ fn blocks(session: &mut Session) {
 }
 
 /// What can be wrong in a record.
-const WRONG_RECORDS: [fn(&mut Guest); 15] = [
+const WRONG_RECORDS: [fn(&mut Guest); 19] = [
     |_| (),
     |guest| guest.id = 0,
     |guest| guest.id = 7,
@@ -88,6 +98,10 @@ const WRONG_RECORDS: [fn(&mut Guest); 15] = [
     |guest| guest.run[0] = 0,
     |guest| guest.run[0] = 1_000_001,
     |guest| guest.every[0] = 1_000_001,
+    |guest| guest.every[0] += 1,
+    |guest| guest.marks = 1,
+    |guest| guest.marks = 2,
+    |guest| guest.marks = 0xFFFC,
     |guest| guest.deadline[0] = 0,
     |guest| guest.deadline[0] = guest.every[0] + 1,
 ];
@@ -136,7 +150,7 @@ fn writes(session: &mut Session) {
 }
 
 /// What can be wrong in a state of plan A, and what is just not.
-const STATES: [fn(&mut Dispatcher); 16] = [
+const STATES: [fn(&mut Dispatcher); 21] = [
     |_| (),
     |state| state.plan.count = 0,
     |state| state.plan.guests[1].run[0] = 0,
@@ -153,7 +167,19 @@ const STATES: [fn(&mut Dispatcher); 16] = [
     |state| state.wait[127] = 1,
     |state| state.age[place_of(1, 0)] = 1_000_001,
     |state| state.age[place_of(2, 0)] = 1,
+    |state| state.plan.guests[1].marks = 1,
+    |state| state.plan.guests[1].marks = 0xFFFE,
+    |state| state.position[1] = 7,
+    |state| state.wait[place_of(1, 1)] = 5,
+    |state| bound_off_its_start(state),
 ];
+
+/// Task 2 of guest 9 is bound, has a job, and its guest is within a period.
+fn bound_off_its_start(state: &mut Dispatcher) {
+    state.plan.guests[1].marks = 2;
+    state.position[1] = 7;
+    state.rest[place_of(1, 1)] = 5;
+}
 
 fn states(session: &mut Session) {
     for (first, second) in pairs(&STATES) {

@@ -1,5 +1,6 @@
 //! Random plans: well formed ones of several sizes, and hostile ones.
 
+use crate::marks;
 use crate::random::Random;
 use reference::plan::{Guest, MOST_GUESTS, MOST_TASKS, Plan};
 
@@ -83,6 +84,7 @@ fn squeeze(random: &mut Random, plan: &mut Plan) {
     let guest = &mut plan.guests[at];
     guest.capacity = 1;
     guest.period = random.from(1, guest.period.min(above));
+    marks::keep_multiples(guest);
 }
 
 fn fresh_id(random: &mut Random, earlier: &[Guest]) -> u32 {
@@ -112,10 +114,14 @@ pub fn guest(random: &mut Random, size: Size, id: u32, share: u32) -> Guest {
         period,
         tasks,
         charge: charge(random),
+        marks: marks::some(random, tasks),
         ..Guest::default()
     };
     for at in 0..tasks as usize {
-        let every = random.from(period.min(size.every) / 2 + 1, size.every);
+        let every = match guest.is_bound(at) {
+            true => marks::multiple(random, period, size.every),
+            false => random.from(period.min(size.every) / 2 + 1, size.every),
+        };
         guest.every[at] = every;
         guest.run[at] = match random.below(12) {
             0 => random.from(1, every),
@@ -157,6 +163,7 @@ fn fill_past_the_counts(random: &mut Random, plan: &mut Plan) {
             *guest = any_guest(random);
             first = MOST_TASKS;
         }
+        guest.marks |= marks::past(random, first);
         for column in [&mut guest.run, &mut guest.every, &mut guest.deadline] {
             column[first..]
                 .iter_mut()
@@ -172,6 +179,7 @@ fn any_guest(random: &mut Random) -> Guest {
         period: random.edge(),
         tasks: random.edge(),
         charge: random.next() as u16,
+        marks: random.next() as u16,
         run: std::array::from_fn(|_| random.edge()),
         every: std::array::from_fn(|_| random.edge()),
         deadline: std::array::from_fn(|_| random.edge()),
@@ -200,7 +208,7 @@ fn damage(random: &mut Random, plan: &mut Plan) {
     let guest = &mut plan.guests[random.below(count)];
     let task = random.below(guest.tasks.clamp(1, MOST_TASKS as u32) as usize);
     let value = random.edge();
-    match random.below(10) {
+    match random.below(12) {
         0 => plan.count = value,
         1 => guest.id = random.pick(&[0, other.id, value]),
         2 => guest.capacity = random.pick(&[0, guest.period, guest.period.wrapping_add(1), value]),
@@ -210,6 +218,8 @@ fn damage(random: &mut Random, plan: &mut Plan) {
         6 => guest.every[task] = random.pick(&[guest.deadline[task].wrapping_sub(1), value]),
         7 => guest.deadline[task] = random.pick(&[guest.every[task].wrapping_add(1), value]),
         8 => guest.run[task] = 0,
+        9 => guest.marks = random.next() as u16,
+        10 => marks::no_multiple(guest, task),
         _ => guest.charge = value as u16,
     }
 }

@@ -4,7 +4,7 @@ use crate::blocks;
 use crate::plans::{self, SMALL, TINY};
 use crate::session::Session;
 use reference::plan::{BLOCK, blocks_of};
-use reference::samples::plan_a;
+use reference::samples::{plan_a, plan_a_bound};
 use reference::show::text;
 use std::io::{self, Write};
 use std::process::{Command, Stdio};
@@ -19,6 +19,7 @@ pub fn compare(session: &mut Session, program: &str) -> io::Result<()> {
         vec![0; 9_000],
     ];
     inputs.push(blocks_of(&plan_a()));
+    inputs.extend((0..4).map(|marks| blocks_of(&plan_a_bound(marks))));
     for _ in 0..200 {
         let size = session.random.pick(&[TINY, SMALL]);
         let plan = plans::plan(&mut session.random, size);

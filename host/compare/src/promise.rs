@@ -1,6 +1,6 @@
 //! The promise to a tenant, from outside: in every history a quoted task finishes by its response,
-//! and no release of it that is due is refused, whether it comes alone or in a sheet. The numbers beside
-//! the state are held to the history too.
+//! and no release of it that is due is refused, whether it comes alone or in a sheet; that of a bound task
+//! is due at the start of its guest's period only. The numbers beside the state are held to the history too.
 
 mod play;
 mod script;
@@ -56,6 +56,8 @@ fn note(session: &mut Session, seen: &Seen) {
     session.note("promise: histories", true);
     session.note_many("promise: quoted jobs", seen.finished);
     session.count("promise: of them took R", seen.at_the_response);
+    session.count("promise: of them bound", seen.bound);
+    session.count("promise: bound and took R", seen.bound_at_the_response);
     session.count("promise: sheets", seen.sheets);
     session.count("promise: refused whole", seen.refused_whole);
 }

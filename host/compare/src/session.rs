@@ -7,10 +7,10 @@ use crate::shrink::shrink;
 use crate::side::{REFERENCE, Side};
 
 /// The numbers of document 01's refusals and document 02's as far as it has landed, and 0 for none.
-const NUMBERS: usize = 17;
+const NUMBERS: usize = 18;
 
 /// The numbers that a pair of a sheet is answered by.
-const ANSWERS: [usize; 5] = [0, 7, 8, 9, 10];
+const ANSWERS: [usize; 6] = [0, 7, 8, 9, 10, 17];
 
 /// The numbers that the companion answer gives of the plan, and of the sheet, of a plan with amendments.
 const LOCATED: [(&str, [usize; 8]); 2] = [

@@ -188,7 +188,17 @@ fn smaller_guests(guest: &Guest) -> Vec<Guest> {
                 ..*guest
             }),
     );
+    all.extend(with_a_mark_less(guest));
     all
+}
+
+/// The guest with one of its marks taken away.
+fn with_a_mark_less(guest: &Guest) -> impl Iterator<Item = Guest> {
+    let set = (0..MOST_TASKS).filter(|task| guest.is_bound(*task));
+    set.map(|task| Guest {
+        marks: guest.marks & !(1 << task),
+        ..*guest
+    })
 }
 
 fn guest_numbers(guest: &mut Guest) -> Vec<&mut u32> {
@@ -207,6 +217,8 @@ fn guest_numbers(guest: &mut Guest) -> Vec<&mut u32> {
 fn without_task(guest: &Guest, gone: usize) -> Guest {
     let mut fewer = *guest;
     fewer.tasks -= 1;
+    let above = (1 << gone) - 1;
+    fewer.marks = (guest.marks & above) | (guest.marks >> 1 & !above);
     for column in [&mut fewer.run, &mut fewer.every, &mut fewer.deadline] {
         column.copy_within(gone + 1.., gone);
         column[MOST_TASKS - 1] = 0;

@@ -1,5 +1,6 @@
 //! Random states of the dispatcher: in range, and hostile.
 
+use crate::marks;
 use crate::random::Random;
 use reference::dispatcher::{COUNTED, Dispatcher, PLACES, place_of};
 use reference::plan::{MOST_GUESTS, Plan};
@@ -74,7 +75,7 @@ fn damage(random: &mut Random, state: &mut Dispatcher) {
     let charged = guest.run[task].wrapping_add(2 * u32::from(guest.charge));
     let value = random.edge();
     let over = |most: u32, random: &mut Random| random.pick(&[most.wrapping_add(1), most, value]);
-    match random.below(9) {
+    match random.below(11) {
         0 => state.left[at] = over(guest.capacity, random),
         1 => state.position[at] = over(guest.period.wrapping_sub(1), random),
         2 => state.rest[place] = over(charged, random),
@@ -83,6 +84,8 @@ fn damage(random: &mut Random, state: &mut Dispatcher) {
         5 => state.plan.count = value,
         6 => state.plan.guests[at].id = random.pick(&[0, state.plan.guests[0].id, value]),
         7 => state.usage = counts(random),
+        8 => state.plan.guests[at].marks = random.next() as u16,
+        9 => marks::no_multiple(&mut state.plan.guests[at], task),
         _ => state.plan.guests[at].period = value,
     }
 }

@@ -1,10 +1,12 @@
 //! The comparison itself is tried: each wrong implementation that document 01 names must be found, two of
-//! its errors that look reasonable, and some of P1's, P2's, P5's, P6's and P7's.
+//! its errors that look reasonable, and some of P1's, P2's and P5's to P8's.
 
 #[path = "planted/amendments.rs"]
 mod amendments;
 #[path = "planted/independence.rs"]
 mod independence;
+#[path = "planted/marks.rs"]
+mod marks;
 #[path = "planted/sheets.rs"]
 mod sheets;
 

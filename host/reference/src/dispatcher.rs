@@ -123,7 +123,7 @@ pub fn fresh(plan: &Plan) -> Start {
     }
 }
 
-/// Release: 14, 7, 8, 9, 10.
+/// Release: 14, 7, 8, 17, 9, 10.
 pub fn release(state: &Dispatcher, id: u32, task: u32) -> Released {
     let result = released(state, id, task);
     Released {
@@ -180,6 +180,9 @@ fn released(state: &Dispatcher, id: u32, task: u32) -> Result<Dispatcher, Refusa
     let own = &state.plan.guests[guest];
     let task = task_place(own, task)?;
     let place = place_of(guest, task);
+    if own.is_bound(task) && state.position[guest] != 0 {
+        return Err(Refusal::new(17, 0));
+    }
     if state.wait[place] > 0 {
         return Err(Refusal::new(9, 0));
     }

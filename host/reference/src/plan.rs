@@ -17,7 +17,7 @@ pub const MOST_TASKS: usize = 16;
 /// The longest period and the longest run, in ticks.
 pub const LONGEST: u32 = 1_000_000;
 
-/// One guest's record. The task's period column is called `every`.
+/// One guest's record. The task's period column is called `every`; the marks have bit 0 for task 1 and so on.
 #[derive(Clone, Copy, Debug, Default, PartialEq, Eq)]
 pub struct Guest {
     pub id: u32,
@@ -25,6 +25,7 @@ pub struct Guest {
     pub period: u32,
     pub tasks: u32,
     pub charge: u16,
+    pub marks: u16,
     pub run: [u32; MOST_TASKS],
     pub every: [u32; MOST_TASKS],
     pub deadline: [u32; MOST_TASKS],
@@ -62,7 +63,7 @@ impl Refusal {
 }
 
 impl Guest {
-    /// A record from its tasks' run, period and deadline, with charge 0.
+    /// A record from its tasks' run, period and deadline, with charge 0 and no task bound.
     pub fn new(id: u32, capacity: u32, period: u32, tasks: &[[u32; 3]]) -> Guest {
         let mut guest = Guest {
             id,
@@ -77,6 +78,17 @@ impl Guest {
             guest.deadline[at] = *deadline;
         }
         guest
+    }
+
+    /// Whether the task at this place is bound: bit 0 of the marks for task 1 and so on.
+    pub fn is_bound(&self, task: usize) -> bool {
+        self.marks >> task & 1 == 1
+    }
+
+    /// The marks of the tasks that the guest has: those past the tasks are not looked at in a record.
+    pub fn marks_of_tasks(&self) -> u16 {
+        let bound = self.places().filter(|task| self.is_bound(*task));
+        bound.map(|task| 1 << task).sum()
     }
 
     /// The charge is added twice to every task's run, the lowest's too: the switch in and the switch out.
@@ -159,9 +171,15 @@ fn head_in_range(guest: &Guest) -> bool {
         && (1..=MOST_TASKS as u32).contains(&guest.tasks)
 }
 
-/// Whether each task's run, period and deadline are in their ranges.
+/// Whether each task's run, period and deadline are in their ranges, and a bound task's period is a multiple of its
+/// guest's, which is in its own range.
 fn tasks_in_range(guest: &Guest) -> bool {
-    guest.places().all(|task| task_in_range(guest, task))
+    let mut tasks = guest.places();
+    tasks.all(|task| task_in_range(guest, task) && may_start(guest, task))
+}
+
+fn may_start(guest: &Guest, task: usize) -> bool {
+    !guest.is_bound(task) || guest.every[task].is_multiple_of(guest.period)
 }
 
 fn task_in_range(guest: &Guest, task: usize) -> bool {

@@ -1,4 +1,5 @@
-//! Plans that document 01 works out by hand, one with a fitted guest below an unfit one, and one that is full.
+//! Plans that document 01 works out by hand, plan A with bound tasks, a plan with a fitted guest below an unfit one,
+//! and one that is full.
 
 use crate::plan::{Guest, Plan};
 
@@ -8,6 +9,16 @@ pub fn plan_a() -> Plan {
         Guest::new(7, 2, 5, &[[1, 20, 20]]),
         Guest::new(9, 8, 20, &[[10, 50, 50], [8, 100, 100]]),
     ])
+}
+
+/// Plan A with guest 9's first task 10/60/60, and these marks for guest 9.
+pub fn plan_a_bound(marks: u16) -> Plan {
+    let mut plan = plan_a();
+    plan.guests[1] = Guest {
+        marks,
+        ..Guest::new(9, 8, 20, &[[10, 60, 60], [8, 100, 100]])
+    };
+    plan
 }
 
 /// Guest 8/9 above guest 1/11, where the right side of the second task's equation falls.

@@ -139,7 +139,7 @@ pub fn guest_response(plan: &Plan, guest: usize) -> Option<u32> {
 pub fn task_response(plan: &Plan, guest: usize, task: usize) -> Option<u32> {
     let above = &plan.guests[..guest];
     let own = &plan.guests[guest];
-    let jitter = own.period - own.capacity;
+    let jitter = jitter(own, task);
     (1..)
         .take_while(|w| w + jitter <= own.every[task])
         .find(|w| u128::from(*w) == right_side(above, own, task, u128::from(*w)))
@@ -156,14 +156,20 @@ fn right_side(above: &[Guest], own: &Guest, task: usize, w: u128) -> u128 {
     load + (n - 1) * (period - capacity) + taken_above(above, last)
 }
 
-/// The task's charged run plus, for each task above it in the guest, ((w + J) / its period, rounded
-/// up) times its charged run.
+/// J of a task: 0 where it is bound, else T - C of its guest.
+fn jitter(own: &Guest, task: usize) -> u32 {
+    match own.is_bound(task) {
+        true => 0,
+        false => own.period - own.capacity,
+    }
+}
+
+/// The task's charged run plus, for each task above it in the guest, ((w + that task's J) / its period,
+/// rounded up) times its charged run.
 fn load(own: &Guest, task: usize, w: u128) -> u128 {
-    let jitter = u128::from(own.period - own.capacity);
     let charged = |task: usize| u128::from(own.charged_run(task));
-    let tasks_above: u128 = (0..task)
-        .map(|at| rounded_up(w + jitter, own.every[at].into()) * charged(at))
-        .sum();
+    let released = |at: usize| rounded_up(w + u128::from(jitter(own, at)), own.every[at].into());
+    let tasks_above: u128 = (0..task).map(|at| released(at) * charged(at)).sum();
     charged(task) + tasks_above
 }
 

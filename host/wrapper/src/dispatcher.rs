@@ -80,13 +80,15 @@ impl Dispatcher {
     /// Releases a job of a task; a refused release changes nothing.
     ///
     /// ```
-    /// use coreshare::{Dispatcher, Guest, Plan};
+    /// use coreshare::{Dispatcher, Guest, Plan, mark};
     ///
-    /// let plan = Plan::new(&[Guest::new(7, 2, 5, &[[1, 20, 20]])]);
-    /// let mut dispatcher = Dispatcher::fresh(&plan)?;
+    /// let guest = Guest { marks: mark(2), ..Guest::new(7, 2, 5, &[[1, 20, 20], [1, 20, 20]]) };
+    /// let mut dispatcher = Dispatcher::fresh(&Plan::new(&[guest]))?;
     /// dispatcher.release(7, 1)?;
     /// assert_eq!(dispatcher.release(7, 1).unwrap_err().number, 9);
-    /// assert_eq!(dispatcher.release(7, 2).unwrap_err().number, 8);
+    /// assert_eq!(dispatcher.release(7, 3).unwrap_err().number, 8);
+    /// dispatcher.tick()?;
+    /// assert_eq!(dispatcher.release(7, 2).unwrap_err().number, 17);
     /// # Ok::<(), coreshare::Refusal>(())
     /// ```
     pub fn release(&mut self, id: u32, task: u32) -> Result<(), Refusal> {

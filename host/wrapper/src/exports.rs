@@ -108,12 +108,12 @@ pub fn fresh(plan: &Plan) -> Start {
     library::cs_fresh(*plan)
 }
 
-/// Releases a task. Refusals: 14, 7, 8, 9, 10.
+/// Releases a task. Refusals: 14, 7, 8, 17, 9, 10.
 pub fn release(dispatcher: &Dispatcher, id: u32, task: u32) -> Released {
     library::cs_release(*dispatcher, id, task)
 }
 
-/// Releases each pair in order and answers it: 0 for taken, or 7, 8, 9, 10.
+/// Releases each pair in order and answers it: 0 for taken, or 7, 8, 17, 9, 10.
 /// Refusals of the whole sheet: 14, 15, 12.
 pub fn sheet(dispatcher: &Dispatcher, pairs: &[u64], answers: &mut [u32]) -> Released {
     library::sheet(*dispatcher, pairs, answers)

@@ -3,7 +3,7 @@
 //! On one core, up to 8 guests share the time, each with up to 16 tasks. The library reads and
 //! writes plan blocks, judges guests and tasks, searches the smallest capacity, does the same for a
 //! standing plan with amendments, and dispatches.
-//! Every rule stands in document 01, as the requests P1 to P6 of document 02 change it; a refusal carries
+//! Every rule stands in document 01, as the requests P1 to P8 of document 02 change it; a refusal carries
 //! document 01's number and place.
 //!
 //! The root of this crate has the calls as Rust has them, with `Result` and enums. [`exports`] has
@@ -34,7 +34,7 @@ pub use amended::{
     amended_smallest_capacity, amended_task_verdict,
 };
 pub use dispatcher::{Progress, Tick, pair};
-pub use plan::{BLOCK, GuestVerdict, TaskVerdict, find};
+pub use plan::{BLOCK, GuestVerdict, TaskVerdict, find, mark};
 pub use records::{
     Answer, Dispatcher, Guest, Located, Plan, Read, Refusal, Released, Run, Start, Ticked, Verdict,
 };

@@ -44,8 +44,27 @@ pub fn find(bytes: &[u8], id: u32) -> Result<&[u8], Refusal> {
     Ok(&bytes[start..start + BLOCK])
 }
 
+/// The mark of a task, by its number from 1 to 16; any other number has none.
+///
+/// ```
+/// use coreshare::{Guest, Plan, TaskVerdict, mark};
+///
+/// let tasks = [[10, 60, 60], [8, 100, 100]];
+/// let guest = Guest { marks: mark(1), ..Guest::new(9, 8, 20, &tasks) };
+/// let plan = Plan::new(&[Guest::new(7, 2, 5, &[[1, 20, 20]]), guest]);
+/// assert_eq!(plan.task_verdict(9, 1), Ok(TaskVerdict::Met(24)));
+/// assert_eq!(plan.task_verdict(9, 2), Ok(TaskVerdict::Met(56)));
+/// assert_eq!([mark(0), mark(16), mark(17)], [0, 0x8000, 0]);
+/// ```
+pub const fn mark(task: u32) -> u16 {
+    match task {
+        1..=16 => 1 << (task - 1),
+        _ => 0,
+    }
+}
+
 impl Guest {
-    /// A record from its tasks' run, period and deadline, with charge 0.
+    /// A record from its tasks' run, period and deadline, with charge 0 and no task bound.
     ///
     /// # Panics
     /// If there are more than 16 tasks.

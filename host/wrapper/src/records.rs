@@ -2,10 +2,11 @@
 
 use core::fmt;
 
-/// One guest's record. Entries past `tasks` are not looked at.
+/// One guest's record. Entries and marks past `tasks` are not looked at.
 ///
-/// There are two bytes of padding after `charge`, which the library neither reads nor writes:
-/// compare records by their fields and never by their bytes.
+/// A task with a [`mark`](crate::mark) is bound to its guest's period: its own period is a multiple of the guest's,
+/// its release is taken only while the guest's position is 0, and its response has no gap of period less capacity
+/// in it.
 #[repr(C)]
 #[derive(Clone, Copy, Debug, Default, PartialEq, Eq)]
 pub struct Guest {
@@ -19,9 +20,11 @@ pub struct Guest {
     pub tasks: u32,
     /// Added twice to every task's run: the switch in and the switch out.
     pub charge: u16,
+    /// Which tasks are bound, bit 0 for task 1 and so on; 0 for none.
+    pub marks: u16,
     /// Each task's run, 1 to 1,000,000.
     pub run: [u32; 16],
-    /// Each task's period, 1 to 1,000,000.
+    /// Each task's period, 1 to 1,000,000; of a bound task a multiple of the guest's.
     pub every: [u32; 16],
     /// Each task's deadline, 1 to its period.
     pub deadline: [u32; 16],
@@ -77,7 +80,8 @@ pub struct Located {
 ///
 /// Beside it stands where the ticks went, which no refusal looks at; [`Dispatcher::ticks`],
 /// [`Dispatcher::idled`] and [`Dispatcher::nobodys`] read it. There are four bytes of padding before
-/// `usage`, of which the same is true as of a record's.
+/// `usage`, which the library neither reads nor writes: compare states by their fields and never by
+/// their bytes.
 #[repr(C)]
 #[derive(Clone, Copy, Debug, PartialEq, Eq)]
 pub struct Dispatcher {
@@ -159,10 +163,10 @@ impl Refusal {
             0 => "not refused",
             1 => "the length of the plan or sheet, or the guest count, is out of range",
             2 => "the block's words don't sum to zero",
-            3 => "the kind is not 1, or the place is not the block's own",
+            3 => "the kind is neither 1 nor 2 with marks, or the place is not the block's own",
             4 => "id, capacity, period or number of tasks is out of range",
-            5 => "a byte that must be zero is not",
-            6 => "a task's run, period or deadline is out of range",
+            5 => "a byte that must be zero, or a mark past the tasks, is not",
+            6 => "a task's run, period (if bound, a multiple) or deadline is out of range",
             7 => "no such guest in the plan",
             8 => "no such task in the guest",
             9 => "release before the task's period has passed",
@@ -173,6 +177,7 @@ impl Refusal {
             14 => "a state outside its ranges",
             15 => "a sheet of more than 256 pairs",
             16 => "an amendment whose id is not in the plan, or whose place is not its guest's",
+            17 => "release of a bound task while its guest's position is not 0",
             _ => "no number of document 01 or 02",
         }
     }

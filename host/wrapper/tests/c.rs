@@ -7,7 +7,7 @@ use std::process::Command;
 
 use coreshare::{
     Answer, Dispatcher, Guest, Located, Plan, Read, Refusal, Released, Run, Start, Ticked, Verdict,
-    pair,
+    mark, pair,
 };
 
 /// Compiles a C file of the folder `c` beside this crate, runs it and gives what it wrote.
@@ -53,7 +53,7 @@ macro_rules! lines {
 
 fn layout() -> String {
     let mut to = String::new();
-    lines!(to, "CsGuest", Guest, id capacity period tasks charge run every deadline);
+    lines!(to, "CsGuest", Guest, id capacity period tasks charge marks run every deadline);
     lines!(to, "CsPlan", Plan, count guests);
     lines!(to, "CsRefusal", Refusal, number place);
     lines!(to, "CsRead", Read, refusal plan);
@@ -65,6 +65,9 @@ fn layout() -> String {
     lines!(to, "CsAnswer", Answer, kind guest task age margin);
     lines!(to, "CsTicked", Ticked, dispatcher refusal answer);
     lines!(to, "CsRun", Run, refusal done answer dispatcher);
+    for mark in [mark(1), mark(16)] {
+        writeln!(to, "mark {mark}").unwrap();
+    }
     for pair in [pair(9, 2), pair(u32::MAX, u16::MAX)] {
         writeln!(to, "pair {pair}").unwrap();
     }
@@ -103,6 +106,8 @@ guest 8 is refused as 7 by the plan
 guest 9 stands at byte 0 of the sheet
 with capacity 7 guest 9 is fitted 13 and its tasks are met 38 and 86
 so the plan is accepted, and needs 7
+task 1 has 36, and bound 24
+bound, it is answered 0 at position 0 and 17 at position 1
 after 24 ticks guest 9 finished task 1: age 24, margin 26
 guest 7 had 10 ticks and idled 10 of them away
 guest 9 had 10 ticks and idled 0 of them away

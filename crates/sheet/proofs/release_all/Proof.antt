@@ -12,6 +12,15 @@ start e =
     let found = e .before .before .before in
     found .before .before .before .before .before .before .before .before .before .before .before .before
 
+-- From past the arrays that are lent to past the columns that are gathered, and to past the whole refusals.
+abbrev gathered : tie.After-age3 → tie.After-jobs-of
+gathered c =
+    let lent = c .before .before .before .before .before .before .before .before .before in
+    lent .before .before .before
+
+abbrev past1 : tie.After-jobs-of → tie.Else1
+past1 c = c .before .before .before .before .before .before
+
 examine-requires : tie.Need-examine-requires
 examine-requires c κs = search needs
 
@@ -27,19 +36,19 @@ cast-n c = search needs
 
 jobs-of-requires : tie.Need-jobs-of-requires
 jobs-of-requires c κs =
-    let e = c .before .before .before .before in
+    let e = c .before .before .before .before .before in
     let a = start e .args in
     plan-fine (a .state) (a .pairs .now) (a .answers .now) (examines (e .before .before .examine .ensures) (a .state .usage))
     (e .before .whole-number .ensures) (e .if1 .left)
 
 take-all-requires : tie.Need-take-all-requires
 take-all-requires c κs =
-    let set = c .before .before .before .before .before .before .before .before .before .before in
-    let e = set .before .before .before .before .before in
+    let set = gathered c in
+    let e = past1 set in
     let a = start e .args in
     let E = examines (e .before .before .examine .ensures) (a .state .usage) in
     let N = e .before .whole-number .ensures in (
-      small (a .state) (a .pairs .now) (a .answers .now) E N (e .if1 .left),
+      (small (a .state) (a .pairs .now) (a .answers .now) E N (e .if1 .left), set .jobs-of .ensures .1 .nothing),
       room-enough (a .state) (a .pairs .now) (a .answers .now) E N (e .if1 .left),
     )
 
@@ -49,8 +58,8 @@ same-length c = search needs
 returns-2 : tie.Need-returns-2
 returns-2 c =
     let t = c .before .before in
-    let set = t .before .before .before .before .before .before .before .before .before .before .before in
-    let e = set .before .before .before .before .before in
+    let set = gathered (t .before) in
+    let e = past1 set in
     let a = start e .args in
     let E = examines (e .before .before .examine .ensures) (a .state .usage) in
     let N = e .before .whole-number .ensures in

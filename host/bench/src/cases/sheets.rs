@@ -6,8 +6,8 @@ use crate::inputs;
 use std::hint::black_box;
 
 /// A sheet into a fresh state of a full plan each time; in place, its jobs are taken back.
-pub fn sheet(name: &'static str, pairs: Vec<u64>) -> Case {
-    let (product, plain) = states(&inputs::endless(), false);
+pub fn sheet(name: &'static str, bytes: Vec<u8>, pairs: Vec<u64>) -> Case {
+    let (product, plain) = states(&bytes, false);
     let mut placed = plain;
     let (one, two) = (pairs.clone(), pairs.clone());
     let [mut to_ours, mut to_same, mut to_reference] = [(); 3].map(|()| vec![0; pairs.len()]);

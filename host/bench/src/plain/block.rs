@@ -56,7 +56,12 @@ pub(crate) fn decode(block: &[u8; BLOCK], place: usize) -> Result<Guest, u32> {
     if sum(block) != 0 {
         return Err(2);
     }
-    if short(block, 0) != 1 || usize::from(short(block, 2)) != place {
+    let marks = match (short(block, 0), short(block, 20)) {
+        (1, _) => 0,
+        (2, marks @ 1..) => marks,
+        _ => return Err(3),
+    };
+    if carried_place(block) != place {
         return Err(3);
     }
     let mut guest = Guest {
@@ -65,6 +70,7 @@ pub(crate) fn decode(block: &[u8; BLOCK], place: usize) -> Result<Guest, u32> {
         period: word(block, 12),
         tasks: short(block, 16).into(),
         charge: short(block, 18),
+        marks,
         ..Guest::default()
     };
     for task in 0..16 {
@@ -80,8 +86,10 @@ pub(crate) fn decode(block: &[u8; BLOCK], place: usize) -> Result<Guest, u32> {
 
 pub(crate) fn zeros_and_tasks(block: &[u8; BLOCK], guest: &Guest) -> Result<(), u32> {
     let zero = |part: &[u8]| part.iter().fold(0, |all, byte| all | byte) == 0;
+    let behind = if guest.marks == 0 { 20 } else { 22 };
     let past = 32 + 12 * guest.tasks as usize;
-    if !zero(&block[20..32]) || !zero(&block[past..508]) {
+    let no_marks_past = guest.marks == guest.live_marks();
+    if !no_marks_past || !zero(&block[behind..32]) || !zero(&block[past..508]) {
         return Err(5);
     }
     match guest.tasks_in_range() {
@@ -96,14 +104,16 @@ pub(crate) fn carried_place(block: &[u8; BLOCK]) -> usize {
 }
 
 fn encode(guest: &Guest, place: u32, block: &mut [u8; BLOCK]) {
+    let marks = guest.live_marks();
     block.fill(0);
-    put_short(block, 0, 1);
+    put_short(block, 0, if marks == 0 { 1 } else { 2 });
     put_short(block, 2, place as u16);
     put_word(block, 4, guest.id);
     put_word(block, 8, guest.capacity);
     put_word(block, 12, guest.period);
     put_short(block, 16, guest.tasks as u16);
     put_short(block, 18, guest.charge);
+    put_short(block, 20, marks);
     for task in 0..guest.tasks as usize {
         put_word(block, 32 + 12 * task, guest.run[task]);
         put_word(block, 36 + 12 * task, guest.every[task]);

@@ -75,6 +75,9 @@ impl Dispatcher {
         let own = &self.plan.guests[guest];
         let task = own.task_place(task)?;
         let place = 16 * guest + task;
+        if own.is_bound(task) && self.position[guest] > 0 {
+            return Err(Refusal::new(17, 0));
+        }
         if self.wait[place] > 0 {
             return Err(Refusal::new(9, 0));
         }

@@ -11,6 +11,7 @@ pub struct Guest {
     pub period: u32,
     pub tasks: u32,
     pub charge: u16,
+    pub marks: u16,
     pub run: [u32; 16],
     pub every: [u32; 16],
     pub deadline: [u32; 16],
@@ -42,6 +43,15 @@ impl Guest {
         self.run[task] + 2 * u32::from(self.charge)
     }
 
+    pub fn is_bound(&self, task: usize) -> bool {
+        self.marks >> task & 1 == 1
+    }
+
+    /// The marks of the tasks of a guest whose head is in range.
+    pub fn live_marks(&self) -> u16 {
+        self.marks & (u16::MAX >> (16 - self.tasks))
+    }
+
     pub fn head_in_range(&self) -> bool {
         self.id != 0
             && (1..=LONGEST).contains(&self.period)
@@ -49,9 +59,10 @@ impl Guest {
             && (1..=16).contains(&self.tasks)
     }
 
+    /// Of a guest whose head is in range.
     pub fn tasks_in_range(&self) -> bool {
         let tasks = self.tasks as usize;
-        self.run[..tasks]
+        let in_range = self.run[..tasks]
             .iter()
             .zip(&self.every[..tasks])
             .zip(&self.deadline[..tasks])
@@ -59,7 +70,16 @@ impl Guest {
                 (1..=LONGEST).contains(run)
                     && (1..=LONGEST).contains(every)
                     && (1..=*every).contains(deadline)
-            })
+            });
+        in_range && (self.marks == 0 || self.bound_tasks_start_with_it(tasks))
+    }
+
+    /// Whether the period of each bound task is a multiple of the guest's.
+    fn bound_tasks_start_with_it(&self, tasks: usize) -> bool {
+        let every = self.every[..tasks].iter().enumerate();
+        every
+            .filter(|(task, _)| self.is_bound(*task))
+            .all(|(_, every)| every.is_multiple_of(self.period))
     }
 
     /// The place in the record of a task named by its number from 1.

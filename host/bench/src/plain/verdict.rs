@@ -88,10 +88,11 @@ fn task_response(
 ) -> Option<u32> {
     let period = own.period;
     let gap = period - capacity;
-    let limit = most.checked_sub(gap)?;
+    let own_gap = if own.is_bound(task) { 0 } else { gap };
+    let limit = most.checked_sub(own_gap)?;
     let mut w = 1;
     while w <= limit {
-        let load = load(own, task, w + gap);
+        let load = load(own, task, w, gap);
         if load > u64::from(limit) {
             return None;
         }
@@ -102,19 +103,28 @@ fn task_response(
         }
         let next = load + full * gap + interference(above, w.saturating_sub(full * period));
         if next == w {
-            return Some(w + gap);
+            return Some(w + own_gap);
         }
         w = next;
     }
     None
 }
 
-fn load(own: &Guest, task: usize, window: u32) -> u64 {
-    let above = own.run[..task].iter().zip(&own.every[..task]);
+/// What the task and those above it ask of a window; where one above is unbound, of a window longer by the gap.
+fn load(own: &Guest, task: usize, window: u32, gap: u32) -> u64 {
+    let above = own.run[..task].iter().zip(&own.every[..task]).enumerate();
     let charge = 2 * u32::from(own.charge);
-    above.fold(u64::from(own.charged_run(task)), |sum, (run, every)| {
-        sum + u64::from(window.div_ceil(*every)) * u64::from(run + charge)
-    })
+    above.fold(
+        u64::from(own.charged_run(task)),
+        |sum, (at, (run, every))| {
+            let window = if own.is_bound(at) {
+                window
+            } else {
+                window + gap
+            };
+            sum + u64::from(window.div_ceil(*every)) * u64::from(run + charge)
+        },
+    )
 }
 
 /// What guests above take of a window of at most 1,000,000 ticks.

@@ -6,7 +6,7 @@ use crate::call::{Amended, Call, Question};
 use crate::pairs::{pairs, wrong_words};
 use crate::session::Session;
 use reference::plan::{BLOCK, Guest, LONGEST_PLAN, MOST_GUESTS, Plan, blocks_of, seal};
-use reference::samples::{full, plan_a};
+use reference::samples::{full, plan_a, plan_a_bound};
 
 pub fn compare(session: &mut Session) {
     orders(session);
@@ -26,14 +26,21 @@ fn every_question(session: &mut Session, of: &Amended) {
     }
 }
 
-/// Each sheet that has some of four guests, in each order, with other numbers than the plan.
+/// Each sheet that has some of four guests, in each order, with other numbers than the plan; the sheet's are of the
+/// kind that the plan's are not.
 fn orders(session: &mut Session) {
-    let guest = |id, capacity| Guest::new(id, capacity, 4 + id, &[[1, 40, 30], [id, 50, 50]]);
-    let plan = blocks_of(&Plan::new(&[1, 2, 3, 4].map(|id| guest(id, 1))));
+    let guest = |id: u32, capacity, marks| {
+        let long = 10 * (4 + id);
+        let guest = Guest::new(id, capacity, 4 + id, &[[1, 40, 30], [id, long, long]]);
+        Guest { marks, ..guest }
+    };
+    let plan = blocks_of(&Plan::new(
+        &[1, 2, 3, 4].map(|id| guest(id, 1, id as u16 & 2)),
+    ));
     for places in some_in_each_order(4) {
         let blocks = places.iter().map(|place| {
             let id = *place as u32 + 1;
-            block_of(&guest(id, 2), *place)
+            block_of(&guest(id, 2, !id as u16 & 2), *place)
         });
         let sheet = blocks.collect::<Vec<_>>().concat();
         let of = Amended {
@@ -61,14 +68,17 @@ fn some_in_each_order(count: usize) -> Vec<Vec<usize>> {
     all
 }
 
-/// Plan A with each capacity for guest 9, and with a guest for which no capacity works.
+/// Plan A with each capacity for guest 9, unbound and with each of its tasks bound, and with a guest for which no
+/// capacity works.
 fn capacities(session: &mut Session) {
-    let tight = Guest::new(9, 1, 6, &[[4, 6, 6]]);
-    let tried = (1..=20).map(|capacity| Guest {
-        capacity,
-        ..plan_a().guests[1]
-    });
-    for guest in tried.chain([tight]) {
+    let mut tried = vec![Guest::new(9, 1, 6, &[[4, 6, 6]])];
+    for plan in [plan_a(), plan_a_bound(1), plan_a_bound(2), plan_a_bound(3)] {
+        tried.extend((1..=20).map(|capacity| Guest {
+            capacity,
+            ..plan.guests[1]
+        }));
+    }
+    for guest in tried {
         let of = Amended {
             plan: blocks_of(&plan_a()),
             sheet: block_of(&guest, 1).to_vec(),
@@ -113,16 +123,22 @@ fn lengths(session: &mut Session) {
     }
 }
 
-/// Plan A and a sheet with both of its guests, the second one first and with capacity 7.
+/// Plan A with guest 9's first task bound, and as amended: guest 7's task is bound, and guest 9 has capacity 7 and no
+/// bound task. So each guest has a block of either kind.
+fn standing_and_amended() -> [Plan; 2] {
+    let mut amended = plan_a();
+    amended.guests[0].marks = 1;
+    amended.guests[1].capacity = 7;
+    [plan_a_bound(1), amended]
+}
+
+/// These two, with a sheet of both guests, the second one first.
 fn plan_a_with_both() -> Amended {
-    let [first, second] = [plan_a().guests[0], plan_a().guests[1]];
-    let less = Guest {
-        capacity: 7,
-        ..second
-    };
+    let [standing, amended] = standing_and_amended();
+    let [first, second] = [amended.guests[0], amended.guests[1]];
     Amended {
-        plan: blocks_of(&plan_a()),
-        sheet: [block_of(&less, 1), block_of(&first, 0)].concat(),
+        plan: blocks_of(&standing),
+        sheet: [block_of(&second, 1), block_of(&first, 0)].concat(),
     }
 }
 
@@ -161,8 +177,9 @@ fn sealed(bytes: &[u8], bit: usize) -> Vec<u8> {
 /// Words of the sheet and of the plan, each wrong in a way of its own: the words of the sheet come after the plan's.
 fn wrong_words_of_both() -> Vec<(usize, u32)> {
     let sheet = 2 * BLOCK;
-    let [second, first] = [wrong_words(1), wrong_words(0)];
-    let mut words = [first.clone(), second.clone()].concat();
+    let [standing, amended] = standing_and_amended();
+    let mut words = [wrong_words(&standing, 0), wrong_words(&standing, 1)].concat();
+    let [second, first] = [wrong_words(&amended, 1), wrong_words(&amended, 0)];
     words.extend(second.iter().map(|(at, word)| (sheet + at - BLOCK, *word)));
     words.extend(first.iter().map(|(at, word)| (sheet + at + BLOCK, *word)));
     words.extend([(sheet + 4, 8), (sheet + BLOCK + 4, 8)]);

@@ -2,6 +2,7 @@
 
 use super::calls::{filled, own_releases};
 use super::view::{View, is_own, view};
+use crate::marks;
 use crate::plans::{self, Size};
 use crate::random::Random;
 use crate::side::Side;
@@ -27,6 +28,7 @@ pub fn twins(random: &mut Random, side: &Side, size: Size) -> Option<Twins> {
     for (above, same) in second.guests[..place].iter_mut().zip(&first.guests) {
         above.capacity = same.capacity;
         above.period = same.period;
+        marks::keep_multiples(above);
     }
     second.guests[place] = first.guests[place];
     let plans = [first, second];

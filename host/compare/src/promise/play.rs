@@ -6,7 +6,7 @@ use reference::dispatcher::{
     Answer, COUNTED, Dispatcher, FINISHED, IDLED, IDLED_FROM, NOBODY, NOBODYS, PLACES, parts,
     place_of,
 };
-use reference::plan::Plan;
+use reference::plan::{MOST_TASKS, Plan};
 
 /// A task that the subject quotes a response for, by places from 0.
 #[derive(Clone, Copy)]
@@ -16,14 +16,26 @@ pub struct Quoted {
     pub response: u32,
 }
 
-/// Jobs of quoted tasks that finished, and those of them that took all of their response; sheets, and
-/// those of them that were refused whole.
+/// Jobs of quoted tasks that finished, and those of them that took all of their response; the same of bound
+/// tasks alone; sheets, and those of them that were refused whole.
 #[derive(Default)]
 pub struct Seen {
     pub finished: u64,
     pub at_the_response: u64,
+    pub bound: u64,
+    pub bound_at_the_response: u64,
     pub sheets: u64,
     pub refused_whole: u64,
+}
+
+impl Seen {
+    /// Notes a job if it is done, whether it took all of its response and whether its task is bound.
+    fn note(&mut self, done: bool, all: bool, bound: bool) {
+        self.finished += u64::from(done);
+        self.at_the_response += u64::from(done && all);
+        self.bound += u64::from(done && bound);
+        self.bound_at_the_response += u64::from(done && bound && all);
+    }
 }
 
 /// Plays a script from a fresh state; or says how the promise broke.
@@ -113,10 +125,14 @@ impl Play<'_> {
         places.contains(&task).then_some((at, task))
     }
 
-    /// Whether the task's period has passed since its last taken release.
+    /// Whether the task's period has passed since its last taken release, and if it is bound, whether its guest
+    /// begins a period.
     fn due(&self, time: u32, (guest, task): (usize, usize)) -> bool {
-        let every = self.plan.guests[guest].every[task];
-        self.taken[place_of(guest, task)].is_none_or(|taken| time - taken >= every)
+        let own = &self.plan.guests[guest];
+        let every = own.every[task];
+        let starts = !own.is_bound(task) || time.is_multiple_of(own.period);
+        let taken = self.taken[place_of(guest, task)];
+        starts && taken.is_none_or(|taken| time - taken >= every)
     }
 
     /// Notes the answer to a release: 0 for taken, or the refusal's number.
@@ -153,8 +169,8 @@ impl Play<'_> {
                 let place = format!("guest {} task {}", place / 16, place % 16);
                 return Err(format!("tick {time}: {place} is late, quoted {response}"));
             }
-            self.seen.finished += u64::from(done);
-            self.seen.at_the_response += u64::from(done && elapsed == response);
+            let bound = self.plan.guests[place / MOST_TASKS].is_bound(place % MOST_TASKS);
+            self.seen.note(done, elapsed == response, bound);
         }
         if let Some(place) = finished {
             self.unfinished[place] = false;

@@ -3,7 +3,9 @@
 use super::histories;
 use crate::session::Session;
 use crate::side::{REFERENCE, Side};
-use reference::dispatcher::{Released, sheet};
+use reference::dispatcher::{Dispatcher, Released, sheet};
+use reference::plan::{Plan, Refusal};
+use reference::verdict::{Verdict, task_verdict};
 
 /// Whether the promise holds in some hundred histories of a side.
 fn holds(side: Side) -> bool {
@@ -59,7 +61,7 @@ fn a_sheet_that_is_refused_whole_for_one_of_its_pairs() {
                 .find(|answer| **answer == 7)
             {
                 Some(_) if outcome.refusal.number == 0 => Released {
-                    refusal: reference::plan::Refusal::new(7, 0),
+                    refusal: Refusal::new(7, 0),
                     dispatcher: *state,
                 },
                 _ => outcome,
@@ -81,6 +83,48 @@ fn a_refused_sheet_that_releases_its_first_pair() {
                 },
                 _ => outcome,
             }
+        },
+        ..REFERENCE
+    }));
+}
+
+/// The verdict of a task, with its guest's gap taken out of the response of one that is unbound.
+fn without_the_gap(plan: &Plan, id: u32, task: u32) -> Verdict {
+    let right = task_verdict(plan, id, task);
+    let own = plan.listed().iter().find(|guest| guest.id == id);
+    match own {
+        Some(own) if right.ticks > 0 && !own.is_bound(task as usize - 1) => Verdict {
+            ticks: right.ticks - (own.period - own.capacity),
+            ..right
+        },
+        _ => right,
+    }
+}
+
+#[test]
+fn an_unbound_task_quoted_as_a_bound_one() {
+    assert!(!holds(Side {
+        task_verdict: without_the_gap,
+        ..REFERENCE
+    }));
+}
+
+/// The state with no task bound.
+fn unbound(state: &Dispatcher) -> Dispatcher {
+    let mut state = *state;
+    for guest in &mut state.plan.guests {
+        guest.marks = 0;
+    }
+    state
+}
+
+#[test]
+fn a_pair_of_a_bound_task_taken_at_any_position() {
+    assert!(!holds(Side {
+        sheet: |state, pairs, answers| {
+            let mut outcome = sheet(&unbound(state), pairs, answers);
+            outcome.dispatcher.plan = state.plan;
+            outcome
         },
         ..REFERENCE
     }));

@@ -12,7 +12,7 @@ use reference::amendment::{Located, find};
 use reference::plan::{self, BLOCK, Refusal, seal};
 
 /// What small and some random pairs show of a side.
-fn compared(side: Side) -> Session {
+pub fn compared(side: Side) -> Session {
     let mut session = Session::new(side, 1);
     session.scans = true;
     amendments::compare(&mut session);
@@ -51,7 +51,7 @@ fn of_plan(bytes: &[u8], id: u32) -> Located {
 }
 
 /// The id that a block carries.
-fn id_of(block: &[u8]) -> u32 {
+pub fn id_of(block: &[u8]) -> u32 {
     u32::from_le_bytes([block[4], block[5], block[6], block[7]])
 }
 

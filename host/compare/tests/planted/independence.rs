@@ -136,6 +136,31 @@ fn a_wait_that_falls_only_when_its_guest_has_the_tick() {
 }
 
 #[test]
+fn a_bound_task_released_by_the_position_of_the_last_guest() {
+    assert!(!is_independent(Side {
+        release: |state, id, task| {
+            let last = state.plan.listed().len() - 1;
+            let starts = state.position[last] == 0;
+            let mut moved = *state;
+            for (guest, position) in moved.position.iter_mut().enumerate() {
+                let within = state.plan.guests[guest].period > 1;
+                *position = u32::from(guest <= last && !starts && within);
+            }
+            let outcome = release(&moved, id, task);
+            let dispatcher = Dispatcher {
+                position: state.position,
+                ..outcome.dispatcher
+            };
+            Released {
+                dispatcher,
+                ..outcome
+            }
+        },
+        ..REFERENCE
+    }));
+}
+
+#[test]
 fn a_refused_release_that_shortens_the_waits_of_others() {
     assert!(!is_independent(Side {
         release: |state, id, task| {

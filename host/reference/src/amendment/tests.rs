@@ -1,6 +1,6 @@
 use super::*;
 use crate::plan::{LONGEST_PLAN, blocks_of, seal};
-use crate::samples::{full, plan_a};
+use crate::samples::{full, plan_a, plan_a_bound};
 use crate::verdict::{NO, YES};
 
 /// The block of a guest at a place of the standing plan.
@@ -123,4 +123,27 @@ fn a_verdict_has_the_pairs_refusals_then_7_8_and_11() {
     let tight = Guest::new(9, 1, 6, &[[4, 6, 6]]);
     let none = smallest_capacity(&plan, &block(&tight, 1), 9);
     assert_eq!(refused(none), Refusal::new(11, 0));
+}
+
+#[test]
+fn kinds_of_a_plan_and_a_sheet_are_mixed() {
+    let bound = plan_a_bound(3).guests[1];
+    let (unmarked, marked) = (standing(), block(&bound, 1));
+    let responses =
+        |plan: &[u8], sheet: &[u8]| [1, 2].map(|task| task_verdict(plan, sheet, 9, task).ticks);
+    assert_eq!(responses(&unmarked, &marked), [24, 44]);
+    let amended = replaced(&unmarked, &marked);
+    assert_eq!(amended, Ok(blocks_of(&plan_a_bound(3))));
+    let back = block(&guest_9(8), 1);
+    assert_eq!(responses(&blocks_of(&plan_a_bound(3)), &back), [36, 80]);
+    let refused = |at: usize, value: u8| {
+        let mut sheet = marked.clone();
+        sheet[at] = value;
+        seal(&mut sheet);
+        find(&unmarked, &sheet, 9)
+    };
+    assert_eq!(refused(20, 0), Located::in_sheet(3, 0));
+    assert_eq!(refused(20, 4), Located::in_sheet(5, 0));
+    assert_eq!(refused(36, 61), Located::in_sheet(6, 0));
+    assert_eq!(refused(0, 1), Located::in_sheet(5, 0));
 }

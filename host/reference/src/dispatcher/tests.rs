@@ -1,3 +1,5 @@
+mod bound;
+
 use super::*;
 use crate::plan::Guest;
 use crate::samples::{long_gap, plan_a};

@@ -16,11 +16,15 @@ const CAPACITY: usize = 8;
 const PERIOD: usize = 12;
 const TASKS: usize = 16;
 const CHARGE: usize = 18;
-const FIRST_GAP: Range<usize> = 20..32;
+const MARKS: usize = 20;
 const ENTRIES: usize = 32;
 const ENTRY: usize = 12;
 const SECOND_GAP: Range<usize> = 224..508;
 const CHECK: usize = 508;
+
+/// The kind of a block with no marks, and of one with some.
+const UNMARKED: u16 = 1;
+const MARKED: u16 = 2;
 
 /// What reading gives: a refusal, or the plan. A refused plan is zero throughout.
 #[derive(Clone, Copy, Debug, Default, PartialEq, Eq)]
@@ -110,20 +114,29 @@ pub(crate) fn read_block(block: &[u8], place: u16, earlier: &[Guest]) -> Result<
     if sum_of_words(block) != 0 {
         return Err(2);
     }
-    if short(block, KIND) != 1 || short(block, PLACE) != place {
+    if !kind_in_range(block) || short(block, PLACE) != place {
         return Err(3);
     }
     let guest = guest_in(block);
     if !head_in_range(&guest) || seen(earlier, guest.id) {
         return Err(4);
     }
-    if !zero_where_it_must_be(block, guest.tasks as usize) {
+    if !zero_where_it_must_be(block, &guest) {
         return Err(5);
     }
     if !tasks_in_range(&guest) {
         return Err(6);
     }
     Ok(guest)
+}
+
+/// Whether the kind is 1, or 2 with marks.
+fn kind_in_range(block: &[u8]) -> bool {
+    match short(block, KIND) {
+        UNMARKED => true,
+        MARKED => short(block, MARKS) != 0,
+        _ => false,
+    }
 }
 
 /// The place that a block carries, whatever its own is.
@@ -145,16 +158,31 @@ fn guest_in(block: &[u8]) -> Guest {
         period: word(block, PERIOD),
         tasks: u32::from(short(block, TASKS)),
         charge: short(block, CHARGE),
+        marks: marks_in(block),
         run: column(0),
         every: column(1),
         deadline: column(2),
     }
 }
 
-fn zero_where_it_must_be(block: &[u8], tasks: usize) -> bool {
-    let past_the_tasks = entry(tasks)..entry(MOST_TASKS);
+/// Kind 1 reads as all marks zero.
+fn marks_in(block: &[u8]) -> u16 {
+    match short(block, KIND) {
+        MARKED => short(block, MARKS),
+        _ => 0,
+    }
+}
+
+/// Whether the bytes that no number stands in are zero, and so the marks past the tasks.
+fn zero_where_it_must_be(block: &[u8], guest: &Guest) -> bool {
+    let first_gap = match short(block, KIND) {
+        MARKED => MARKS + 2..ENTRIES,
+        _ => MARKS..ENTRIES,
+    };
+    let past_the_tasks = entry(guest.tasks as usize)..entry(MOST_TASKS);
     let zero = |part: Range<usize>| block[part].iter().all(|byte| *byte == 0);
-    zero(FIRST_GAP) && zero(past_the_tasks) && zero(SECOND_GAP)
+    let no_marks_past_the_tasks = guest.marks == guest.marks_of_tasks();
+    zero(first_gap) && no_marks_past_the_tasks && zero(past_the_tasks) && zero(SECOND_GAP)
 }
 
 /// A plan is its guests' blocks in order.
@@ -165,15 +193,19 @@ pub fn blocks_of(plan: &Plan) -> Vec<u8> {
         .collect()
 }
 
+/// Kind 1 is written when all marks of the tasks are zero, else kind 2.
 fn block_of(guest: &Guest, place: u16) -> [u8; BLOCK] {
+    let marks = guest.marks_of_tasks();
+    let kind = if marks == 0 { UNMARKED } else { MARKED };
     let mut block = [0; BLOCK];
-    put_short(&mut block, KIND, 1);
+    put_short(&mut block, KIND, kind);
     put_short(&mut block, PLACE, place);
     put_word(&mut block, ID, guest.id);
     put_word(&mut block, CAPACITY, guest.capacity);
     put_word(&mut block, PERIOD, guest.period);
     put_short(&mut block, TASKS, guest.tasks as u16);
     put_short(&mut block, CHARGE, guest.charge);
+    put_short(&mut block, MARKS, marks);
     for task in guest.places() {
         put_word(&mut block, entry(task), guest.run[task]);
         put_word(&mut block, entry(task) + 4, guest.every[task]);

@@ -1,3 +1,5 @@
+mod bound;
+
 use super::*;
 use crate::samples::plan_a;
 

@@ -1,3 +1,5 @@
+mod bound;
+
 use super::*;
 use crate::plan::Guest;
 use crate::samples::{falling, long_gap, plan_a, unfit_above};

@@ -5,7 +5,7 @@ use borrow.Author.Needs.{needs}
 use borrow.Author.Tests.{eq-eqb, ne-eqb, not-true, not-false}
 use Rattle.block.specs.Reading.{guestOf, sumsToZero, kindOk, zerosOk}
 use Rattle.plan.specs.Ranges.{guestOk}
-use Rattle.block.proofs.Reading.{two, three, four, five, six, none, few-in-block}
+use Rattle.block.proofs.Reading.{two, three, four, five, six, none, few-in-block, some-in-block}
 use Rattle.block.proofs.reader.block_number.Statement.{statement}
 use Rattle.block.proofs.reader.block_number.Tie as tie
 
@@ -89,7 +89,9 @@ returns-4 c =
     (sym (c .before .zeros-ok .ensures) ∙ not-true _ (c .if4 .taken))
 
 tasks-in-requires : tie.Need-tasks-in-requires
-tasks-in-requires c κs = let o = to3 c in (at3 o .pre, few-in-block _ (at3 o .args .new) (heads o))
+tasks-in-requires c κs =
+    let o = to3 c in
+    (at3 o .pre, (few-in-block _ (at3 o .args .new) (heads o), some-in-block _ (at3 o .args .new) (heads o)))
 
 returns-5 : tie.Need-returns-5
 returns-5 c =

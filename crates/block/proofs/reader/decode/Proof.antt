@@ -18,6 +18,12 @@ word-at-requires-3 c κs = search needs
 cast-charge : tie.Need-cast-charge
 cast-charge c = search needs
 
+marks-of-requires : tie.Need-marks-of-requires
+marks-of-requires c κs = search needs
+
+cast-marks : tie.Need-cast-marks
+cast-marks c = search needs
+
 column-of-requires : tie.Need-column-of-requires
 column-of-requires c κs = search needs
 
@@ -39,6 +45,8 @@ decode-spec =
     word-at-requires-2
     word-at-requires-3
     cast-charge
+    marks-of-requires
+    cast-marks
     column-of-requires
     column-of-requires-2
     column-of-requires-3

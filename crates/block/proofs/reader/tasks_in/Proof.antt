@@ -1,4 +1,4 @@
--- `block::reader::tasks_in` meets its contract: the columns are the record's. Assumes nothing.
+-- `block::reader::tasks_in` meets its contract: marks, period and columns are the record's. Assumes nothing.
 use mathlib.Core.Path.{_∙_}
 use borrow.Author.Needs.{needs}
 use Rattle.block.proofs.Reading.{tasks-are}
@@ -14,6 +14,15 @@ column-of-requires-2 c κs = search needs
 column-of-requires-3 : tie.Need-column-of-requires-3
 column-of-requires-3 c κs = search needs
 
+marks-of-requires : tie.Need-marks-of-requires
+marks-of-requires c κs = search needs
+
+cast-marks : tie.Need-cast-marks
+cast-marks c = search needs
+
+word-at-requires : tie.Need-word-at-requires
+word-at-requires c κs = search needs
+
 tasks-of-requires : tie.Need-tasks-of-requires
 tasks-of-requires c κs = search needs
 
@@ -26,10 +35,12 @@ tasks-ok-requires c κs = search needs
 returns : tie.Need-returns
 returns c =
     let t = c .before in
-    let d = t .before .before .before .before in
+    let p = t .before .before .before .before in
+    let m = p .before in
+    let d = m .before in
     c .tasks-ok .ensures
-    ∙ tasks-are _ _ _ _ _ (d .before .before .column-of .ensures) (d .before .column-of2 .ensures)
-    (d .column-of3 .ensures) (t .tasks-of .ensures)
+    ∙ tasks-are _ _ _ _ _ _ _ (m .marks-of .ensures) (p .word-at .ensures) (d .before .before .column-of .ensures)
+    (d .before .column-of2 .ensures) (d .column-of3 .ensures) (t .tasks-of .ensures)
 
 pub tasks-in-spec : {M : Type 1} → statement M
 tasks-in-spec =
@@ -38,6 +49,9 @@ tasks-in-spec =
     column-of-requires
     column-of-requires-2
     column-of-requires-3
+    marks-of-requires
+    cast-marks
+    word-at-requires
     tasks-of-requires
     cast-tasks-ok
     tasks-ok-requires

@@ -1,4 +1,4 @@
--- `block::reader::zeros_ok` meets its contract: the two ranges that must be zero. Assumes nothing.
+-- `block::reader::zeros_ok` meets its contract: the marks, and the two ranges that must be zero. Assumes nothing.
 use borrow.Author.Needs.{needs}
 use Rattle.block.proofs.reader.zeros_ok.Statement.{statement}
 use Rattle.block.proofs.reader.zeros_ok.Tie as tie
@@ -8,6 +8,9 @@ tasks-of-requires c κs = search needs
 
 cast-n : tie.Need-cast-n
 cast-n c = search needs
+
+marks-ok-requires : tie.Need-marks-ok-requires
+marks-ok-requires c κs = search needs
 
 zero-between-requires : tie.Need-zero-between-requires
 zero-between-requires c κs = search needs
@@ -30,6 +33,7 @@ zeros-ok-spec =
     (tie.spec
     tasks-of-requires
     cast-n
+    marks-ok-requires
     zero-between-requires
     mul-zero-between
     add-zero-between

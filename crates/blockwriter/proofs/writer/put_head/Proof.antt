@@ -7,11 +7,8 @@ use Rattle.blockwriter.proofs.writer.put_head.Tie as tie
 put-zeros-requires : tie.Need-put-zeros-requires
 put-zeros-requires c κs = search needs
 
-mul-put-word : tie.Need-mul-put-word
-mul-put-word c = search needs
-
-add-put-word : tie.Need-add-put-word
-add-put-word c = search needs
+put-kind-requires : tie.Need-put-kind-requires
+put-kind-requires c κs = search needs
 
 put-word-requires : tie.Need-put-word-requires
 put-word-requires c κs = search needs
@@ -22,52 +19,47 @@ put-word-requires-2 c κs = search needs
 put-word-requires-3 : tie.Need-put-word-requires-3
 put-word-requires-3 c κs = search needs
 
-put-word-requires-4 : tie.Need-put-word-requires-4
-put-word-requires-4 c κs = search needs
-
 cast-put-word : tie.Need-cast-put-word
 cast-put-word c = search needs
 
-mul-put-word-2 : tie.Need-mul-put-word-2
-mul-put-word-2 c = search needs
+mul-put-word : tie.Need-mul-put-word
+mul-put-word c = search needs
 
-add-put-word-2 : tie.Need-add-put-word-2
-add-put-word-2 c = search needs
+add-put-word : tie.Need-add-put-word
+add-put-word c = search needs
 
-put-word-requires-5 : tie.Need-put-word-requires-5
-put-word-requires-5 c κs = search needs
+put-word-requires-4 : tie.Need-put-word-requires-4
+put-word-requires-4 c κs = search needs
 
 same-length : tie.Need-same-length
 same-length c = search needs
 
 returns : tie.Need-returns
 returns c =
-    let p5 = c .before .before in
-    let p4 = p5 .before .before .before .before .before .before in
-    let p3 = p4 .before .before .before .before in
+    let p4 = c .before .before in
+    let p3 = p4 .before .before .before .before .before .before in
     let p2 = p3 .before .before .before .before in
     let p1 = p2 .before .before .before .before in
-    let z = p1 .before .before .before .before in
+    let k = p1 .before .before .before .before in
+    let z = k .before .before .before .before in
     let a = z .before .before .before .args in
-    head-puts (a .g) (a .place) (a .buf .now) (z .put-zeros .last .0) (p1 .put-word .last .0) (p2 .put-word2 .last .0)
-    (p3 .put-word3 .last .0) (p4 .put-word4 .last .0) _
-    (z .put-zeros .ensures) (p1 .put-word .ensures) (p2 .put-word2 .ensures) (p3 .put-word3 .ensures)
-    (p4 .put-word4 .ensures) (p5 .put-word5 .ensures)
+    head-puts (a .g) (a .place) (a .buf .now) (z .put-zeros .last .0) (k .put-kind .last .0) (p1 .put-word .last .0)
+    (p2 .put-word2 .last .0) (p3 .put-word3 .last .0) _
+    (z .put-zeros .ensures) (k .put-kind .ensures) (p1 .put-word .ensures) (p2 .put-word2 .ensures)
+    (p3 .put-word3 .ensures) (p4 .put-word4 .ensures)
 
 pub put-head-spec : {M : Type 1} → statement M
 put-head-spec =
     tie.close
     (tie.spec
     put-zeros-requires
-    mul-put-word
-    add-put-word
+    put-kind-requires
     put-word-requires
     put-word-requires-2
     put-word-requires-3
-    put-word-requires-4
     cast-put-word
-    mul-put-word-2
-    add-put-word-2
-    put-word-requires-5
+    mul-put-word
+    add-put-word
+    put-word-requires-4
     same-length
     returns)

@@ -2,6 +2,7 @@
 use mathlib.Core.Path.{_≡_, sym, _∙_}
 use mathlib.Core.Bool.{true}
 use Prim.Native.Nat.{_≤_}
+use native.Mathlib.Omega.{arith}
 use borrow.Author.Needs.{needs}
 use borrow.Author.Tests.{not-true, not-false}
 use Rattle.plan.specs.Ranges.{mostTasks, guestOk, tasksOk}
@@ -24,9 +25,9 @@ at3-too c = c .before .before .before .before .before .before .before .before .b
 head-is : (c : tie.Else3) → guestOk (start c .args .g) ≡ true
 head-is c = sym (c .before .head-ok .ensures) ∙ not-false _ (c .if3 .left)
 
--- A head that passed has at most 16 tasks.
-few : (c : tie.Else3) → start c .args .g .tasks ≤ mostTasks
-few c = head-says _ _ _ _ (head-is c) .few
+-- A head that passed has at most 16 tasks, and a period of at least 1.
+asked : (c : tie.Else3) → (start c .args .g .tasks ≤ mostTasks) × (1 ≤ start c .args .g .period)
+asked c = let h = head-says _ _ _ _ (head-is c) in (h .few, omega (arith, h .some, h .fits))
 
 returns : tie.Need-returns
 returns c = twelve _ _ _ (c .if1 .taken)
@@ -46,7 +47,7 @@ cast-n : tie.Need-cast-n
 cast-n c = search needs
 
 tasks-ok-requires : tie.Need-tasks-ok-requires
-tasks-ok-requires c κs = few (c .before .before .before .before .before .before .before)
+tasks-ok-requires c κs = asked (c .before .before .before .before .before .before .before)
 
 returns-4 : tie.Need-returns-4
 unfolding tasksOk

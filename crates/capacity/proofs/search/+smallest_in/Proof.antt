@@ -14,7 +14,7 @@ use Rattle.capacity.proofs.search.+smallest_in.{statement}
 use Rattle.capacity.proofs.search.+smallest_in.Tie.{close}
 
 abbrev μ-smallest-in : Measures 5 smallest-in-kinds.ps ℕ
-μ-smallest-in κs a = a .1 .1 .1 .1 .1 .1 .1 .1 .1 .0 - a .1 .1 .1 .1 .1 .1 .1 .1 .0
+μ-smallest-in κs a = a .1 .1 .1 .1 .1 .1 .1 .1 .1 .1 .0 - a .1 .1 .1 .1 .1 .1 .1 .1 .1 .0
 
 abbrev smallest-in-at : ℕ → In 5 smallest-in-kinds.ps
 smallest-in-at t =

@@ -1,13 +1,15 @@
 -- `capacity::search::halved` meets its contract: what the trial of the middle says is one of the three turns of a
 -- halving. Assumes nothing.
-use Prim.Native.Nat.{ℕ, _+_, _-_, _/_}
+use Prim.Native.Nat.{_+_, _-_, _/_}
 use native.Mathlib.Omega.{arith}
 use borrow.Author.Needs.{needs}
+use Rattle.lists.specs.Places.{nth}
 use Rattle.response.specs.Columns.{guestsTake}
-use Rattle.capacity.specs.Search.{fitsAt, worksAt}
+use Rattle.capacity.specs.Search.{fitsAt}
 use Rattle.response.proofs.GuestLaws.{take-grows}
+use Rattle.response.proofs.ReadyLaws.{filled-gaps}
 use Rattle.response.proofs.TrialLaws.{trial-unfit, trial-unmet, trial-works}
-use Rattle.capacity.proofs.SearchLaws.{halving}
+use Rattle.capacity.proofs.SearchLaws.{halving, works-tried}
 use Rattle.capacity.proofs.Halving.{turn-left, turn-right, turn-here}
 use Rattle.capacity.proofs.search.halved.Statement.{statement}
 use Rattle.capacity.proofs.search.halved.Tie as tie
@@ -24,10 +26,29 @@ add-next c = search needs
 guest-response-requires : tie.Need-guest-response-requires
 guest-response-requires c κs = search needs
 
+sub-gaps-of : tie.Need-sub-gaps-of
+sub-gaps-of c = search needs
+
+gaps-of-requires : tie.Need-gaps-of-requires
+gaps-of-requires c κs = search needs
+
 try-guest-requires : tie.Need-try-guest-requires
 try-guest-requires c κs =
-    let s = c .before in
-    ((s .pre .0 .0, record { some = omega arith; within = omega arith; runs = s .pre .1 }), c .guest-response .ensures)
+    let gaps = c .before in
+    let asked = gaps .before in
+    let s = asked .before in
+    let more = s .pre .1 in (
+      (
+        s .pre .0 .0,
+        record {
+          server = record { some = omega arith; within = omega arith; short = more .0 };
+          runs = more .1 .0;
+          gaps = filled-gaps _ _ _ _ (more .0) (gaps .gaps-of .ensures);
+          deadlines = more .1 .1;
+        },
+      ),
+      asked .guest-response .ensures,
+    )
 
 enum-told : tie.Need-enum-told
 enum-told c = search needs
@@ -42,37 +63,47 @@ returns : tie.Need-returns
 unfolding fitsAt
 returns c =
     let tried = c .before .before in
-    let s = tried .before .before in
-    let lo = s .args .lo in
-    let hi = s .args .hi in
-    let good = halving (guestsTake _ _ _) (take-grows _ _ _) _ _ _ _ _ (s .pre .1) in
+    let gaps = tried .before .before in
+    let s = gaps .before .before in
+    let a = s .args in
+    let lo = a .lo in
+    let hi = a .hi in
+    let good = halving (guestsTake _ _ _) (take-grows _ _ _) _ (a .marks) _ _ _ _ (s .pre .1 .1 .0) in
     turn-left _ _ good lo (lo + (hi - lo) / 2) hi _
     (s .pre .0 .1 .0) (omega arith) (omega arith)
     (trial-unfit _ _ _ (tried .try-guest .ensures) (c .enum-told .given .1))
 
 returns-2 : tie.Need-returns-2
-unfolding fitsAt worksAt
+unfolding fitsAt
 returns-2 c =
     let tried = c .before .before in
-    let s = tried .before .before in
-    let lo = s .args .lo in
-    let hi = s .args .hi in
-    let good = halving (guestsTake _ _ _) (take-grows _ _ _) _ _ _ _ _ (s .pre .1) in
+    let gaps = tried .before .before in
+    let s = gaps .before .before in
+    let a = s .args in
+    let lo = a .lo in
+    let hi = a .hi in
+    let good = halving (guestsTake _ _ _) (take-grows _ _ _) _ (a .marks) _ _ _ _ (s .pre .1 .1 .0) in
+    let unmet = trial-unmet _ _ _ (tried .try-guest .ensures) (c .enum-told2 .given .1) in
     turn-right _ _ good lo (lo + (hi - lo) / 2) hi _
-    (s .pre .0 .1 .0) (omega arith) (omega arith)
-    (trial-unmet _ _ _ (tried .try-guest .ensures) (c .enum-told2 .given .1))
+    (s .pre .0 .1 .0) (omega arith) (omega arith) (
+      unmet .0,
+      works-tried (guestsTake _ _ _) _ _ _ (a .run .now) (a .every .now) (nth (a .deadline .now)) _
+          (gaps .gaps-of .ensures) (unmet .1),
+    )
 
 returns-3 : tie.Need-returns-3
-unfolding worksAt
 returns-3 c =
     let tried = c .before .before in
-    let s = tried .before .before in
-    let lo = s .args .lo in
-    let hi = s .args .hi in
-    let good = halving (guestsTake _ _ _) (take-grows _ _ _) _ _ _ _ _ (s .pre .1) in
+    let gaps = tried .before .before in
+    let s = gaps .before .before in
+    let a = s .args in
+    let lo = a .lo in
+    let hi = a .hi in
+    let good = halving (guestsTake _ _ _) (take-grows _ _ _) _ (a .marks) _ _ _ _ (s .pre .1 .1 .0) in
     turn-here _ _ good lo (lo + (hi - lo) / 2) hi _
     (s .pre .0 .1 .0) (omega arith) (omega arith)
-    (trial-works _ _ _ (tried .try-guest .ensures) (c .enum-told3 .given .1))
+    (works-tried (guestsTake _ _ _) _ _ _ (a .run .now) (a .every .now) (nth (a .deadline .now)) _
+    (gaps .gaps-of .ensures) (trial-works _ _ _ (tried .try-guest .ensures) (c .enum-told3 .given .1)))
 
 pub halved-spec : {M : Type 1} → statement M
 halved-spec =
@@ -82,6 +113,8 @@ halved-spec =
     add-mid
     add-next
     guest-response-requires
+    sub-gaps-of
+    gaps-of-requires
     try-guest-requires
     enum-told
     enum-told-2

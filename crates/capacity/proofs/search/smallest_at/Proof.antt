@@ -5,7 +5,7 @@ use native.Mathlib.Omega.{arith}
 use borrow.Author.Needs.{needs}
 use borrow.Author.Tests.{not-true, not-false}
 use Rattle.response.specs.Columns.{guestsTake}
-use Rattle.response.proofs.ReadyLaws.{filled-runs}
+use Rattle.response.proofs.ReadyLaws.{filled-runs, seated-server}
 use Rattle.capacity.proofs.SearchLaws.{works-off}
 use Rattle.capacity.proofs.Halving.{above-unfit, above-fitted}
 use Rattle.capacity.proofs.search.smallest_at.Statement.{statement}
@@ -24,15 +24,18 @@ cast-tasks : tie.Need-cast-tasks
 cast-tasks c = search needs
 
 charged-of-requires : tie.Need-charged-of-requires
-charged-of-requires c κs = c .before .before .before .before .before .pre .0 .runs
+charged-of-requires c κs = c .before .before .before .before .before .pre .0 .tasks
 
 smallest-in-requires : tie.Need-smallest-in-requires
 smallest-in-requires c κs =
     let filled = c .before .before .before in
     let start = filled .before .before .before .before .before .before in
     let s = start .pre .0 in (
-      ((omega (arith, s .place), s .runs .few), (omega arith, omega arith)),
-      filled-runs (start .args .g) (s .runs) (filled .charged-of .ensures),
+      ((omega (arith, s .place), s .tasks .few), (omega arith, omega arith)),
+      (
+        seated-server _ _ _ _ s .short,
+        (filled-runs (start .args .g) (s .tasks) (filled .charged-of .ensures), s .tasks .deadlines),
+      ),
     )
 
 found-as-requires : tie.Need-found-as-requires

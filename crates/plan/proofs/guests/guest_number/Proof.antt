@@ -1,5 +1,6 @@
 -- `plan::guest_number` meets its contract: the tests come in the order of their numbers. Assumes nothing.
 use mathlib.Core.Path.{sym, _∙_}
+use native.Mathlib.Omega.{arith}
 use borrow.Author.Needs.{needs}
 use borrow.Author.Tests.{not-true, not-false}
 use Rattle.plan.specs.Ranges.{tasksOk}
@@ -23,7 +24,8 @@ cast-tasks-ok c = search needs
 tasks-ok-requires : tie.Need-tasks-ok-requires
 tasks-ok-requires c κs =
     let l = c .before .before .before .before in
-    head-says _ _ _ _ (sym (l .before .head-ok .ensures) ∙ not-false _ (l .if1 .left)) .few
+    let h = head-says _ _ _ _ (sym (l .before .head-ok .ensures) ∙ not-false _ (l .if1 .left)) in
+    (h .few, omega (arith, h .some, h .fits))
 
 returns-3 : tie.Need-returns-3
 unfolding tasksOk

@@ -8,6 +8,10 @@ use Rattle.refusals.proofs.Aims.{aims-bad, aims-none, aims-on, place-in
 use Rattle.refusals.proofs.aiming.aim_by_id.Statement.{statement}
 use Rattle.refusals.proofs.aiming.aim_by_id.Tie as tie
 
+-- From past the second test, where the guest is there, to past the first, where the check passed.
+abbrev past1 : tie.Else2 → tie.Else1
+past1 c = c .before .before .before .before .before
+
 examine-requires : tie.Need-examine-requires
 examine-requires c κs = search needs
 
@@ -40,21 +44,31 @@ mul-aim-at c = search needs
 
 element-copy-out-aim-at : tie.Need-element-copy-out-aim-at
 element-copy-out-aim-at c =
-    let e = c .before .before .before .before .before in
+    let e = past1 c in
     let k = sym (e .before .before .examine .ensures .okay) ∙ not-false _ (e .if1 .left) in
     omega (arith, few-guests _ _ _ _ _ _ k, c .if2 .left)
 
+mul-aim-at-2 : tie.Need-mul-aim-at-2
+mul-aim-at-2 c = search needs
+
+element-copy-out-aim-at-2 : tie.Need-element-copy-out-aim-at-2
+element-copy-out-aim-at-2 c = element-copy-out-aim-at (c .before)
+
 aim-at-requires : tie.Need-aim-at-requires
 aim-at-requires c κs =
-    let e = c .before .before .before .before .before .before in
+    let t = c .before .before in
+    let e = past1 t in
     let k = sym (e .before .before .examine .ensures .okay) ∙ not-false _ (e .if1 .left) in
-    (omega (arith, few-guests _ _ _ _ _ _ k, c .before .if2 .left), records-in _ _ _ _ _ _ k _ (c .before .if2 .left))
+    (element-copy-out-aim-at t, records-in _ _ _ _ _ _ k _ (t .if2 .left))
 
 returns-3 : tie.Need-returns-3
 returns-3 c =
-    let e = c .before .before .before .before .before .before in
-    let k = sym (e .before .before .before .examine .ensures .okay) ∙ not-false _ (e .before .if1 .left) in
-    aims-on _ _ _ _ _ _ _ _ _ k (place-in _ (e .before .before .before .examine .ensures .columns k) (c .before .before .before .place-of .ensures)) (c .before .before .if2 .left) (c .aim-at .ensures)
+    let t = c .before .before .before in
+    let e = past1 t in
+    let k = sym (e .before .before .examine .ensures .okay) ∙ not-false _ (e .if1 .left) in
+    aims-on _ _ _ _ _ _ _ _ _ k
+    (place-in _ (e .before .before .examine .ensures .columns k) (t .before .place-of .ensures))
+    (t .if2 .left) (c .aim-at .ensures)
 
 pub aim-by-id-spec : {M : Type 1} → statement M
 aim-by-id-spec =
@@ -69,5 +83,7 @@ aim-by-id-spec =
     returns-2
     mul-aim-at
     element-copy-out-aim-at
+    mul-aim-at-2
+    element-copy-out-aim-at-2
     aim-at-requires
     returns-3)

@@ -1,5 +1,6 @@
 -- By the record's own ranges, then by the numbers of its places.
 use mathlib.Core.Path.{sym, _∙_}
+use native.Mathlib.Omega.{arith}
 use borrow.Author.Needs.{needs}
 use borrow.Author.Tests.{not-true, not-false}
 use Rattle.plan.specs.Ranges.{tasksOk}
@@ -18,7 +19,10 @@ returns : tie.Need-returns
 returns c = head-fails _ _ _ _ _ _ _ (sym (c .before .head-ok .ensures) ∙ not-true _ (c .if1 .taken))
 
 tasks-ok-requires : tie.Need-tasks-ok-requires
-tasks-ok-requires c κs = head-says _ _ _ _ (sym (c .before .before .before .before .head-ok .ensures) ∙ not-false _ (c .before .before .before .if1 .left)) .few
+tasks-ok-requires c κs =
+    let l = c .before .before .before in
+    let h = head-says _ _ _ _ (sym (l .before .head-ok .ensures) ∙ not-false _ (l .if1 .left)) in
+    (h .few, omega (arith, h .some, h .fits))
 
 returns-2 : tie.Need-returns-2
 unfolding tasksOk

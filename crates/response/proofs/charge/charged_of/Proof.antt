@@ -40,7 +40,7 @@ cast-r c =
     let s = l .before .before .before in
     let g = s .args .g in
     let i = l .loop .i in
-    omega (arith, c .charged-run .ensures, charged-most (runOf g i) (g .charge) (s .pre .short i (omega arith)) (omega arith))
+    omega (arith, c .charged-run .ensures, charged-most (runOf g i) (g .charge) (s .pre .runs i (omega arith)) (omega arith))
 
 mul-r : tie.Need-mul-r Inv-loop μ-loop
 mul-r c = search needs

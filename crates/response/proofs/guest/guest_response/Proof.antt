@@ -15,10 +15,10 @@ abbrev μ-loop : tie.MeasureT-loop
 μ-loop capacities periods n capacity period x₀ x = period - x
 
 loop-holds : tie.Need-loop-holds Inv-loop μ-loop
-loop-holds c = guest-start (take-grows _ _ _) (c .pre .1 .0) (c .pre .1 .1) (omega arith)
+loop-holds c = guest-start (take-grows _ _ _) (c .pre .1)
 
 guest-right-requires : tie.Need-guest-right-requires Inv-loop μ-loop
-guest-right-requires c κs = search needs
+guest-right-requires c κs = let i = c .loop .inv in (c .before .pre .0, omega (arith, i .high, i .short))
 
 wide-requires : tie.Need-wide-requires Inv-loop μ-loop
 wide-requires c κs = search needs

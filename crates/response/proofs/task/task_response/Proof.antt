@@ -12,20 +12,24 @@ use Rattle.response.proofs.task.task_response.Statement.{statement}
 use Rattle.response.proofs.task.task_response.Tie as tie
 
 abbrev Inv-loop : tie.InvT-loop
-Inv-loop capacities periods n capacity period run every i most gap room w₀ w =
-    TaskInv (columnSystem (guestsTake capacities periods n) capacity period run every) i room w
+Inv-loop capacities periods n capacity period run every late i most gap room w₀ w =
+    TaskInv (columnSystem (guestsTake capacities periods n) capacity period run every late) i room w
 
 abbrev μ-loop : tie.MeasureT-loop
-μ-loop capacities periods n capacity period run every i most gap room w₀ w = room - w
+μ-loop capacities periods n capacity period run every late i most gap room w₀ w = room - w
 
-sub-gap : tie.Need-sub-gap Inv-loop μ-loop
-sub-gap c = search needs
+mul-gap : tie.Need-mul-gap Inv-loop μ-loop
+mul-gap c = search needs
+
+element-copy-out-gap : tie.Need-element-copy-out-gap Inv-loop μ-loop
+element-copy-out-gap c = search needs
 
 returns : tie.Need-returns Inv-loop μ-loop
 returns c =
-    let a = c .before .args in
+    let a = c .before .before .args in
     task-late
-    (columnSystem (guestsTake (a .capacities .now) (a .periods .now) (a .n)) (a .capacity) (a .period) (a .run .now) (a .every .now))
+    (columnSystem (guestsTake (a .capacities .now) (a .periods .now) (a .n)) (a .capacity) (a .period) (a .run .now)
+    (a .every .now) (a .late .now))
     _ _ (c .if1 .taken)
 
 sub-room : tie.Need-sub-room Inv-loop μ-loop
@@ -33,21 +37,24 @@ sub-room c = search needs
 
 loop-holds : tie.Need-loop-holds Inv-loop μ-loop
 loop-holds c =
-    let a = c .before .args in
+    let a = c .before .before .args in
     let above = guestsTake (a .capacities .now) (a .periods .now) (a .n) in
-    let S = columnSystem above (a .capacity) (a .period) (a .run .now) (a .every .now) in
-    task-start (regular S (take-grows _ _ _) _ (c .before .pre .1) .1) (omega arith) (omega arith)
+    let S = columnSystem above (a .capacity) (a .period) (a .run .now) (a .every .now) (a .late .now) in
+    let s = c .before .before .pre in
+    task-start (regular S (take-grows _ _ _) _ (s .1 .0) .1) (omega arith) (omega (arith, s .1 .1 .0))
 
 right-of-requires : tie.Need-right-of-requires Inv-loop μ-loop
 right-of-requires c κs =
-    let s = c .before .before .pre in
-    ((s .0, (s .1 .some, (s .1 .within, s .1 .runs))), omega (arith, c .loop .inv .high))
+    let s = c .before .before .before .pre in
+    let ready = s .1 .0 in
+    let i = c .loop .inv in
+    ((s .0, (ready .some, (ready .within, ready .runs))), (omega (arith, i .high, i .short), s .1 .1 .1))
 
 wide-requires : tie.Need-wide-requires Inv-loop μ-loop
 wide-requires c κs = search needs
 
-add-t17 : tie.Need-add-t17 Inv-loop μ-loop
-add-t17 c = omega (arith, c .before .before .before .loop .inv .high)
+add-t22 : tie.Need-add-t22 Inv-loop μ-loop
+add-t22 c = omega (arith, c .before .before .before .loop .inv .high)
 
 returns-2 : tie.Need-returns-2 Inv-loop μ-loop
 unfolding taskUnder responseOf
@@ -80,13 +87,14 @@ task-response-spec =
     (tie.spec
     Inv-loop
     μ-loop
-    sub-gap
+    mul-gap
+    element-copy-out-gap
     returns
     sub-room
     loop-holds
     right-of-requires
     wide-requires
-    add-t17
+    add-t22
     returns-2
     wide-requires-2
     returns-3

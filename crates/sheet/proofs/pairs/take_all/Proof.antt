@@ -16,16 +16,17 @@ use Rattle.sheet.proofs.pairs.take_all.Statement.{statement}
 use Rattle.sheet.proofs.pairs.take_all.Tie as tie
 
 abbrev Inv-loop : tie.InvT-loop
-Inv-loop pairs answers₀ ids tasks runs periods n rest₀ wait₀ age₀ i₀ answers rest wait age i =
+Inv-loop pairs answers₀ ids tasks barred clear runs periods n rest₀ wait₀ age₀ i₀ answers rest wait age i =
     ((i ≤ length pairs) × (length answers ≡ length answers₀))
     × ((p : Plan) (left position usage : List ℕ)
-    → SheetColumns p n ids tasks runs periods
+    → SheetColumns p n position ids tasks barred runs periods
     → stateOk (stateOf p left position rest₀ wait₀ age₀ usage) ≡ true
     → TakenTo i (stateOf p left position rest₀ wait₀ age₀ usage)
     (stateOf p left position rest wait age usage) pairs answers₀ answers)
 
 abbrev μ-loop : tie.MeasureT-loop
-μ-loop pairs answers₀ ids tasks runs periods n rest₀ wait₀ age₀ i₀ answers rest wait age i = length pairs - i
+μ-loop pairs answers₀ ids tasks barred clear runs periods n rest₀ wait₀ age₀ i₀ answers rest wait age i =
+    length pairs - i
 
 loop-holds : tie.Need-loop-holds Inv-loop μ-loop
 loop-holds c = ((search needs, refl), λ p left position usage S ok. taken-none _ _ _)
