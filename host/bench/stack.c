@@ -1,4 +1,5 @@
-/* Prints the bytes of stack that each export takes, on a full plan: 8 guests of 16 tasks, every second one bound.
+/* Prints the bytes of stack that each export takes, on a full plan: 8 guests of 16 tasks, every second guest Deferrable
+ * and every second task bound.
  *
  * A call is made on a thread whose stack was painted first. What it takes is
  * - its arguments by value, which the caller puts on the stack, and
@@ -115,7 +116,7 @@ static void make_plan(void) {
     plan.count = GUESTS;
     for (uint32_t g = 0; g < GUESTS; g++) {
         CsGuest *guest = &plan.guests[g];
-        *guest = (CsGuest){.id = g + 1, .capacity = 1000, .tasks = TASKS, .charge = 1};
+        *guest = (CsGuest){.id = g + 1, .capacity = 500, .tasks = TASKS, .charge = 1, .deferrable = g % 2};
         for (uint32_t t = 0; t < TASKS; t++) {
             guest->run[t] = 20 + t;
             guest->every[t] = guest->deadline[t] = 900000 + 6250 * t;

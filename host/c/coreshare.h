@@ -1,7 +1,7 @@
 /* The core-sharing library's C interface, for x86-64. Link libcoreshare.a, which `rt staticlib coreshare` writes.
  *
  * On one core, up to 8 guests share the time, each with up to 16 tasks. Every rule stands in document 01,
- * as the requests P1 to P8 of document 02 change it.
+ * as the requests P1 to P9 of document 02 change it.
  *
  * - Records and states cross by value, and bytes are lent for the call alone: the library keeps no pointer and
  *   no state of its own, so calls from several threads need no lock.
@@ -9,11 +9,11 @@
  *   refused by its number. Number 0 is no refusal; the place of a refusal 7 to 15, or 17, is 0.
  * - A pointer must be good for its length, for the whole call, and not be NULL even where the length is 0. The library
  *   does not test that, and promises nothing where it does not hold.
- * - A CsGuest is 212 bytes, a CsPlan 1,700, a CsDispatcher 3,440 and aligned to 8. They cross on the stack, there and
+ * - A CsGuest is 216 bytes, a CsPlan 1,732, a CsDispatcher 3,472 and aligned to 8. They cross on the stack, there and
  *   back; docs/FIGURES.md has the stack that each call takes, as measured.
  * - CsDispatcher has four bytes of padding before usage, CsTicked four at its end. The library neither reads nor
  *   promises them: compare states field by field, not by memcmp, and clear them before their bytes are sent anywhere.
- * - The marks of a CsGuest stand where two bytes of padding were: a host that left those as they came sets them now.
+ * - A CsGuest has grown by deferrable, before its arrays: a host is compiled anew, and sets it and the marks.
  * - Like any compiled C, the library may call memcpy, memmove, memset and memcmp, also where there is no C library.
  */
 #ifndef CORESHARE_H
@@ -35,8 +35,12 @@ extern "C" {
 /* One guest's record. Entries and marks past the number of tasks are not looked at.
  *
  * A task with a mark is bound to its guest's period: its own period is a multiple of the guest's, its release is taken
- * only while the guest's position is 0, and its response has no gap of period less capacity in it. A record with a mark
- * among its tasks' is written as a block of kind 2, any other as one of kind 1. */
+ * only while the guest's position is 0, and its response has no gap of period less capacity in it.
+ *
+ * A Deferrable guest is passed over while none of its tasks has run left, and keeps its capacity until its period ends;
+ * guests and tasks below it are judged with its jitter of period less capacity. A Periodic guest idles such ticks away.
+ *
+ * A record that is Deferrable, or has a mark among its tasks', is written as a block of kind 2, any other as kind 1. */
 typedef struct CsGuest {
     uint32_t id;           /* not 0, once in a plan */
     uint32_t capacity;     /* 1 to the period */
@@ -44,6 +48,7 @@ typedef struct CsGuest {
     uint32_t tasks;        /* number of tasks, 1 to 16 */
     uint16_t charge;       /* added twice to every task's run: the switch in and the switch out */
     uint16_t marks;        /* which tasks are bound, bit 0 for task 1 and so on; 0 for none */
+    uint32_t deferrable;   /* 0 for a Periodic guest, any other number for a Deferrable one, which is read as 1 */
     uint32_t run[16];      /* 1 to 1,000,000 */
     uint32_t every[16];    /* the task's period, 1 to 1,000,000; of a bound task a multiple of the guest's */
     uint32_t deadline[16]; /* 1 to the task's period */
@@ -89,8 +94,8 @@ typedef struct CsLocated {
  *
  * Beside it stands where the ticks went. A tick that is done adds 1
  * - to usage[g] if guest g had it, and to usage[8 + g] too if none of its tasks had run left and so it idled the
- *   tick away;
- * - to usage[16] if no guest had capacity left.
+ *   tick away, which a Deferrable guest never does;
+ * - to usage[16] if no guest had it.
  * Nothing else changes these numbers: a release leaves them, a run adds what its single ticks would, and a refused
  * call hands them back as they came. After 2^64 - 1 each goes on at 0. They have no range: any numbers are taken
  * and refusal 14 does not look at them, so a host may set them to 0 whenever it likes. From a fresh state on,
@@ -140,9 +145,10 @@ typedef struct CsRun {
 } CsRun;
 
 /* Reads a plan's blocks.
- * Refusals: 1 for the length; then block by block 2 sum, 3 kind (neither 1, nor 2 with marks) or place, 4 id, capacity,
- * period or number of tasks, 5 a byte that must be zero or a mark past the tasks, 6 a task's run, period (of a bound
- * task, also if it is no multiple of the guest's) or deadline; 2 to 6 with the block's place. */
+ * Refusals: 1 for the length; then block by block 2 sum, 3 kind (neither 1, nor 2 with marks or a 1 in byte 22) or
+ * place, 4 id, capacity, period or number of tasks, 5 a byte that must be zero, a mark past the tasks or another value
+ * of byte 22, 6 a task's run, period (of a bound task, also if it is no multiple of the guest's) or deadline; 2 to 6
+ * with the block's place. */
 CsRead cs_read(const uint8_t *bytes, size_t length);
 
 /* Checks records as a plan.
@@ -182,7 +188,7 @@ CsVerdict cs_smallest_capacity(CsPlan plan, uint32_t id);
  * - the plan's, those of cs_read;
  * - then the sheet's, with the position in the sheet as the place: 1 for the length, with place 0; then block by block
  *   2 sum, 3 kind alone, 4 id (0, or that of an earlier block of the sheet), capacity, period or number of tasks, 5 a
- *   byte that must be zero or a mark past the tasks, 6 a task;
+ *   byte that must be zero, a mark past the tasks or another value of byte 22, 6 a task;
  * - then 16 for the first block of the sheet whose id is not in the plan, or whose place is not its guest's. */
 
 /* Finds a guest's block: with number 0 it is the 512 bytes from 512 * place on, of the sheet if sheet is 1, else of the

@@ -1,5 +1,5 @@
-/* Plan A of document 01 from C: its blocks written, read and judged, an amendment to it tried, a task bound, and its
- * dispatcher run until a job finishes; then where the ticks went, and last a sheet of releases.
+/* Plan A of document 01 from C: its blocks written, read and judged, an amendment to it tried, a task bound, its guests
+ * made Deferrable, and its dispatcher run until a job finishes; then where the ticks went, and last a sheet of releases.
  * From this folder: cc -O2 example.c ../../target/staticlib/libcoreshare.a -o example */
 #include "coreshare.h"
 
@@ -109,6 +109,20 @@ static int bind_a_task(CsPlan plan) {
     return 0;
 }
 
+/* Both guests Deferrable: guest 9 and its tasks have longer responses, and guest 7 is passed over while it has no work. */
+static int make_deferrable(CsPlan plan) {
+    plan.guests[0].deferrable = plan.guests[1].deferrable = 1;
+    printf("Deferrable, guest 9 is fitted %u and its tasks are met %u and %u\n", cs_guest_verdict(plan, 9).ticks,
+           cs_task_verdict(plan, 9, 1).ticks, cs_task_verdict(plan, 9, 2).ticks);
+    CsReleased released = cs_release(cs_fresh(plan).dispatcher, 9, 1);
+    if (refused("release", released.refusal)) {
+        return 1;
+    }
+    CsTicked ticked = cs_tick(released.dispatcher);
+    printf("guest %u has the first tick, and guest 7 has %u left\n", ticked.answer.guest, ticked.dispatcher.left[0]);
+    return 0;
+}
+
 static void print_usage(const CsDispatcher *dispatcher) {
     for (uint32_t at = 0; at < dispatcher->plan.count; at++) {
         printf("guest %u had %" PRIu64 " ticks and idled %" PRIu64 " of them away\n", dispatcher->plan.guests[at].id,
@@ -163,7 +177,7 @@ int main(void) {
         return 1;
     }
     print_verdicts(&read.plan);
-    if (try_an_amendment(bytes, sizeof bytes) || bind_a_task(read.plan)) {
+    if (try_an_amendment(bytes, sizeof bytes) || bind_a_task(read.plan) || make_deferrable(read.plan)) {
         return 1;
     }
     return run_until_finished(&read.plan);

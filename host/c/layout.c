@@ -17,6 +17,7 @@ static void records(void) {
     FIELD(CsGuest, tasks);
     FIELD(CsGuest, charge);
     FIELD(CsGuest, marks);
+    FIELD(CsGuest, deferrable);
     FIELD(CsGuest, run);
     FIELD(CsGuest, every);
     FIELD(CsGuest, deadline);

@@ -1,4 +1,5 @@
 pub mod Place
 pub mod Ranges
 pub mod Parts
+pub mod Claims
 pub mod Usage

@@ -1,4 +1,5 @@
 // The dispatcher's numbers in lent arrays: the parts of a tick, and where it went.
+mod claim;
 mod jobs;
 mod server;
 mod usage;

@@ -1,24 +1,25 @@
 -- How the code comes to a block's number, and what a block that passes says. Assumes nothing.
 use mathlib.Core.Path.{_≡_, refl, sym, _∙_}
-use mathlib.Core.Bool.{Bool, true, false, _&&_}
+use mathlib.Core.Bool.{Bool, true, false, _&&_, _||_}
 use mathlib.Core.List.{List, []}
 use Prim.Native.Nat.{ℕ, _+_, _-_, _*_, _%_, _^_, _≤_, _<_}
+use native.Mathlib.Decide.{decLt}
 use native.Mathlib.Nat.{one-le-pow}
 use native.Mathlib.Omega.{arith}
 use lib.Dec.{leb, ltb, eqb}
-use borrow.Author.Tests.{ltb-true, eq-eqb, eqb-true, ne-eqb, lt-ltb, le-ltb}
+use borrow.Author.Tests.{ltb-true, leb-true, eq-eqb, eqb-true, ne-eqb, lt-ltb, le-ltb, le-leb, lt-leb}
 use Rattle.plan.specs.Ranges.{mostTasks, guestOk, taskOk, startOk, tasksOk}
 use Rattle.plan.specs.Marks.{marked}
 use Rattle.lists.specs.Choice.{pick}
 use Rattle.lists.specs.Places.{nth}
 use Rattle.words.specs.Word.{word}
-use Rattle.block.specs.Reading.{kindIn, taskCount, marksIn, column, guestOf, sumsToZero, kindOk, zeroBetween, markable, marksOk, zerosOk, blockNumber}
+use Rattle.block.specs.Reading.{kindIn, taskCount, marksIn, serverHalf, serverIn, column, guestOf, sumsToZero, kindOk, zeroBetween, markable, lastServer, marksOk, zerosOk, blockNumber}
 use Rattle.lists.specs.Exactly.{_exactlyWhen_}
 use Rattle.lists.specs.All.{allTo}
-use Rattle.block.specs.Layout.{unmarkedKind, markedKind, periodWord, marksWord, runWord, everyWord, deadlineWord}
+use Rattle.block.specs.Layout.{plainKind, extendedKind, deferrableServer, periodWord, marksServerWord, runWord, everyWord, deadlineWord, lowHalf, highHalf}
 use Rattle.plan.proofs.MarksLaws.{moved-up}
 use Rattle.plan.proofs.RangesLaws.{head-says}
-use Rattle.lists.proofs.All.{and-left, and-true, all-at}
+use Rattle.lists.proofs.All.{and-left, and-right, and-true, all-at}
 use Rattle.lists.proofs.Table.{table-at}
 use Rattle.lists.proofs.Refusals.{none-left, go-on, stop, passed}
 
@@ -68,45 +69,68 @@ some-in-block b new e =
     let h = head-says _ _ _ _ (and-left (guestOk (guestOf b)) new e) in omega (arith, h .some, h .fits)
 
 -- Kind 1 passes.
-pub kind-one : (b : List ℕ) (kind : ℕ) → kind ≡ kindIn b → kind ≡ unmarkedKind → true ≡ kindOk b
-kind-one b kind p e = rw (eq-eqb (kindIn b) unmarkedKind (sym p ∙ e)) refl
+pub kind-one : (b : List ℕ) (kind : ℕ) → kind ≡ kindIn b → kind ≡ plainKind → true ≡ kindOk b
+kind-one b kind p e = rw (eq-eqb (kindIn b) plainKind (sym p ∙ e)) refl
 
 -- The test of another kind.
-pub kind-other : (b : List ℕ) (kind marks : ℕ) → kind ≡ kindIn b → marks ≡ marksIn b → (kind ≡ unmarkedKind → ⊥)
-    → (eqb kind markedKind && leb 1 marks) ≡ kindOk b
-kind-other b kind marks p q n = rw (p, q, ne-eqb (kindIn b) unmarkedKind (λ e. n (p ∙ e))) refl
+pub kind-other : (b : List ℕ) (kind marks server : ℕ) → kind ≡ kindIn b → marks ≡ marksIn b → server ≡ serverIn b
+    → (kind ≡ plainKind → ⊥)
+    → (eqb kind extendedKind && (leb 1 marks || eqb server deferrableServer)) ≡ kindOk b
+kind-other b kind marks server p q r n = rw (p, q, r, ne-eqb (kindIn b) plainKind (λ e. n (p ∙ e))) refl
 
--- Zero passes the test of the marks.
-pub no-marks : (b : List ℕ) (w : ℕ) → w ≡ word b marksWord → w < 1 → true ≡ marksOk b
+-- Zero passes the test of marks and server.
+pub no-marks : (b : List ℕ) (w : ℕ) → w ≡ word b marksServerWord → w < 1 → true ≡ marksOk b
 unfolding marksOk
 no-marks b w p l =
     let s : 1 ≤ 2 ^ markable b = one-le-pow (markable b) 2 (omega arith) in
-    sym (lt-ltb (word b marksWord) (2 ^ markable b) (omega (arith, p, l, s)))
+    sym
+    (and-true (lt-ltb (marksIn b) (2 ^ markable b) (omega (arith, p, l, s)))
+    (le-leb (serverHalf b) (lastServer b) (omega (arith, p, l))))
 
--- The test of marks that are not zero, with a power of two that is made by a shift.
+-- The test of a word that is not zero, with a power of two that is made by a shift.
 marks-by : (two : Bool) (w n : ℕ) → n ≤ mostTasks → 1 ≤ w
-    → (two && ltb w (1 * 2 ^ n % 4294967296)) ≡ ltb w (2 ^ pick two n 0)
+    → (two && ltb (lowHalf w) (1 * 2 ^ n % 4294967296) && leb (highHalf w) deferrableServer)
+    ≡ (ltb (lowHalf w) (2 ^ pick two n 0) && leb (highHalf w) (pick two deferrableServer 0))
 marks-by true w n h l = rw (moved-up n h) refl
-marks-by false w n h l = sym (le-ltb w 1 l)
+marks-by false w n h l =
+    elim (decLt (lowHalf w) 1) [
+      | yes m ↦ rw (lt-ltb (lowHalf w) 1 m, lt-leb (highHalf w) 0 (omega arith)) refl
+      | no m ↦ rw (le-ltb (lowHalf w) 1 (omega arith)) refl
+    ]
 
-pub marks-are : (b : List ℕ) (w kind n : ℕ) → w ≡ word b marksWord → kind ≡ kindIn b → n ≡ taskCount b → n ≤ mostTasks
-    → 1 ≤ w
-    → (eqb kind markedKind && ltb w (1 * 2 ^ n % 4294967296)) ≡ marksOk b
+pub marks-are : (b : List ℕ) (w kind n : ℕ) → w ≡ word b marksServerWord → kind ≡ kindIn b → n ≡ taskCount b
+    → n ≤ mostTasks → 1 ≤ w
+    → (eqb kind extendedKind && ltb (lowHalf w) (1 * 2 ^ n % 4294967296) && leb (highHalf w) deferrableServer)
+    ≡ marksOk b
 unfolding marksOk
-marks-are b w kind n p q s h l = marks-by (eqb kind markedKind) w n h l ∙ rw (p, q, s) refl
+marks-are b w kind n p q s h l = marks-by (eqb kind extendedKind) w n h l ∙ rw (p, q, s) refl
 
--- In kind 2 the tasks alone can have marks.
-pub marks-of-two : (b : List ℕ) → kindIn b ≡ markedKind
-    → (marksOk b ≡ true) exactlyWhen (word b marksWord < 2 ^ taskCount b)
+-- In kind 2 the tasks alone can have marks, and the server is one of two.
+pub marks-of-two : (b : List ℕ) → kindIn b ≡ extendedKind
+    → (marksOk b ≡ true) exactlyWhen ((marksIn b < 2 ^ taskCount b) × (serverHalf b ≤ deferrableServer))
 unfolding marksOk
-marks-of-two b e = rw (eq-eqb (kindIn b) markedKind e) (ltb-true _ _, lt-ltb _ _)
+marks-of-two b e =
+    rw (eq-eqb (kindIn b) extendedKind e) (
+      λ m. (
+        ltb-true _ _ (and-left (ltb (marksIn b) (2 ^ taskCount b)) _ m),
+        leb-true _ _ (and-right (ltb (marksIn b) (2 ^ taskCount b)) _ m),
+      ),
+      λ m. and-true (lt-ltb _ _ (m .0)) (le-leb _ _ (m .1)),
+    )
 
--- In another kind nothing can have marks.
-pub marks-of-other : (b : List ℕ) → (kindIn b ≡ markedKind → ⊥) → (marksOk b ≡ true) exactlyWhen (word b marksWord ≡ 0)
+-- In another kind nothing can have marks, and the server is Periodic.
+pub marks-of-other : (b : List ℕ) → (kindIn b ≡ extendedKind → ⊥)
+    → (marksOk b ≡ true) exactlyWhen (word b marksServerWord ≡ 0)
 unfolding marksOk
 marks-of-other b n =
-    rw (ne-eqb (kindIn b) markedKind n)
-    (λ e. omega (arith, ltb-true (word b marksWord) 1 e), λ e. lt-ltb (word b marksWord) 1 (omega (arith, e)))
+    rw (ne-eqb (kindIn b) extendedKind n) (
+      λ e.
+          let m = ltb-true (marksIn b) 1 (and-left (ltb (marksIn b) 1) _ e) in
+          let s = leb-true (serverHalf b) 0 (and-right (ltb (marksIn b) 1) _ e) in
+          omega (arith, m, s),
+      λ e.
+          and-true (lt-ltb (marksIn b) 1 (omega (arith, e))) (le-leb (serverHalf b) 0 (omega (arith, e))),
+    )
 
 -- The tasks' test on numbers and columns that are the block's.
 pub tasks-are : (b : List ℕ) (m p : ℕ) (r e d : List ℕ) (n : ℕ)

@@ -4,7 +4,6 @@ use mathlib.Core.Bool.{true, _&&_}
 use mathlib.Core.List.{List}
 use Prim.Native.Nat.{ℕ, zero, suc, _+_, _*_, _-_, _/_, _%_, _^_, _≤_, _<_}
 use native.Mathlib.Decide.{decLt, ℕ-discrete}
-use native.Mathlib.Nat.{pow-le-pow-right}
 use native.Mathlib.Omega.{arith}
 use borrow.Author.Tests.{eq-eqb, eqb-true}
 use Rattle.lists.specs.All.{allTo}
@@ -15,7 +14,7 @@ use Rattle.words.specs.Wrap.{wrapped}
 use Rattle.words.specs.Bytes.{Bytes}
 use Rattle.plan.specs.Ranges.{mostTasks}
 use Rattle.lists.specs.Exactly.{_exactlyWhen_}
-use Rattle.block.specs.Layout.{blockWords, kindPlaceWord, markedKind, idWord, capacityWord, periodWord, tasksChargeWord, marksWord, spareFrom, spareTo, runWord, everyWord, deadlineWord, unusedFrom, checkWord, lowHalf, highHalf, halfWrap}
+use Rattle.block.specs.Layout.{blockWords, kindPlaceWord, extendedKind, idWord, capacityWord, periodWord, tasksChargeWord, marksServerWord, spareFrom, spareTo, runWord, everyWord, deadlineWord, unusedFrom, checkWord, lowHalf, highHalf}
 use Rattle.block.specs.Reading.{kindIn, taskCount, column, zeroBetween, marksOk, zerosOk}
 use Rattle.block.specs.Table.{ZeroBytes, ZerosStand, InBytes}
 use Rattle.lists.proofs.All.{and-left, and-right, and-true, all-by}
@@ -69,60 +68,60 @@ zero-bytes b from to = (
       ) refl)),
 )
 
--- A block of kind 2 has marks of which none is past the tasks, and zero beside them.
-marked-stand : (b : List ℕ) → Bytes b → taskCount b ≤ mostTasks → kindIn b ≡ markedKind
-    → (marksOk b ≡ true) exactlyWhen ((u16At b 20 < 2 ^ taskCount b) × ZeroBytes b 22 24)
-marked-stand b h few t =
-    let w = word-bytes b marksWord in
-    let s : 2 ^ taskCount b ≤ 2 ^ mostTasks = pow-le-pow-right (omega arith) few in (
+-- A block of kind 2 has marks of which none is past the tasks, a server beside them, and zero in byte 23.
+extended-stand : (b : List ℕ) → Bytes b → kindIn b ≡ extendedKind
+    → (marksOk b ≡ true) exactlyWhen ((u16At b 20 < 2 ^ taskCount b) × ((nth b 22 ≤ 1) × (nth b 23 ≡ 0)))
+extended-stand b h t =
+    let low = low-bytes b marksServerWord h in
+    let high = high-bytes b marksServerWord h in (
       λ e.
-          let l = marks-of-two b t .0 e in
-          (omega (arith, w, l), λ i f u. high-zero b h (omega (arith, l, s)) i f u),
-      λ z.
-          let first = z .1 22 (omega arith) (omega arith) in
-          let second = z .1 23 (omega arith) (omega arith) in
-          marks-of-two b t .1 (omega (arith, w, z .0, first, second)),
+          let m = marks-of-two b t .0 e in
+          (rw (← low) (m .0), (omega (arith, high, m .1), omega (arith, high, m .1))),
+      λ z. marks-of-two b t .1 (rw low (z .0), omega (arith, high, z .1 .0, z .1 .1)),
     )
-  where
-    high-zero : (b : List ℕ) → Bytes b → word b marksWord < halfWrap → ZeroBytes b 22 24
-    high-zero b h l i f u = elim (decLt i 23) [
-      | yes m ↦ let e : i ≡ 22 = omega arith in rw e (omega (arith, high-bytes b marksWord h))
-      | no m ↦ let e : i ≡ 23 = omega arith in rw e (omega (arith, high-bytes b marksWord h))
-    ]
 
 -- A block of another kind has zero there.
-unmarked-stand : (b : List ℕ) → (kindIn b ≡ markedKind → ⊥) → (marksOk b ≡ true) exactlyWhen ZeroBytes b 20 24
+plain-stand : (b : List ℕ) → (kindIn b ≡ extendedKind → ⊥) → (marksOk b ≡ true) exactlyWhen ZeroBytes b 20 24
 unfolding zeroBetween allTo
-unmarked-stand b t =
-    let zero = zero-bytes b marksWord spareFrom in (
-      λ e. zero .0 (eq-eqb (word b marksWord) 0 (marks-of-other b t .0 e)),
+plain-stand b t =
+    let zero = zero-bytes b marksServerWord spareFrom in (
+      λ e. zero .0 (eq-eqb (word b marksServerWord) 0 (marks-of-other b t .0 e)),
       λ z.
           marks-of-other b t .1
-          (zero-at b marksWord spareFrom marksWord (omega arith) (omega arith) (zero .1 z)),
+          (zero-at b marksServerWord spareFrom marksServerWord (omega arith) (omega arith) (zero .1 z)),
     )
 
--- The bytes of the marks' word, whatever the kind is.
-marks-stand : (b : List ℕ) → Bytes b → taskCount b ≤ mostTasks
-    → (marksOk b ≡ true) exactlyWhen
-    (((u16At b 0 ≡ 2 → ⊥) → ZeroBytes b 20 22)
-    × ((u16At b 0 ≡ 2 → u16At b 20 < 2 ^ taskCount b) × ZeroBytes b 22 24))
-marks-stand b h few =
+-- What bytes 20-23 are, whatever the kind is.
+pub record MarksStand (b : List ℕ) (n : ℕ) : Type 0 where
+  pub plain : (u16At b 0 ≡ 2 → ⊥) → ZeroBytes b 20 23
+  pub marked : u16At b 0 ≡ 2 → u16At b 20 < 2 ^ n
+  pub served : u16At b 0 ≡ 2 → nth b 22 ≤ 1
+  pub last : nth b 23 ≡ 0
+
+marks-stand : (b : List ℕ) → Bytes b → (marksOk b ≡ true) exactlyWhen MarksStand b (taskCount b)
+marks-stand b h =
     let k = low-bytes b kindPlaceWord h in
-    elim (ℕ-discrete (kindIn b) markedKind) [
-      | yes t ↦ let two = marked-stand b h few t in (
-        λ e. (λ n. absurd (n (sym k ∙ t)), (λ _. two .0 e .0, two .0 e .1)),
-        λ z. two .1 (z .1 .0 (sym k ∙ t), z .1 .1),
+    elim (ℕ-discrete (kindIn b) extendedKind) [
+      | yes t ↦ let two = extended-stand b h t in (
+        λ e. record {
+          plain = λ n. absurd (n (sym k ∙ t));
+          marked = λ _. two .0 e .0;
+          served = λ _. two .0 e .1 .0;
+          last = two .0 e .1 .1;
+        },
+        λ z. two .1 (z .marked (sym k ∙ t), (z .served (sym k ∙ t), z .last)),
       )
-      | no t ↦ let other = unmarked-stand b t in (
-        λ e. (
-          λ n i f u. other .0 e i f (omega arith),
-          (λ q. absurd (t (k ∙ q)), λ i f u. other .0 e i (omega arith) u),
-        ),
-        λ z.
-            other .1 (λ i f u. elim (decLt i 22) [
-              | yes m ↦ z .0 (λ q. t (k ∙ q)) i f m
-              | no m ↦ z .1 .1 i (omega arith) u
-            ]),
+      | no t ↦ let other = plain-stand b t in (
+        λ e. record {
+          plain = λ n i f u. other .0 e i f (omega arith);
+          marked = λ q. absurd (t (k ∙ q));
+          served = λ q. absurd (t (k ∙ q));
+          last = other .0 e 23 (omega arith) (omega arith);
+        },
+        λ z. other .1 (λ i f u. elim (decLt i 23) [
+          | yes m ↦ z .plain (λ q. t (k ∙ q)) i f m
+          | no m ↦ let e : i ≡ 23 = omega arith in rw e (z .last)
+        ]),
       )
     ]
 
@@ -130,7 +129,7 @@ marks-stand b h few =
 zeros-stand : (b : List ℕ) → Bytes b → taskCount b ≤ mostTasks
     → (zerosOk b ≡ true) exactlyWhen ZerosStand b (taskCount b)
 zeros-stand b h few =
-    let marks = marks-stand b h few in
+    let marks = marks-stand b h in
     let spare = zero-bytes b spareFrom spareTo in
     let past = zero-bytes b (unusedFrom (taskCount b)) checkWord in (
       λ e.
@@ -139,15 +138,25 @@ zeros-stand b h few =
           let s = spare .0 (and-right (marksOk b) _ l) in
           let z = past .0 (and-right (marksOk b && zeroBetween b spareFrom spareTo) _ e) in
           record {
-            unmarked = m .0;
-            marked = m .1 .0;
-            spare = λ i l u. elim (decLt i 24) [ yes q ↦ m .1 .1 i l q | no q ↦ s i (omega arith) u ];
+            plain = m .plain;
+            marked = m .marked;
+            served = m .served;
+            spare = λ i l u. elim (decLt i 24) [
+              | yes q ↦ let e : i ≡ 23 = omega arith in rw e (m .last)
+              | no q ↦ s i (omega arith) u
+            ];
             past-tasks = λ i l u. z i (omega arith) (omega arith);
             past-entries = λ i l u. z i (omega arith) (omega arith);
           },
       λ z.
           and-true
-          (and-true (marks .1 (z .unmarked, (z .marked, λ i l u. z .spare i l (omega arith))))
+          (and-true
+          (marks .1 record {
+            plain = z .plain;
+            marked = z .marked;
+            served = z .served;
+            last = z .spare 23 (omega arith) (omega arith);
+          })
           (spare .1 (λ i l u. z .spare i (omega arith) u)))
           (past .1 (λ i l u. elim (decLt i 224) [
             | yes q ↦ z .past-tasks i (omega arith) q
@@ -171,7 +180,8 @@ in-bytes b h = record {
   period = word-bytes b periodWord;
   tasks = low-bytes b tasksChargeWord h;
   charge = high-bytes b tasksChargeWord h;
-  marks = low-bytes b marksWord h;
+  marks = low-bytes b marksServerWord h;
+  server = omega (arith, high-bytes b marksServerWord h, h 22);
   run = λ i l. entry-bytes b runWord 32 i l (omega arith);
   every = λ i l. entry-bytes b everyWord 36 i l (omega arith);
   deadline = λ i l. entry-bytes b deadlineWord 40 i l (omega arith);

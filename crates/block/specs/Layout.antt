@@ -14,13 +14,13 @@ blockWords = 128
 abbrev pub kindPlaceWord : ℕ
 kindPlaceWord = 0
 
--- A block of this kind has no marks.
-abbrev pub unmarkedKind : ℕ
-unmarkedKind = 1
+-- A block of this kind has no marks, and its server is Periodic.
+abbrev pub plainKind : ℕ
+plainKind = 1
 
--- A block of this kind has marks.
-abbrev pub markedKind : ℕ
-markedKind = 2
+-- A block of this kind has marks or a Deferrable Server.
+abbrev pub extendedKind : ℕ
+extendedKind = 2
 
 -- The last place in a plan of 8 guests, from 0.
 abbrev pub lastPlace : ℕ
@@ -42,9 +42,14 @@ periodWord = 3
 abbrev pub tasksChargeWord : ℕ
 tasksChargeWord = 4
 
--- Bytes 20-21, the low half of this word, are the marks of the tasks; bytes 22-23, its high half, are zero.
-abbrev pub marksWord : ℕ
-marksWord = 5
+-- Bytes 20-21, the low half of this word, are the marks of the tasks; of its high half byte 22 is the server, and byte
+-- 23 is zero.
+abbrev pub marksServerWord : ℕ
+marksServerWord = 5
+
+-- This number in byte 22 is a Deferrable Server; a Periodic one is 0.
+abbrev pub deferrableServer : ℕ
+deferrableServer = 1
 
 -- Bytes 24-31 are zero; they start at this word.
 abbrev pub spareFrom : ℕ
@@ -81,6 +86,10 @@ checkWord = 127
 -- A half of a word holds the numbers below this.
 abbrev pub halfWrap : ℕ
 halfWrap = 65536
+
+-- A byte holds the numbers below this.
+abbrev pub byteWrap : ℕ
+byteWrap = 256
 
 -- The low half of a word.
 abbrev pub lowHalf : ℕ → ℕ

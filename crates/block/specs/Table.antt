@@ -16,18 +16,19 @@ use Rattle.block.specs.Reading.{kindIn, placeIn, guestOf, sumsToZero, ze
 abbrev pub ZeroBytes : List ℕ → (from to : ℕ) → Type 0
 ZeroBytes b from to = (i : ℕ) → from ≤ i → i < to → nth b i ≡ 0
 
--- The bytes that must be zero in a block of n tasks are: bytes 20-21 but in kind 2, which has marks there of which none
--- is past the tasks; bytes 22-31, the entries past the tasks, and bytes 224-507.
+-- The bytes that must be zero in a block of n tasks are: bytes 20-22 but in kind 2, which has marks there of which none
+-- is past the tasks, and a server, 0 or 1; bytes 23-31, the entries past the tasks, and bytes 224-507.
 pub record ZerosStand (b : List ℕ) (n : ℕ) : Type 0 where
-  pub unmarked : (u16At b 0 ≡ 2 → ⊥) → ZeroBytes b 20 22
+  pub plain : (u16At b 0 ≡ 2 → ⊥) → ZeroBytes b 20 23
   pub marked : u16At b 0 ≡ 2 → u16At b 20 < 2 ^ n
-  pub spare : ZeroBytes b 22 32
+  pub served : u16At b 0 ≡ 2 → nth b 22 ≤ 1
+  pub spare : ZeroBytes b 23 32
   pub past-tasks : ZeroBytes b (32 + 12 * n) 224
   pub past-entries : ZeroBytes b 224 508
 
 -- The table has a field for each line: bytes 0-1 are the kind, 2-3 the place, 4-7 the id, 8-11 the capacity, 12-15 the
--- period, 16-17 the number of tasks, 18-19 the charge, 20-21 the marks, 32-223 the entries of 12 bytes, and 508-511 the
--- check; the bytes that must be zero are those of the lines between them.
+-- period, 16-17 the number of tasks, 18-19 the charge, 20-21 the marks, 22 the server, 32-223 the entries of 12 bytes,
+-- and 508-511 the check; the bytes that must be zero are those of the lines between them.
 pub record InBytes (b : List ℕ) : Type 0 where
   pub kind : kindIn b ≡ u16At b 0
   pub place : placeIn b ≡ u16At b 2
@@ -37,6 +38,7 @@ pub record InBytes (b : List ℕ) : Type 0 where
   pub tasks : guestOf b .tasks ≡ u16At b 16
   pub charge : guestOf b .charge ≡ u16At b 18
   pub marks : guestOf b .marks ≡ u16At b 20
+  pub server : guestOf b .deferrable ≡ nth b 22
   pub run : (i : ℕ) → i < mostTasks → runOf (guestOf b) i ≡ u32At b (32 + 12 * i)
   pub every : (i : ℕ) → i < mostTasks → everyOf (guestOf b) i ≡ u32At b (36 + 12 * i)
   pub deadline : (i : ℕ) → i < mostTasks → deadlineOf (guestOf b) i ≡ u32At b (40 + 12 * i)

@@ -6,9 +6,9 @@ pub const WORDS: usize = 128;
 
 pub const KIND_PLACE: usize = 0;
 
-pub const UNMARKED_KIND: u32 = 1;
+pub const PLAIN_KIND: u32 = 1;
 
-pub const MARKED_KIND: u32 = 2;
+pub const EXTENDED_KIND: u32 = 2;
 
 pub const LAST_PLACE: u32 = 7;
 
@@ -20,7 +20,9 @@ pub const PERIOD: usize = 3;
 
 pub const TASKS_CHARGE: usize = 4;
 
-pub const MARKS: usize = 5;
+pub const MARKS_SERVER: usize = 5;
+
+pub const DEFERRABLE_SERVER: u32 = 1;
 
 pub const SPARE_FROM: usize = 6;
 
@@ -37,3 +39,5 @@ pub const DEADLINE: usize = 10;
 pub const CHECK: usize = 127;
 
 pub const HALF: u32 = 65536;
+
+pub const BYTE: u32 = 256;

@@ -5,7 +5,7 @@ ghost use lib.ListN.{length};
 ghost use Rattle.words.specs.Word.{word};
 ghost use Rattle.plan.specs.Ranges.{mostTasks, guestOk, tasksOk};
 ghost use Rattle.block.specs.Layout.{blockSize, blockWords, periodWord, entryWords, checkWord};
-ghost use Rattle.block.specs.Reading.{kindIn, placeIn, idIn, taskCount, marksIn, column, guestOf, kindOk, zeroBetween, marksOk, zerosOk, blockNumber};
+ghost use Rattle.block.specs.Reading.{kindIn, placeIn, idIn, taskCount, marksIn, serverIn, column, guestOf, kindOk, zeroBetween, marksOk, zerosOk, blockNumber};
 use crate::layout;
 use plan::Guest;
 
@@ -22,19 +22,29 @@ fn marks_of(b: &[u8]) -> u32
     requires { ⌜ length (now b) ≡ blockSize ⌝ }
     ensures { λ r. ⌜ r ≡ marksIn (now (b .entry)) ⌝ }
 {
-    words::word_at(b, layout::MARKS) % layout::HALF
+    words::word_at(b, layout::MARKS_SERVER) % layout::HALF
 }
 
-// Whether the kind is a guest's, and has marks where it is the one that says so. In the other the marks are not read.
+// The server.
+fn server_of(b: &[u8]) -> u32
+    requires { ⌜ length (now b) ≡ blockSize ⌝ }
+    ensures { λ r. ⌜ r ≡ serverIn (now (b .entry)) ⌝ }
+{
+    words::word_at(b, layout::MARKS_SERVER) / layout::HALF % layout::BYTE
+}
+
+// Whether the kind is a guest's, and has marks or a Deferrable Server where it is the one that says so. In the other
+// neither is read.
 fn kind_ok(b: &[u8]) -> bool
     requires { ⌜ length (now b) ≡ blockSize ⌝ }
     ensures { λ r. ⌜ r ≡ kindOk (now (b .entry)) ⌝ }
 {
     let kind = kind_of(b);
-    if kind == layout::UNMARKED_KIND {
+    if kind == layout::PLAIN_KIND {
         return true;
     }
-    (kind == layout::MARKED_KIND) & (1 <= marks_of(b))
+    (kind == layout::EXTENDED_KIND)
+        & ((1 <= marks_of(b)) | (server_of(b) == layout::DEFERRABLE_SERVER))
 }
 
 // The place alone.
@@ -68,21 +78,24 @@ fn tasks_of(b: &[u8]) -> u32
     words::word_at(b, layout::TASKS_CHARGE) % layout::HALF
 }
 
-// Whether bytes 20-23 are zero, or those of kind 2 with no mark past the tasks. Where they are, no more is asked.
+// Whether bytes 20-23 are zero, or those of kind 2 with no mark past the tasks, and a server's. Where they are zero, no
+// more is asked.
 fn marks_ok(b: &[u8]) -> bool
     requires { ⌜ (length (now b) ≡ blockSize) × (taskCount (now b) ≤ mostTasks) ⌝ }
     ensures { λ r. ⌜ r ≡ marksOk (now (b .entry)) ⌝ }
 {
-    let w = words::word_at(b, layout::MARKS);
+    let w = words::word_at(b, layout::MARKS_SERVER);
     if w < 1 {
         return true;
     }
     let one: u32 = 1;
     let past = one << (tasks_of(b) as usize);
-    (kind_of(b) == layout::MARKED_KIND) & (w < past)
+    (kind_of(b) == layout::EXTENDED_KIND)
+        & (w % layout::HALF < past)
+        & (w / layout::HALF <= layout::DEFERRABLE_SERVER)
 }
 
-// Whether the bytes that must be zero are, and no mark is past the tasks.
+// Whether the bytes that must be zero are, no mark is past the tasks, and byte 22 is a server's.
 fn zeros_ok(b: &[u8]) -> bool
     requires { ⌜ (length (now b) ≡ blockSize) × (taskCount (now b) ≤ mostTasks) ⌝ }
     ensures { λ r. ⌜ r ≡ zerosOk (now (b .entry)) ⌝ }
@@ -123,10 +136,12 @@ pub fn decode(b: &[u8]) -> Guest
     let id = id_of(b);
     let capacity = words::word_at(b, layout::CAPACITY);
     let period = words::word_at(b, layout::PERIOD);
-    let w = words::word_at(b, layout::TASKS_CHARGE);
-    let tasks = w % layout::HALF;
-    let charge = (w / layout::HALF) as u16;
-    let marks = marks_of(b) as u16;
+    let tasks_charge = words::word_at(b, layout::TASKS_CHARGE);
+    let tasks = tasks_charge % layout::HALF;
+    let charge = (tasks_charge / layout::HALF) as u16;
+    let marks_server = words::word_at(b, layout::MARKS_SERVER);
+    let marks = (marks_server % layout::HALF) as u16;
+    let deferrable = marks_server / layout::HALF % layout::BYTE;
     let run = column_of(b, layout::RUN);
     let every = column_of(b, layout::EVERY);
     let deadline = column_of(b, layout::DEADLINE);
@@ -137,6 +152,7 @@ pub fn decode(b: &[u8]) -> Guest
         tasks,
         charge,
         marks,
+        deferrable,
         run,
         every,
         deadline,

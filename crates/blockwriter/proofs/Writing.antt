@@ -2,7 +2,8 @@
 use mathlib.Core.Path.{_≡_, refl, sym, ap, _∙_}
 use mathlib.Core.Bool.{true, false}
 use mathlib.Core.List.{List, [], _++_}
-use Prim.Native.Nat.{ℕ, zero, suc, _+_, _≤_, _<_}
+use Prim.Native.Nat.{ℕ, zero, suc, _+_, _^_, _≤_, _<_}
+use native.Mathlib.Nat.{pow-le-pow-right}
 use native.Mathlib.Omega.{arith}
 use native.Mathlib.Numerals.{add-one}
 use lib.ListN.{length, set, drop, replicate, length-set, length-replicate, getD-replicate}
@@ -13,13 +14,14 @@ use Rattle.words.specs.Word.{word}
 use Rattle.words.specs.Bytes.{withWord, bytesOf}
 use Rattle.words.specs.Wrap.{wrapped, complement}
 use Rattle.plan.specs.declared.Guest.{Guest}
-use Rattle.plan.specs.Marks.{liveMarks}
+use Rattle.plan.specs.Marks.{marksOf, liveMarks}
 use Rattle.plan.specs.Ranges.{guestOk, tasksOk, mostTasks}
-use Rattle.block.specs.Layout.{blockSize, blockWords, kindPlaceWord, lastPlace, idWord, capacityWord, periodWord, tasksChargeWord, marksWord, runWord, everyWord, deadlineWord, checkWord, halves}
-use Rattle.blockwriter.specs.Writing.{kindFor, withKind, withHead, withEntry, withEntries, wordsOf, withCheck, blockOf, writeNumber, writeRefusal, writtenBy, written}
+use Rattle.block.specs.Layout.{blockSize, blockWords, kindPlaceWord, lastPlace, idWord, capacityWord, periodWord, tasksChargeWord, marksServerWord, runWord, everyWord, deadlineWord, checkWord, halfWrap, halves}
+use Rattle.blockwriter.specs.Writing.{serverFor, kindFor, withKind, withHead, withEntry, withEntries, wordsOf, withCheck, blockOf, writeNumber, writeRefusal, writtenBy, written}
 use Rattle.words.proofs.Bytes.{put-set, bytes-zeros}
 use Rattle.words.proofs.Wrap.{wrapped-bytes}
 use Rattle.lists.proofs.Refusals.{none-left, go-on, stop, passed}
+use Rattle.plan.proofs.MarksLaws.{marks-below}
 
 -- The writer's number, by the tests that led to it.
 module _ (g : Guest) (p n : ℕ) where
@@ -82,13 +84,13 @@ write-in g p n e =
     record { room = leb-true blockSize n (a12 .0); low = leb-true p lastPlace (a3 .0); head = a4 .0; tasks = a6 .0 }
 
 -- Putting numbers in keeps the length.
-kind-length : (m p : ℕ) (x : List ℕ) → length (withKind m p x) ≡ length x
+kind-length : (m s p : ℕ) (x : List ℕ) → length (withKind m s p x) ≡ length x
 unfolding withKind
-kind-length m p x = simp length-set
+kind-length m s p x = simp length-set
 
 pub head-length : (g : Guest) (p : ℕ) (x : List ℕ) → length (withHead g p x) ≡ length x
 unfolding withHead
-head-length g p x = simp length-set (kind-length (liveMarks g) p x)
+head-length g p x = simp length-set (kind-length (liveMarks g) (serverFor g) p x)
 
 pub entries-length : (r e d : List ℕ) (n : ℕ) (x : List ℕ) → length (withEntries r e d n x) ≡ length x
 unfolding withEntries withEntry
@@ -116,33 +118,46 @@ put-laid : (x t b c : List ℕ) (k w : ℕ) → length x ≡ blockWords → k < 
     → c ≡ laid (set x k w) t
 put-laid x t b c k w l h e q = q ∙ ap (λ (y : List ℕ). withWord y k w) e ∙ put-set x blockWords k w t l h
 
--- Kind and place put in, then marks.
-pub kind-puts :
-    (n m k p : ℕ) (b b0 b1 : List ℕ)
-    → m ≡ n
-    → k ≡ kindFor m
-    → b0 ≡ withWord b kindPlaceWord (halves k p)
-    → b1 ≡ withWord b0 marksWord m
-    → b1 ≡ withWord (withWord b kindPlaceWord (halves (kindFor n) p)) marksWord n
-kind-puts n m k p b b0 b1 e c e0 e1 =
-    let d : k ≡ kindFor n = c ∙ ap (λ (x : ℕ). kindFor x) e in
-    e1 ∙ rw (e0, d, e) refl
+-- Marks of at most 16 tasks fit a half of a word.
+pub half-fits : (marks n : ℕ) → n ≤ mostTasks → marks < 2 ^ n → marks < halfWrap
+half-fits marks n h l = let s : 2 ^ n ≤ 2 ^ mostTasks = pow-le-pow-right (omega arith) h in omega (arith, l, s)
 
--- Kind, place and marks put into them.
-kind-laid : (m p : ℕ) (x t : List ℕ) → length x ≡ blockWords
-    → withWord (withWord (laid x t) kindPlaceWord (halves (kindFor m) p)) marksWord m ≡ laid (withKind m p x) t
+pub live-fits : (marks n : ℕ) → n ≤ mostTasks → marksOf marks n < halfWrap
+live-fits marks n h = half-fits (marksOf marks n) n h (marks-below marks n)
+
+-- Bytes with kind, place, marks and server put in.
+abbrev withOpening : List ℕ → (marks server place : ℕ) → List ℕ
+withOpening b marks server place =
+    withWord (withWord b kindPlaceWord (halves (kindFor marks server) place)) marksServerWord (halves marks server)
+
+-- Kind and place put in, then marks and server.
+pub kind-puts :
+    (n m t s k p : ℕ) (b b0 b1 : List ℕ)
+    → m ≡ n
+    → s ≡ t
+    → k ≡ kindFor m s
+    → b0 ≡ withWord b kindPlaceWord (halves k p)
+    → b1 ≡ withWord b0 marksServerWord (halves m s)
+    → b1 ≡ withOpening b n t p
+kind-puts n m t s k p b b0 b1 e f c e0 e1 =
+    let d : k ≡ kindFor n t = c ∙ ap (λ (x : ℕ). kindFor x s) e ∙ ap (λ (x : ℕ). kindFor n x) f in
+    e1 ∙ rw (e0, d, e, f) refl
+
+-- Kind, place, marks and server put into them.
+kind-laid : (m s p : ℕ) (x t : List ℕ) → length x ≡ blockWords
+    → withOpening (laid x t) m s p ≡ laid (withKind m s p x) t
 unfolding withKind
-kind-laid m p x t l =
-    let x0 : List ℕ = set x kindPlaceWord (halves (kindFor m) p) in
-    let l0 : length x0 ≡ blockWords = length-set x kindPlaceWord (halves (kindFor m) p) ∙ l in
-    put-laid x0 t _ _ marksWord m l0 (omega arith)
-    (put-set x blockWords kindPlaceWord (halves (kindFor m) p) t l (omega arith)) refl
+kind-laid m s p x t l =
+    let x0 : List ℕ = set x kindPlaceWord (halves (kindFor m s) p) in
+    let l0 : length x0 ≡ blockWords = length-set x kindPlaceWord (halves (kindFor m s) p) ∙ l in
+    put-laid x0 t _ _ marksServerWord (halves m s) l0 (omega arith)
+    (put-set x blockWords kindPlaceWord (halves (kindFor m s) p) t l (omega arith)) refl
 
 -- The head put into them, one word after the other.
 pub head-puts :
     (g : Guest) (p : ℕ) (b z b0 b1 b2 b3 b4 : List ℕ)
     → z ≡ replicate blockSize 0 ++ drop blockSize b
-    → b0 ≡ withWord (withWord z kindPlaceWord (halves (kindFor (liveMarks g)) p)) marksWord (liveMarks g)
+    → b0 ≡ withOpening z (liveMarks g) (serverFor g) p
     → b1 ≡ withWord b0 idWord (g .id)
     → b2 ≡ withWord b1 capacityWord (g .capacity)
     → b3 ≡ withWord b2 periodWord (g .period)
@@ -152,16 +167,16 @@ unfolding withHead
 head-puts g p b z b0 b1 b2 b3 b4 e e0 e1 e2 e3 e4 =
     let t : List ℕ = drop blockSize b in
     let x : List ℕ = replicate blockWords 0 in
-    let x0 : List ℕ = withKind (liveMarks g) p x in
+    let x0 : List ℕ = withKind (liveMarks g) (serverFor g) p x in
     let x1 : List ℕ = set x0 idWord (g .id) in
     let x2 : List ℕ = set x1 capacityWord (g .capacity) in
     let x3 : List ℕ = set x2 periodWord (g .period) in
     let l : length x ≡ blockWords = length-replicate {A = ℕ} blockWords 0 in
-    let l0 : length x0 ≡ blockWords = kind-length (liveMarks g) p x ∙ l in
+    let l0 : length x0 ≡ blockWords = kind-length (liveMarks g) (serverFor g) p x ∙ l in
     let l1 : length x1 ≡ blockWords = length-set x0 idWord (g .id) ∙ l0 in
     let l2 : length x2 ≡ blockWords = length-set x1 capacityWord (g .capacity) ∙ l1 in
     let l3 : length x3 ≡ blockWords = length-set x2 periodWord (g .period) ∙ l2 in
-    let f0 : b0 ≡ laid x0 t = e0 ∙ rw (e ∙ zeros-laid t) (kind-laid (liveMarks g) p x t l) in
+    let f0 : b0 ≡ laid x0 t = e0 ∙ rw (e ∙ zeros-laid t) (kind-laid (liveMarks g) (serverFor g) p x t l) in
     let f1 : b1 ≡ laid x1 t = put-laid x0 t b0 b1 idWord (g .id) l0 (omega arith) f0 e1 in
     let f2 : b2 ≡ laid x2 t = put-laid x1 t b1 b2 capacityWord (g .capacity) l1 (omega arith) f1 e2 in
     let f3 : b3 ≡ laid x3 t = put-laid x2 t b2 b3 periodWord (g .period) l2 (omega arith) f2 e3 in

@@ -1,4 +1,5 @@
 -- What the writer writes, and its refusals in their order.
+use mathlib.Core.Bool.{_||_}
 use mathlib.Core.List.{List, [], _∷_, _++_}
 use Prim.Native.Nat.{ℕ, zero, suc}
 use lib.Dec.{leb}
@@ -11,23 +12,36 @@ use Rattle.words.specs.Wrap.{wrapped, complement}
 use Rattle.plan.specs.declared.Guest.{Guest}
 use Rattle.plan.specs.declared.Refusal.{Refusal}
 use Rattle.plan.specs.Marks.{liveMarks}
+use Rattle.plan.specs.Server.{saysDeferrable}
 use Rattle.plan.specs.Ranges.{within, guestOk, tasksOk}
 use Rattle.plan.specs.First.{refused}
-use Rattle.block.specs.Layout.{blockSize, blockWords, kindPlaceWord, unmarkedKind, markedKind, lastPlace, idWord, capacityWord, periodWord, tasksChargeWord, marksWord, runWord, everyWord, deadlineWord, checkWord, halves}
+use Rattle.block.specs.Layout.{blockSize, blockWords, kindPlaceWord, plainKind, extendedKind, deferrableServer, lastPlace, idWord, capacityWord, periodWord, tasksChargeWord, marksServerWord, runWord, everyWord, deadlineWord, checkWord, halves}
 
--- The kind that a guest with these marks is written in: 2 where one of its tasks has a mark, else 1.
-abbrev pub kindFor : (marks : ℕ) → ℕ
-kindFor marks = pick (leb 1 marks) markedKind unmarkedKind
+-- The number that is written for a record's number of its server.
+abbrev pub serverOf : (deferrable : ℕ) → ℕ
+serverOf deferrable = pick (saysDeferrable deferrable) deferrableServer 0
 
--- Words x with kind, place and marks put in.
-unfoldable pub withKind : (marks place : ℕ) → List ℕ → List ℕ
-withKind marks place x = set (set x kindPlaceWord (halves (kindFor marks) place)) marksWord marks
+-- The number that a guest's server is written as.
+abbrev pub serverFor : Guest → ℕ
+serverFor g = serverOf (g .deferrable)
+
+-- The kind that a guest with these marks and this server is written in: 2 where one of its tasks has a mark or the
+-- server is Deferrable, else 1.
+abbrev pub kindFor : (marks server : ℕ) → ℕ
+kindFor marks server = pick (leb 1 marks || leb 1 server) extendedKind plainKind
+
+-- Words x with kind, place, marks and server put in.
+unfoldable pub withKind : (marks server place : ℕ) → List ℕ → List ℕ
+withKind marks server place x =
+    set (set x kindPlaceWord (halves (kindFor marks server) place)) marksServerWord (halves marks server)
 
 -- Words x with the head's numbers put in, the marks past the tasks as zero.
 unfoldable pub withHead : Guest → (place : ℕ) → List ℕ → List ℕ
 withHead g place x =
     set
-    (set (set (set (withKind (liveMarks g) place x) idWord (g .id)) capacityWord (g .capacity)) periodWord (g .period))
+    (set
+    (set (set (withKind (liveMarks g) (serverFor g) place x) idWord (g .id)) capacityWord (g .capacity))
+    periodWord (g .period))
     tasksChargeWord (halves (g .tasks) (g .charge))
 
 -- Words x with entry i put in.

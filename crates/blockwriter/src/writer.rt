@@ -7,8 +7,8 @@ ghost use Rattle.lists.specs.Places.{nth};
 ghost use Rattle.words.specs.Bytes.{withWord, bytesOf};
 ghost use Rattle.plan.specs.Marks.{marksOf};
 ghost use Rattle.plan.specs.Ranges.{mostTasks};
-ghost use Rattle.block.specs.Layout.{blockSize, blockWords, kindPlaceWord, markedKind, lastPlace, marksWord, runWord, everyWord, deadlineWord, halves};
-ghost use Rattle.blockwriter.specs.Writing.{kindFor, withHead, wordsOf, blockOf, writeNumber};
+ghost use Rattle.block.specs.Layout.{blockSize, blockWords, kindPlaceWord, extendedKind, deferrableServer, lastPlace, marksServerWord, runWord, everyWord, deadlineWord, halves};
+ghost use Rattle.blockwriter.specs.Writing.{serverOf, kindFor, withHead, wordsOf, blockOf, writeNumber};
 use block::layout;
 use plan::Guest;
 
@@ -35,30 +35,44 @@ pub fn write_number(g: Guest, place: u32, size: usize) -> u32
     0
 }
 
-// The kind that a guest with these marks is written in.
-fn kind_for(marks: u32) -> u32
-    ensures { λ r. ⌜ (r ≡ kindFor marks) × (r ≤ markedKind) ⌝ }
+// The number that a server is written as.
+fn server_of(deferrable: u32) -> u32
+    ensures { λ r. ⌜ (r ≡ serverOf deferrable) × (r ≤ deferrableServer) ⌝ }
 {
-    if 1 <= marks {
-        layout::MARKED_KIND
+    if deferrable == 0 {
+        0
     } else {
-        layout::UNMARKED_KIND
+        layout::DEFERRABLE_SERVER
     }
 }
 
-// Kind, place and marks put in.
-fn put_kind(buf: &mut [u8], marks: u16, tasks: u32, place: u32)
+// The kind that a guest with these marks and this server is written in.
+fn kind_for(marks: u32, server: u32) -> u32
+    ensures { λ r. ⌜ (r ≡ kindFor marks server) × (r ≤ extendedKind) ⌝ }
+{
+    if (1 <= marks) | (1 <= server) {
+        layout::EXTENDED_KIND
+    } else {
+        layout::PLAIN_KIND
+    }
+}
+
+// Kind, place, marks and server put in.
+fn put_kind(buf: &mut [u8], marks: u16, tasks: u32, deferrable: u32, place: u32)
     requires { ⌜ (blockSize ≤ length (now buf)) × ((place ≤ lastPlace) × (tasks ≤ mostTasks)) ⌝ }
     ensures { λ _. ⌜
         now (buf .exit)
-        ≡ withWord (withWord (now (buf .entry)) kindPlaceWord (halves (kindFor (marksOf marks tasks)) place))
-        marksWord (marksOf marks tasks)
+        ≡ withWord
+        (withWord (now (buf .entry)) kindPlaceWord
+        (halves (kindFor (marksOf marks tasks) (serverOf deferrable)) place))
+        marksServerWord (halves (marksOf marks tasks) (serverOf deferrable))
         ⌝ }
 {
     let live = plan::live_marks(marks, tasks as usize);
-    let kind = kind_for(live);
+    let server = server_of(deferrable);
+    let kind = kind_for(live, server);
     words::put_word(buf, layout::KIND_PLACE, kind + layout::HALF * place);
-    words::put_word(buf, layout::MARKS, live);
+    words::put_word(buf, layout::MARKS_SERVER, live + layout::HALF * server);
 }
 
 // The first 512 bytes set to zero, and the head's words put in.
@@ -69,16 +83,13 @@ fn put_head(g: Guest, place: u32, buf: &mut [u8])
         ≡ bytesOf (nth (withHead g place (replicate blockWords 0))) blockWords ++ drop blockSize (now (buf .entry))
         ⌝ }
 {
+    let tasks_charge = g.tasks + layout::HALF * (g.charge as u32);
     words::put_zeros(buf, layout::SIZE);
-    put_kind(buf, g.marks, g.tasks, place);
+    put_kind(buf, g.marks, g.tasks, g.deferrable, place);
     words::put_word(buf, layout::ID, g.id);
     words::put_word(buf, layout::CAPACITY, g.capacity);
     words::put_word(buf, layout::PERIOD, g.period);
-    words::put_word(
-        buf,
-        layout::TASKS_CHARGE,
-        g.tasks + layout::HALF * (g.charge as u32),
-    );
+    words::put_word(buf, layout::TASKS_CHARGE, tasks_charge);
 }
 
 // Entry i put in.

@@ -2,11 +2,12 @@
 -- in every plan that passes the check. Assumes nothing.
 use mathlib.Core.Path.{_≡_, refl, sym, _∙_, ap, fun-ext}
 use mathlib.Core.Bool.{Bool, true, _&&_}
+use mathlib.Core.List.{List}
 use Prim.Native.Nat.{ℕ, _≤_, _<_}
 use native.Mathlib.Decide.{decLt}
 use native.Mathlib.Omega.{arith}
 use lib.ListN.{length, List·getD-eq-default}
-use lib.Seq.{getD-set-same, getD-set-other}
+use lib.Seq.{getD-set-same, getD-set-other, set-getD}
 use Rattle.lists.specs.All.{allTo}
 use Rattle.lists.specs.Search.{least}
 use Rattle.lists.specs.declared.Found.the-variants.{At}
@@ -31,6 +32,7 @@ use Rattle.rounding.proofs.Asked.{asked-same}
 use Rattle.plan.proofs.Charge.{charged-least}
 use Rattle.plan.proofs.Order.{PlanIn, plan-in}
 use Rattle.response.proofs.ColumnsLaws.{interference-grows, accepted-is, columns-take, columns-fit}
+use Rattle.response.proofs.JittersLaws.{JittersOf}
 use Rattle.capacity.proofs.SearchLaws.{fits-down, met-up}
 
 -- a place that holds a guest in its ranges is a place of the list: no other has an id
@@ -42,6 +44,11 @@ in-list p o k h =
           let e : guestAt (p .guests) k .id ≡ 0 = ap (λ (g : Guest). g .id) (List·getD-eq-default (p .guests) absent {n = k} (omega arith)) in
           absurd (omega (arith, o .guests k h .head .named))
     ]
+
+-- a plan whose guest is given the capacity that it has is the plan: nothing else of the record is altered
+pub own-capacity : (p : Plan) (k : ℕ) → withCapacity p k (guestAt (p .guests) k .capacity) ≡ p
+unfolding withCapacity
+own-capacity p k = ap (λ (gs : List Guest). record { count = p .count; guests = gs }) (set-getD (p .guests) k absent)
 
 module _ (p : Plan) (k : ℕ) (here : k < length (p .guests)) (c : ℕ) where
   -- the guest at the place has the capacity
@@ -85,16 +92,17 @@ module _ (p : Plan) (k : ℕ) (here : k < length (p .guests)) (c : ℕ) where
       ∙ ap (λ (b : Bool). allTo (fitted p) k && b) (sym (accepted-is (withCapacity p k c) k) ∙ rw (same-above k (omega arith), guest-there) refl)
 
 -- the search off columns is the definition's
-pub smallest-is : (p : Plan) → PlanIn p → (c : Columns) → ColumnsOf (p .guests) mostGuests c → (k : ℕ) → k < p .count
+pub smallest-is : (p : Plan) → PlanIn p → (c : Columns) → ColumnsOf (p .guests) mostGuests c → {jitters : List ℕ}
+    → JittersOf c jitters → (k : ℕ) → k < p .count
     → least
-    (λ x. allTo (fittedAt (c .capacities) (c .periods)) k
-    && acceptedUnder (guestsTake (c .capacities) (c .periods) k) (atCapacity (guestAt (p .guests) k) x))
+    (λ x. allTo (fittedAt (c .capacities) (c .periods) jitters) k
+    && acceptedUnder (guestsTake (c .capacities) (c .periods) jitters k) (atCapacity (guestAt (p .guests) k) x))
     (guestAt (p .guests) k .period) 1
     ≡ smallest p k
 unfolding smallest
-smallest-is p o c f k h =
+smallest-is p o c f late k h =
     let few : k ≤ 8 = omega (arith, o .few) in
-    rw (columns-fit p c f k few, columns-take p c f k few)
+    rw (columns-fit p c f late k few, columns-take p c f late k few)
     (ap (λ (t : ℕ → Bool). least t (guestAt (p .guests) k .period) 1) (fun-ext (λ x. sym (works-split p k (in-list p o k h) x))))
 
 -- the theorem, for every plan that passes the check and each of its guests

@@ -19,6 +19,7 @@ atCapacity g c = record {
   tasks = g .tasks;
   charge = g .charge;
   marks = g .marks;
+  deferrable = g .deferrable;
   run = g .run;
   every = g .every;
   deadline = g .deadline;

@@ -4,6 +4,7 @@ use plan::Plan;
 use plan::check;
 use plan::columns_of;
 use plan::look_up;
+use response::jitters_of;
 
 mod search;
 
@@ -29,5 +30,7 @@ pub fn smallest_capacity(plan: Plan, id: u32) -> CapacityAnswer
     }
     let k = found.place;
     let guests = plan.guests;
-    search::capacity_says(search::smallest_at(guests[k], &capacities, &periods, k))
+    let deferrable = columns.deferrable;
+    let jitters = jitters_of(&deferrable, &capacities, &periods);
+    search::capacity_says(search::smallest_at(guests[k], &capacities, &periods, &jitters, k))
 }

@@ -8,7 +8,7 @@ ghost use Rattle.lists.specs.Search.{least};
 ghost use Rattle.rounding.specs.Cut.{bound};
 ghost use Rattle.plan.specs.Ranges.{longest};
 ghost use Rattle.response.specs.Columns.{guestsTake, fittedAt, acceptedUnder};
-ghost use Rattle.response.specs.Ready.{EachRuns, EachShort, Seated};
+ghost use Rattle.response.specs.Ready.{AboveIn, EachRuns, EachShort, Seated};
 ghost use Rattle.capacity.specs.Capacity.{atCapacity};
 ghost use Rattle.capacity.specs.Answer.{capacitySays};
 ghost use Rattle.capacity.specs.Search.{worksAt, smallestOf, foundAs, Halves};
@@ -44,6 +44,7 @@ struct Span {
 fn halved(
     capacities: &[u32; 16],
     periods: &[u32; 16],
+    jitters: &[u32; 16],
     k: usize,
     period: u32,
     marks: u16,
@@ -55,21 +56,23 @@ fn halved(
     hi: u32,
     best: u32,
 ) -> Span
-    requires { ⌜ ((k ≤ 16) × (tasks ≤ 16)) × ((1 ≤ lo) × ((lo < hi) × (hi ≤ period + 1))) ⌝ }
+    requires { ⌜ (AboveIn (now jitters) k × (tasks ≤ 16)) × ((1 ≤ lo) × ((lo < hi) × (hi ≤ period + 1))) ⌝ }
     requires { ⌜ (period ≤ longest) × (EachRuns (now run) tasks × EachShort (now deadline) tasks) ⌝ }
     ensures { λ r. ⌜
-        Halves (worksAt (guestsTake (now (capacities .entry)) (now (periods .entry)) k) period marks
-        (nth (now (run .entry))) (nth (now (every .entry))) (nth (now (deadline .entry))) tasks) lo hi best r
+        Halves (worksAt (guestsTake (now (capacities .entry)) (now (periods .entry)) (now (jitters .entry)) k)
+        period marks (nth (now (run .entry))) (nth (now (every .entry))) (nth (now (deadline .entry))) tasks)
+        lo hi best r
         ⌝ }
 {
     let mid = lo + (hi - lo) / 2;
     let next = mid + 1;
-    let f = guest_response(capacities, periods, k, mid, period);
+    let f = guest_response(capacities, periods, jitters, k, mid, period);
     let late = gaps_of(marks, period - mid, tasks);
     let t = try_guest(
         f,
         capacities,
         periods,
+        jitters,
         k,
         mid,
         period,
@@ -95,6 +98,7 @@ fn halved(
 fn smallest_in(
     capacities: &[u32; 16],
     periods: &[u32; 16],
+    jitters: &[u32; 16],
     k: usize,
     period: u32,
     marks: u16,
@@ -106,12 +110,13 @@ fn smallest_in(
     hi: u32,
     best: u32,
 ) -> u32
-    requires { ⌜ ((k ≤ 16) × (tasks ≤ 16)) × ((1 ≤ lo) × (hi ≤ period + 1)) ⌝ }
+    requires { ⌜ (AboveIn (now jitters) k × (tasks ≤ 16)) × ((1 ≤ lo) × (hi ≤ period + 1)) ⌝ }
     requires { ⌜ (period ≤ longest) × (EachRuns (now run) tasks × EachShort (now deadline) tasks) ⌝ }
     ensures { λ r. ⌜
         r
-        ≡ smallestOf (worksAt (guestsTake (now (capacities .entry)) (now (periods .entry)) k) period marks
-        (nth (now (run .entry))) (nth (now (every .entry))) (nth (now (deadline .entry))) tasks) lo hi best
+        ≡ smallestOf (worksAt (guestsTake (now (capacities .entry)) (now (periods .entry)) (now (jitters .entry)) k)
+        period marks (nth (now (run .entry))) (nth (now (every .entry))) (nth (now (deadline .entry))) tasks)
+        lo hi best
         ⌝ }
 {
     if hi <= lo {
@@ -120,6 +125,7 @@ fn smallest_in(
     let s = halved(
         capacities,
         periods,
+        jitters,
         k,
         period,
         marks,
@@ -134,6 +140,7 @@ fn smallest_in(
     smallest_in(
         capacities,
         periods,
+        jitters,
         k,
         period,
         marks,
@@ -156,17 +163,24 @@ fn found_as(c: u32) -> Found
 
 // The smallest capacity of the guest g at place k; none works under an unfit guest. What does not depend on the
 // capacity is read off the record once.
-pub fn smallest_at(g: Guest, capacities: &[u32; 16], periods: &[u32; 16], k: usize) -> Found
-    requires { ⌜ Seated g (now capacities) (now periods) k × (g .period + 1 < bound) ⌝ }
+pub fn smallest_at(
+    g: Guest,
+    capacities: &[u32; 16],
+    periods: &[u32; 16],
+    jitters: &[u32; 16],
+    k: usize,
+) -> Found
+    requires { ⌜ Seated g (now capacities) (now periods) (now jitters) k × (g .period + 1 < bound) ⌝ }
     ensures { λ r. ⌜
         r
         ≡ least
-        (λ c. allTo (fittedAt (now (capacities .entry)) (now (periods .entry))) k
-        && acceptedUnder (guestsTake (now (capacities .entry)) (now (periods .entry)) k) (atCapacity g c))
+        (λ c. allTo (fittedAt (now (capacities .entry)) (now (periods .entry)) (now (jitters .entry))) k
+        && acceptedUnder (guestsTake (now (capacities .entry)) (now (periods .entry)) (now (jitters .entry)) k)
+        (atCapacity g c))
         (g .period) 1
         ⌝ }
 {
-    if !all_fitted(capacities, periods, k) {
+    if !all_fitted(capacities, periods, jitters, k) {
         return Found::Nothing;
     }
     let period = g.period;
@@ -178,6 +192,7 @@ pub fn smallest_at(g: Guest, capacities: &[u32; 16], periods: &[u32; 16], k: usi
     found_as(smallest_in(
         capacities,
         periods,
+        jitters,
         k,
         period,
         g.marks,

@@ -26,7 +26,7 @@ use Rattle.dispatcher.specs.LentCheck.{Examines}
 use Rattle.lists.proofs.All.{and-left, and-right, and-true, and-false-left, and-false-right, all-by, all-at, all-ext}
 use Rattle.lists.proofs.Refusals.{passed}
 use Rattle.plan.proofs.First.{none-refused, first-fine}
-use Rattle.plan.proofs.Order.{none, counted, count-few, count-many}
+use Rattle.plan.proofs.Order.{none, counted, count-out}
 use Rattle.plan.specs.Ranges as ranges
 
 -- whether guest k of a state goes
@@ -155,10 +155,12 @@ passes-is d =
           elim (decLe (d .plan .count) 8) [
             | yes f ↦ rw (le-leb 1 (d .plan .count) s, le-leb (d .plan .count) 8 f) (pass-is d s f)
             | no f ↦
-                and-false-left _ (and-false-right (leb 1 (d .plan .count)) (lt-leb (d .plan .count) 8 (omega arith)))
-                ∙ sym (uncounted d (count-many (d .plan) s (omega arith)))
+                let w = and-false-right (leb 1 (d .plan .count)) (lt-leb (d .plan .count) 8 (omega arith)) in
+                and-false-left _ w ∙ sym (uncounted d (count-out (d .plan) w))
           ]
-      | no s ↦ and-false-left _ (and-false-left _ (lt-leb 1 (d .plan .count) (omega arith))) ∙ sym (uncounted d (count-few (d .plan) (omega arith)))
+      | no s ↦
+          let w = and-false-left (leb (d .plan .count) 8) (lt-leb 1 (d .plan .count) (omega arith)) in
+          and-false-left _ w ∙ sym (uncounted d (count-out (d .plan) w))
     ]
 
 -- The check over lent arrays examines the state, wherever its ticks went.

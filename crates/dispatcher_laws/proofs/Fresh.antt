@@ -95,6 +95,7 @@ module _ (p : Plan) where
   shaped-idle P = record {
     few = P .few;
     tasks = λ k h. P .guests k h .head .few;
+    fits = λ k h. P .guests k h .head .fits;
     places = λ k h. (let G = P .guests k h .head in omega (arith, G .some, G .fits, idle-position k (omega (arith, P .few))));
     left-long = length-replicate {A = ℕ} 8 0;
     position-long = length-replicate {A = ℕ} 8 0;

@@ -7,7 +7,7 @@ use Rattle.equation.specs.System.{System, load, rightAt, right, later, t
 use Rattle.rounding.proofs.Asked.{asked-same}
 
 -- The guests of both are the same, and so are their first n tasks.
-pub record Alike (S S′ : System) (n : ℕ) : Type 0 where
+pub record SameTasks (S S′ : System) (n : ℕ) : Type 0 where
   pub capacity : S .capacity ≡ S′ .capacity
   pub period : S .period ≡ S′ .period
   pub above : S .above ≡ S′ .above
@@ -15,7 +15,7 @@ pub record Alike (S S′ : System) (n : ℕ) : Type 0 where
   pub every : (j : ℕ) → j < n → S .every j ≡ S′ .every j
   pub gap : (j : ℕ) → j < n → S .gap j ≡ S′ .gap j
 
-module _ (S S′ : System) (n i : ℕ) (h : i < n) (a : Alike S S′ n) where
+module _ (S S′ : System) (n i : ℕ) (h : i < n) (a : SameTasks S S′ n) where
   -- each of those tasks has the same load
   load-alike : (w : ℕ) → load S i w ≡ load S′ i w
   unfolding load

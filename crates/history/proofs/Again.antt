@@ -1,7 +1,7 @@
 -- A release of a task after those before it: when it is refused by 17, by 9, by 10, and when it is taken. Strategy: the
 -- number goes by where the guest stands, the wait and the run left, and the wait is what is left of the period since the
 -- last taken release. Assumes nothing.
-use mathlib.Core.Path.{_≡_}
+use mathlib.Core.Path.{_≡_, ap, subst}
 use mathlib.Core.Bool.{true}
 use mathlib.Core.List.{List}
 use mathlib.Core.Logic.{_⊎_, inl, inr}
@@ -9,6 +9,7 @@ use Prim.Native.Nat.{ℕ, _-_, _≤_, _<_}
 use native.Mathlib.Decide.{decLt, ℕ-discrete}
 use native.Mathlib.Omega.{arith}
 use Rattle.lists.specs.Exactly.{_exactlyWhen_}
+use Rattle.lists.specs.Places.{nth}
 use Rattle.plan.specs.declared.Plan.{Plan}
 use Rattle.plan.specs.Order.{planRefusal}
 use Rattle.plan.specs.Place.{placeOf}
@@ -17,8 +18,9 @@ use Rattle.dispatcher.specs.Release.{release}
 use Rattle.verdict_laws.specs.Tasks.{TaskThere}
 use Rattle.history.specs.Calls.{Call, releasing, start, play, released, ticksIn, NoneTaken}
 use Rattle.history.specs.Named.{boundBy, positionBy, everyBy, restBy, waitBy, StartsHere}
+use Rattle.dispatcher_laws.proofs.Release.{away-exactly}
 use Rattle.dispatcher_laws.proofs.Sound.{Sound, free-task, guest-in, task-in}
-use Rattle.history.proofs.ByState.{away, waiting, unfinished, accepted, not-17, here-or-away}
+use Rattle.history.proofs.ByState.{away, waiting, unfinished, accepted, here-or-away}
 use Rattle.history.proofs.Play.{sound-after, sound-play}
 use Rattle.history.proofs.Clocks.{sound-reached, id-is, wait-since, before-any}
 
@@ -171,17 +173,14 @@ pub seventeen-exactly :
     → (cs : List Call)
     → (release (play cs (start p)) id number .refusal .number ≡ 17)
     exactlyWhen ((boundBy p id number ≡ true) × (0 < positionBy p id (play cs (start p))))
-seventeen-exactly p id number T cs = (
-  λ e. by (here-or-away p id number (play cs (start p))) e,
-  λ a. away p id number T (play cs (start p)) D (a .0) (a .1),
-)
-  where
-    D : Sound p (play cs (start p))
-    D = sound-reached p (T .there .order) cs
-
-    by : StartsHere p id number (play cs (start p))
-        ⊎ ((boundBy p id number ≡ true) × (0 < positionBy p id (play cs (start p))))
-        → release (play cs (start p)) id number .refusal .number ≡ 17
-        → (boundBy p id number ≡ true) × (0 < positionBy p id (play cs (start p)))
-    by (inr a) e = a
-    by (inl h) e = absurd (not-17 p id number T (play cs (start p)) D h e)
+seventeen-exactly p id number T cs =
+    let d = play cs (start p) in
+    let D = sound-reached p (T .there .order) cs in (
+      λ e.
+          (let A = away-exactly d id number .0 e in
+          let at = ap (λ (z : Plan). placeOf z id) (D .plan) in (
+            subst (λ (z : Plan). boundBy z id number ≡ true) (D .plan) (A .bound),
+            subst (λ (k : ℕ). 0 < nth (d .position) k) at (A .past),
+          )),
+      λ a. away p id number T d D (a .0) (a .1),
+    )

@@ -1,6 +1,7 @@
 -- The numbers beside a state count the ticks of its history.
 -- Strategy: a tick adds one where its answer is counted, modulo 2 to the 64. Assumes nothing.
 use mathlib.Core.Path.{_≡_, refl, ap, subst, _∙_}
+use mathlib.Core.Bool.{true}
 use mathlib.Core.List.{List, [], _∷_, _++_}
 use Prim.Native.Nat.{ℕ, _+_, _%_, _≤_, _<_}
 use native.Mathlib.Decide.{decLt}
@@ -11,7 +12,9 @@ use Rattle.lists.specs.Places.{nth}
 use Rattle.lists.specs.Sum.{sumTo}
 use Rattle.plan.specs.declared.Plan.{Plan}
 use Rattle.plan.specs.Order.{planRefusal}
-use Rattle.arrays.specs.Usage.{wrap, nobodys}
+use Rattle.plan.specs.Records.{guestAt}
+use Rattle.plan.specs.Server.{isDeferrable}
+use Rattle.arrays.specs.Usage.{wrap, idledAt, nobodys}
 use Rattle.dispatcher.specs.declared.Dispatcher.{Dispatcher}
 use Rattle.dispatcher.specs.declared.Answer.{Answer}
 use Rattle.dispatcher.specs.State.{guestIn, restAt}
@@ -31,6 +34,7 @@ use Rattle.history.proofs.Share.{count-none}
 use Rattle.history.proofs.Clocks.{sound-start}
 use Rattle.history.proofs.Accounts.{by-nobody, by-worked, by-idled}
 use Rattle.dispatcher_laws.proofs.Answer.{answer-nobody, answer-idled, answer-worked, answer-finished}
+use Rattle.dispatcher_laws.proofs.Deferrable.{idled-stands}
 use Rattle.dispatcher_laws.proofs.Fresh.{fresh-idle}
 use Rattle.dispatcher_laws.proofs.Sound.{Sound}
 use Rattle.dispatcher_laws.proofs.Tick.{usage-nobody, usage-worked, usage-idled, usage-long}
@@ -156,3 +160,24 @@ pub usage-adds-up :
     ≡ ticksIn cs (start p) % wrap
 usage-adds-up p order cs =
     usage-counts p order cs .all ∙ ap (λ (n : ℕ). n % wrap) (answers-length cs (start p) (sound-start p order))
+
+-- A Deferrable guest has no idled ticks.
+pub none-idled :
+    (p : Plan)
+    → planRefusal p .number ≡ 0
+    → (g : ℕ)
+    → g < p .count
+    → isDeferrable (guestAt (p .guests) g) ≡ true
+    → (cs : List Call)
+    → nth (play cs (start p) .usage) (idledAt g) ≡ 0
+unfolding idle taken
+none-idled p order g h kind cs =
+    let P = plan-in p order in
+    play-keeps p (λ l d. nth (d .usage) (idledAt g) ≡ 0) Any
+    (λ l d D z. idled-stands d g (rw (D .plan) h) (rw (D .plan) kind) (D .shaped) ∙ z)
+    (λ l d id task k t D a f z. z) cs [] (start p) (any cs (start p))
+    record {
+      sound = sound-start p order;
+      holds = rw (fresh-idle p order) (getD-replicate 17 (idledAt g) 0 0 (omega (arith, P .few)));
+    }
+    .holds

@@ -37,9 +37,16 @@ pub columns-none : (gs : List Guest)
       capacities = replicate 16 0;
       periods = replicate 16 0;
       tasks = replicate 16 0;
+      deferrable = replicate 16 0;
     })
 columns-none gs =
-    record { ids = filled-none _; capacities = filled-none _; periods = filled-none _; tasks = filled-none _ }
+    record {
+      ids = filled-none _;
+      capacities = filled-none _;
+      periods = filled-none _;
+      tasks = filled-none _;
+      deferrable = filled-none _;
+    }
 
 -- a loop's turn: one guest's numbers more are written
 pub columns-next : {gs : List Guest} {c : Columns} (k : ℕ) → k < 16 → ColumnsOf gs k c
@@ -48,12 +55,14 @@ pub columns-next : {gs : List Guest} {c : Columns} (k : ℕ) → k < 16 → Colu
       capacities = set (c .capacities) k (guestAt gs k .capacity);
       periods = set (c .periods) k (guestAt gs k .period);
       tasks = set (c .tasks) k (guestAt gs k .tasks);
+      deferrable = set (c .deferrable) k (guestAt gs k .deferrable);
     })
 columns-next k l f = record {
   ids = filled-next _ k l (f .ids);
   capacities = filled-next _ k l (f .capacities);
   periods = filled-next _ k l (f .periods);
   tasks = filled-next _ k l (f .tasks);
+  deferrable = filled-next _ k l (f .deferrable);
 }
 
 -- a loop's end: the columns of k guests are those of the first n of them
@@ -63,4 +72,5 @@ columns-done k n h f = record {
   capacities = filled-done _ k n h (f .capacities);
   periods = filled-done _ k n h (f .periods);
   tasks = filled-done _ k n h (f .tasks);
+  deferrable = filled-done _ k n h (f .deferrable);
 }

@@ -1,15 +1,19 @@
 -- Laws of the first refusal, and of an answer that is a refusal or else what was asked for. Assumes nothing.
-use mathlib.Core.Path.{_≡_, refl}
-use mathlib.Core.Bool.{Bool, true, false}
+use mathlib.Core.Path.{_≡_, refl, sym, ap, _∙_}
+use mathlib.Core.Bool.{Bool, true, false, false≢true, _&&_}
 use mathlib.Core.List.{List, [], _∷_}
 use mathlib.Core.Logic.{⊎-elim}
 use Prim.Native.Nat.{ℕ, zero, suc, _+_, _-_, _≤_, _<_}
 use native.Mathlib.Nat.{eq-or-lt-of-le}
 use native.Mathlib.Numerals.{add-one}
 use native.Mathlib.Omega.{arith}
+use native.Mathlib.Decide.{decLe}
+use lib.Dec.{ltb}
+use borrow.Author.Tests.{lt-ltb}
 use Rattle.lists.specs.Refusals.{Test, refusal, _orRefuse_}
 use Rattle.plan.specs.declared.Refusal.{Refusal}
 use Rattle.plan.specs.First.{refused, fine, orElse, firstRefused, refusedBy}
+use Rattle.lists.proofs.All.{and-true}
 use Rattle.lists.proofs.Refusals.{none-left, go-on, stop}
 
 -- a loop's way out: place k is refused
@@ -43,6 +47,29 @@ pub or-after : (x k : ℕ) (after : Refusal) → x ≤ 0 → after ≡ orElse x 
 unfolding orElse
 or-after zero k after h = refl
 or-after (suc n) k after h = absurd (omega arith)
+
+-- A loop that keeps the number x of the last place that it looked at, k - 1, and ends after one that is refused.
+module _ (f : ℕ → ℕ) (n k x : ℕ) {r : Refusal} (e : orElse x (k - 1) (firstRefused f (n - k) k) ≡ r) where
+  -- its turn: place k has the number y
+  pub kept-next : (y : ℕ) → k < n → x ≤ 0 → y ≡ f k
+      → orElse y (k + 1 - 1) (firstRefused f (n - (k + 1)) (k + 1)) ≡ r
+  unfolding firstRefused
+  kept-next y h l q =
+      let m : n - k ≡ suc (n - (k + 1)) = omega arith in
+      let z : k + 1 - 1 ≡ k = omega arith in
+      rw (z, q, m, add-one) refl ∙ or-after x (k - 1) (firstRefused f (n - k) k) l ∙ e
+
+  -- its end at a place that is refused
+  pub kept-here : 0 < x → refused x (k - 1) ≡ r
+  kept-here h = refused-here x (k - 1) (firstRefused f (n - k) k) h ∙ e
+
+  -- its end where no place is
+  pub kept-none : (ltb k n && ltb x 1) ≡ false → x ≤ 0 → r .number ≡ 0
+  kept-none t l = elim (decLe n k) [
+    | yes h ↦ ap (λ (a : Refusal). a .number)
+        (sym e ∙ sym (or-after x (k - 1) (firstRefused f (n - k) k) l) ∙ sym (first-end f n k h))
+    | no h ↦ absurd (false≢true (sym t ∙ and-true (lt-ltb k n (omega arith)) (lt-ltb x 1 (omega arith))))
+  ]
 
 -- where there is no refusal there is none here and none after
 pub after-zero : (x k : ℕ) (r : Refusal) → orElse x k r .number ≡ 0 → (x ≡ 0) × (r .number ≡ 0)

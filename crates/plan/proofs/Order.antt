@@ -5,7 +5,7 @@ use mathlib.Core.List.{List, [], _∷_}
 use Prim.Native.Nat.{ℕ, zero, suc, _+_, _≤_, _<_}
 use native.Mathlib.Omega.{arith}
 use lib.Dec.{eqb}
-use borrow.Author.Tests.{le-leb, lt-leb}
+use borrow.Author.Tests.{le-leb}
 use Rattle.lists.specs.All.{allTo}
 use Rattle.lists.specs.Places.{nth}
 use Rattle.lists.specs.Refusals.{Test, unless, refusal, _orRefuse_}
@@ -63,15 +63,10 @@ pub number-is : (gs : List Guest) (ids : List ℕ) (k : ℕ) → k < mostGuests
 unfolding guestNumber
 number-is gs ids k h f e q = q ∙ ap (λ (b : Bool). numberOf (guestAt gs k) b) (e ∙ new-id-is gs ids k h f)
 
--- a plan of no guest is refused by 1
-pub count-few : (p : Plan) → p .count < 1 → refused 1 0 ≡ planRefusal p
+-- a plan of no guest, or of more than 8, is refused by 1
+pub count-out : (p : Plan) → within 1 mostGuests (p .count) ≡ false → refused 1 0 ≡ planRefusal p
 unfolding planRefusal countedBy
-count-few p h = rw (lt-leb 1 (p .count) h) refl
-
--- a plan of more than 8 guests is refused by 1
-pub count-many : (p : Plan) → 1 ≤ p .count → mostGuests < p .count → refused 1 0 ≡ planRefusal p
-unfolding planRefusal countedBy
-count-many p l h = rw (le-leb 1 (p .count) l, lt-leb (p .count) mostGuests h) refl
+count-out p e = rw e refl
 
 -- a plan of 1 to 8 guests is refused as the first of its guests that is
 pub counted : (p : Plan) → 1 ≤ p .count → p .count ≤ mostGuests

@@ -20,3 +20,4 @@ pub record ColumnsOf (gs : List Guest) (n : ℕ) (r : Columns) : Type 0 where
   pub capacities : Filled (r .capacities) (λ k. guestAt gs k .capacity) n
   pub periods : Filled (r .periods) (λ k. guestAt gs k .period) n
   pub tasks : Filled (r .tasks) (λ k. guestAt gs k .tasks) n
+  pub deferrable : Filled (r .deferrable) (λ k. guestAt gs k .deferrable) n

@@ -1,5 +1,6 @@
 pub mod Records
 pub mod Marks
+pub mod Server
 pub mod Ranges
 pub mod Charge
 pub mod First

@@ -14,14 +14,17 @@ pub use column::columns_of;
 pub use find::has_task;
 pub use find::look_up;
 pub use find::place_of;
+pub use guests::guest_number;
 pub use guests::new_id;
 pub use marks::is_marked;
 pub use marks::live_marks;
 pub use ranges::LONGEST;
+pub use ranges::count_ok;
 pub use ranges::head_ok;
 pub use ranges::tasks_ok;
 
-// A guest: its server, its tasks' marks, and a column for each number of its tasks. `every` is each task's period.
+// A guest: its server, its tasks' marks, and a column for each number of its tasks. The server is Deferrable where
+// `deferrable` is not 0, and else Periodic. `every` is each task's period.
 #[repr(C)]
 pub struct Guest {
     pub id: u32,
@@ -30,6 +33,7 @@ pub struct Guest {
     pub tasks: u32,
     pub charge: u16,
     pub marks: u16,
+    pub deferrable: u32,
     pub run: [u32; 16],
     pub every: [u32; 16],
     pub deadline: [u32; 16],
@@ -49,12 +53,13 @@ pub struct Refusal {
     pub place: u32,
 }
 
-// Four numbers of each guest of a plan, a column for each number.
+// Five numbers of each guest of a plan, a column for each number.
 pub struct Columns {
     pub ids: [u32; 16],
     pub capacities: [u32; 16],
     pub periods: [u32; 16],
     pub tasks: [u32; 16],
+    pub deferrable: [u32; 16],
 }
 
 // A guest that was looked up by its id: the refusal, or where it has number 0 the guest's place.
@@ -74,6 +79,7 @@ pub fn blank_guest() -> Guest
         tasks: 0,
         charge: 0,
         marks: 0,
+        deferrable: 0,
         run: [0; 16],
         every: [0; 16],
         deadline: [0; 16],
@@ -103,13 +109,7 @@ pub fn check(plan: Plan) -> Refusal
     ensures { λ r. ⌜ Checks plan r ⌝ }
 {
     let n = plan.count;
-    if n < 1 {
-        return Refusal {
-            number: 1,
-            place: 0,
-        };
-    }
-    if 8 < n {
+    if !count_ok(n) {
         return Refusal {
             number: 1,
             place: 0,
@@ -120,7 +120,7 @@ pub fn check(plan: Plan) -> Refusal
     let many = n as usize;
     let mut k: usize = 0;
     while k < many {
-        let number = guests::guest_number(plan.guests[k], new_id(&ids, k));
+        let number = guest_number(plan.guests[k], new_id(&ids, k));
         if 0 < number {
             return Refusal {
                 number,

@@ -5,14 +5,24 @@ ghost use Prim.Native.Nat.{_≤_};
 ghost use Rattle.lists.specs.Places.{nth};
 ghost use Rattle.lists.specs.All.{allTo};
 ghost use Rattle.plan.specs.Marks.{marked};
-ghost use Rattle.plan.specs.Ranges.{mostTasks, headOk, taskOk, startOk};
+ghost use Rattle.plan.specs.Ranges.{mostGuests, mostTasks, within, headOk, taskOk, startOk};
 use crate::marks::is_marked;
 
 // The longest period and run, in ticks.
 pub const LONGEST: u32 = 1000000;
 
+// The most guests in a plan.
+const MOST_GUESTS: u32 = 8;
+
 // The most tasks in a guest.
 const MOST_TASKS: u32 = 16;
+
+// Whether a plan has 1 to 8 guests, which is refusal 1's test.
+pub fn count_ok(count: u32) -> bool
+    ensures { λ r. ⌜ r ≡ within 1 mostGuests count ⌝ }
+{
+    (1 <= count) & (count <= MOST_GUESTS)
+}
 
 // Whether a guest's id, capacity, period and number of tasks are in their ranges, which is refusal 4's test.
 pub fn head_ok(id: u32, capacity: u32, period: u32, tasks: u32) -> bool

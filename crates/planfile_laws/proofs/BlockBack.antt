@@ -3,7 +3,7 @@
 use mathlib.Core.Path.{_≡_, refl, sym, ap, _∙_}
 use mathlib.Core.Bool.{Bool, true, _&&_}
 use mathlib.Core.List.{List, [], append-nil}
-use Prim.Native.Nat.{ℕ, _+_, _-_, _^_, _≤_, _<_}
+use Prim.Native.Nat.{ℕ, _+_, _-_, _≤_, _<_}
 use native.Mathlib.Decide.{decLt}
 use native.Mathlib.Omega.{arith}
 use lib.ListN.{length}
@@ -11,17 +11,17 @@ use lib.Dec.{ltb}
 use borrow.Author.Tests.{eq-eqb, lt-ltb, le-ltb}
 use Rattle.plan.specs.Ranges.{mostTasks, guestOk, tasksOk}
 use Rattle.plan.specs.Marks.{liveMarks}
-use Rattle.block.specs.Layout.{blockSize, blockWords, kindPlaceWord, lastPlace, idWord, capacityWord, periodWord, tasksChargeWord, marksWord, spareFrom, spareTo, runWord, everyWord, deadlineWord, unusedFrom, checkWord, highHalf, halves}
+use Rattle.block.specs.Layout.{blockSize, blockWords, kindPlaceWord, lastPlace, idWord, capacityWord, periodWord, tasksChargeWord, marksServerWord, spareFrom, spareTo, runWord, everyWord, deadlineWord, unusedFrom, checkWord, highHalf, halves}
 use Rattle.words.specs.Word.{word}
 use Rattle.words.specs.Bytes.{bytesOf}
-use Rattle.block.specs.Reading.{kindIn, placeIn, taskCount, marksIn, column, guestOf, sumsToZero, kindOk, ownPlace, zeroBetween, zerosOk, blockNumber}
+use Rattle.block.specs.Reading.{placeIn, taskCount, column, guestOf, sumsToZero, kindOk, ownPlace, zeroBetween, zerosOk, blockNumber}
 use Rattle.lists.specs.All.{allTo}
 use Rattle.lists.specs.Choice.{pick}
 use Rattle.lists.specs.Places.{nth}
 use Rattle.lists.specs.Sum.{sumTo}
 use Rattle.words.specs.Wrap.{wrapped}
 use Rattle.plan.specs.declared.Guest.{Guest}
-use Rattle.blockwriter.specs.Writing.{kindFor, wordsOf, withCheck, blockOf}
+use Rattle.blockwriter.specs.Writing.{serverFor, kindFor, wordsOf, withCheck, blockOf}
 use Rattle.planfile_laws.specs.File.{firstTasks, clearedGuest}
 use Rattle.planfile_laws.specs.Fits.{GuestInTypes}
 use Rattle.lists.proofs.All.{and-left, and-right, and-true, all-by, all-ext}
@@ -33,7 +33,7 @@ use Rattle.plan.proofs.MarksLaws.{marks-same, marks-below}
 use Rattle.plan.proofs.RangesLaws.{head-says}
 use Rattle.block.proofs.Reading.{none}
 use Rattle.blockwriter.proofs.Writing.{words-length}
-use Rattle.planfile_laws.proofs.Marks.{live-fits, kind-most, kind-passes, marks-pass}
+use Rattle.planfile_laws.proofs.Marks.{server-most, kind-most, Opened, marks-there, server-there, kind-passes, marks-pass}
 use Rattle.planfile_laws.proofs.Words.{WordsAt, words-at, words-fit, check-other, check-at, check-fits}
 
 -- A block has 512 bytes.
@@ -71,29 +71,26 @@ module _ (g : Guest) (p : ℕ) (fits : GuestInTypes g) (low : p ≤ lastPlace) (
       )
       (complement-sum (sumTo (nth (wordsOf g p)) checkWord)))
 
-  -- The number of tasks, the kind and the marks are the guest's.
+  -- The number of tasks, the kind, the marks and the server are the guest's.
   count-is : taskCount (blockOf g p) ≡ g .tasks
   count-is = let e = at tasksChargeWord (omega arith) ∙ written .tasks-charge in omega (arith, e, few)
 
-  opening : word (blockOf g p) kindPlaceWord ≡ halves (kindFor (liveMarks g)) p
+  opening : word (blockOf g p) kindPlaceWord ≡ halves (kindFor (liveMarks g) (serverFor g)) p
   opening = at kindPlaceWord (omega arith) ∙ written .kind-place
 
-  kind-is : kindIn (blockOf g p) ≡ kindFor (liveMarks g)
-  kind-is = omega (arith, opening, kind-most (liveMarks g))
-
-  marks-at : word (blockOf g p) marksWord ≡ liveMarks g
-  marks-at = at marksWord (omega arith) ∙ written .marks
-
-  few-there : taskCount (blockOf g p) ≤ mostTasks
-  few-there = rw count-is few
-
-  below : liveMarks g < 2 ^ taskCount (blockOf g p)
-  below = rw count-is (marks-below (g .marks) (g .tasks))
+  opened : Opened (blockOf g p) (liveMarks g) (serverFor g)
+  opened = record {
+    kind = omega (arith, opening, kind-most (liveMarks g) (serverFor g));
+    at = at marksServerWord (omega arith) ∙ written .marks-server;
+    few = rw count-is few;
+    below = rw count-is (marks-below (g .marks) (g .tasks));
+    last = server-most (g .deferrable);
+  }
 
   opens : (kindOk (blockOf g p) && ownPlace (blockOf g p) p) ≡ true
   opens =
-      and-true (kind-passes (blockOf g p) (liveMarks g) kind-is marks-at few-there below)
-      (eq-eqb (placeIn (blockOf g p)) p (omega (arith, opening, kind-most (liveMarks g))))
+      and-true (kind-passes (blockOf g p) (liveMarks g) (serverFor g) opened)
+      (eq-eqb (placeIn (blockOf g p)) p (omega (arith, opening, kind-most (liveMarks g) (serverFor g))))
 
   -- A column of the block is the guest's, with zeros past the tasks.
   column-is :
@@ -122,8 +119,8 @@ module _ (g : Guest) (p : ℕ) (fits : GuestInTypes g) (low : p ≤ lastPlace) (
       let e2 : word (blockOf g p) capacityWord ≡ g .capacity = at capacityWord (omega arith) ∙ written .capacity in
       let e3 : word (blockOf g p) periodWord ≡ g .period = at periodWord (omega arith) ∙ written .period in
       let e5 : highHalf (word (blockOf g p) tasksChargeWord) ≡ g .charge = omega (arith, few) in
-      let e6 : marksIn (blockOf g p) ≡ liveMarks g =
-      omega (arith, marks-at, live-fits (g .marks) (g .tasks) few) in
+      let e6 = marks-there (blockOf g p) (liveMarks g) (serverFor g) opened in
+      let e7 = server-there (blockOf g p) (liveMarks g) (serverFor g) opened in
       let r =
       column-is runWord (g .run)
       (λ i l. entry-is i (runWord i) (nth (g .run) i) (omega arith)
@@ -144,6 +141,7 @@ module _ (g : Guest) (p : ℕ) (fits : GuestInTypes g) (low : p ≤ lastPlace) (
         tasks = count-is k;
         charge = e5 k;
         marks = e6 k;
+        deferrable = e7 k;
         run = r k;
         every = e k;
         deadline = d k;
@@ -175,7 +173,7 @@ module _ (g : Guest) (p : ℕ) (fits : GuestInTypes g) (low : p ≤ lastPlace) (
   zeros : zerosOk (blockOf g p) ≡ true
   zeros =
       and-true
-      (and-true (marks-pass (blockOf g p) (liveMarks g) kind-is marks-at few-there below)
+      (and-true (marks-pass (blockOf g p) (liveMarks g) (serverFor g) opened)
       (zero-between spareFrom spareTo (λ k h l. at k (omega arith) ∙ written .spare k h l)))
       (rw count-is
       (zero-between (unusedFrom (g .tasks)) checkWord (λ k h l. at k l ∙ written .unused k h (omega arith))))

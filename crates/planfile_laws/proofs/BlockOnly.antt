@@ -11,7 +11,7 @@ use lib.ListN.{length}
 use lib.Seq.{take-all}
 use borrow.Author.Tests.{eqb-true}
 use Rattle.plan.specs.Ranges.{mostTasks}
-use Rattle.block.specs.Layout.{blockSize, blockWords, kindPlaceWord, idWord, capacityWord, periodWord, tasksChargeWord, marksWord, spareFrom, spareTo, entryWords, runWord, everyWord, deadlineWord, unusedFrom, checkWord}
+use Rattle.block.specs.Layout.{blockSize, blockWords, kindPlaceWord, idWord, capacityWord, periodWord, tasksChargeWord, marksServerWord, spareFrom, spareTo, entryWords, runWord, everyWord, deadlineWord, unusedFrom, checkWord}
 use Rattle.words.specs.Word.{word}
 use Rattle.words.specs.Bytes.{Bytes}
 use Rattle.block.specs.Reading.{placeIn, taskCount, guestOf, kindOk, ownPlace, zeroBetween, marksOk, blockNumber}
@@ -26,12 +26,12 @@ use Rattle.words.proofs.Bytes.{bytes-ext, bytesOf-word}
 use Rattle.words.proofs.Wrap.{complement-only}
 use Rattle.block.proofs.Reading.{BlockIn, block-in, few-in-block, zero-at, column-at}
 use Rattle.blockwriter.proofs.Writing.{words-length}
-use Rattle.planfile_laws.proofs.Marks.{marks-again, kind-again}
+use Rattle.planfile_laws.proofs.Marks.{word-again, kind-again}
 use Rattle.planfile_laws.proofs.Words.{WordsAt, words-at, check-other, check-at}
 
 -- A word of the head is one of six.
 head-word : (P : ℕ → Type 0) → P kindPlaceWord → P idWord → P capacityWord → P periodWord → P tasksChargeWord
-    → P marksWord → (k : ℕ) → k < spareFrom → P k
+    → P marksServerWord → (k : ℕ) → k < spareFrom → P k
 head-word P a b c d e f zero h = a
 head-word P a b c d e f (suc zero) h = b
 head-word P a b c d e f (suc (suc zero)) h = c
@@ -72,12 +72,12 @@ module _ (b : List ℕ) (p : ℕ) (new : Bool) (long : length b ≡ blockSize) (
   head-at =
       let k = and-left (kindOk b) (ownPlace b p) (passed .opens) in
       let m = and-left (marksOk b) _ before-unused in
-      let k1 = kind-again b k m few in
+      let k1 = kind-again b m k in
       let k2 : placeIn b ≡ p = eqb-true _ _ (and-right (kindOk b) (ownPlace b p) (passed .opens)) in
       let e0 = written .kind-place in
       let e4 = written .tasks-charge in
       head-word (λ k. nth (wordsOf (guestOf b) p) k ≡ word b k) (omega arith) (written .id) (written .capacity)
-      (written .period) (omega arith) (written .marks ∙ marks-again b k m few)
+      (written .period) (omega arith) (written .marks-server ∙ word-again b m)
 
   -- The bytes that must be zero.
   spare-at : (k : ℕ) → spareFrom ≤ k → k < spareTo → nth (wordsOf (guestOf b) p) k ≡ word b k

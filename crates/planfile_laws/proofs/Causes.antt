@@ -17,8 +17,8 @@ use Rattle.plan.specs.Marks.{isBound}
 use Rattle.plan.specs.Ranges.{mostTasks, longest, within, headOk, guestOk, taskOk, startOk, tasksOk}
 use Rattle.plan.specs.Order.{newId}
 use Rattle.lists.specs.Exactly.{_exactlyWhen_}
-use Rattle.block.specs.Layout.{blockSize, blockWords, unmarkedKind, markedKind}
-use Rattle.block.specs.Reading.{kindIn, placeIn, marksIn, sumsToZero, kindOk, ownPlace}
+use Rattle.block.specs.Layout.{blockSize, blockWords, plainKind, extendedKind, deferrableServer}
+use Rattle.block.specs.Reading.{kindIn, placeIn, marksIn, serverIn, sumsToZero, kindOk, ownPlace}
 use Rattle.blockfile.specs.File.{mostBytes, sizeOk}
 use Rattle.planfile_laws.specs.Causes.{Outside, WrongLength, WrongSum, WrongKind, WrongOpening, WrongHead, Seen, WrongGuest, TaskOutside, NoMultiple, WrongTask}
 use Rattle.lists.proofs.All.{all-false, all-fails}
@@ -68,20 +68,34 @@ length-fails n =
 pub sum-fails : (b : List ℕ) → (sumsToZero b ≡ false) exactlyWhen WrongSum b
 sum-fails b = eqb-fails (wrapped (word b) blockWords) 0
 
+-- Neither marks nor a Deferrable Server.
+opened-fails : (marks server : ℕ)
+    → ((leb 1 marks || eqb server deferrableServer) ≡ false)
+    exactlyWhen ((marks ≡ 0) × (server ≢ deferrableServer))
+opened-fails marks server = (
+  by (leb 1 marks) refl,
+  λ h. rw (lt-leb 1 marks (omega (arith, h .0)), ne-eqb server deferrableServer (h .1)) refl,
+)
+  where
+    by : (t : Bool) → leb 1 marks ≡ t → (t || eqb server deferrableServer) ≡ false
+        → (marks ≡ 0) × (server ≢ deferrableServer)
+    by true p e = absurd (false≢true (sym e))
+    by false p e = (omega (arith, leb-false 1 marks p), eqb-false server deferrableServer e)
+
 -- 3: the kind, by what it is.
 pub kind-fails : (b : List ℕ) → (kindOk b ≡ false) exactlyWhen WrongKind b
 kind-fails b =
-    elim (ℕ-discrete (kindIn b) unmarkedKind) [
-      | yes k ↦ rw (eq-eqb (kindIn b) unmarkedKind k) (
+    elim (ℕ-discrete (kindIn b) plainKind) [
+      | yes k ↦ rw (eq-eqb (kindIn b) plainKind k) (
         λ e. absurd (false≢true (sym e)),
         λ h. absurd (⊎-elim (λ n. n .0 k) (λ t. omega (arith, k, t .0)) h),
       )
-      | no n ↦ elim (ℕ-discrete (kindIn b) markedKind) [
+      | no n ↦ elim (ℕ-discrete (kindIn b) extendedKind) [
         | yes k ↦ rw k (
-          λ e. inr (refl, omega (arith, leb-false 1 (marksIn b) e)),
-          λ h. lt-leb 1 (marksIn b) (⊎-elim (λ n. absurd (n .1 refl)) (λ t. omega (arith, t .1)) h),
+          λ e. inr (refl, opened-fails (marksIn b) (serverIn b) .0 e),
+          λ h. opened-fails (marksIn b) (serverIn b) .1 (⊎-elim (λ n. absurd (n .1 refl)) (λ t. t .1) h),
         )
-        | no m ↦ rw (ne-eqb (kindIn b) unmarkedKind n, ne-eqb (kindIn b) markedKind m) (λ e. inl (n, m), λ h. refl)
+        | no m ↦ rw (ne-eqb (kindIn b) plainKind n, ne-eqb (kindIn b) extendedKind m) (λ e. inl (n, m), λ h. refl)
       ]
     ]
 

@@ -25,13 +25,13 @@ use Rattle.planfile_laws.specs.Causes.{WrongLength, WrongSum, WrongOpeni
 use Rattle.lists.proofs.All.{and-right, all-at}
 use Rattle.lists.proofs.Search.{Says, least-says, count-at, count-none}
 use Rattle.plan.proofs.First.{or-after}
-use Rattle.block.proofs.Reading.{few-in-block, block-in}
+use Rattle.block.proofs.Reading.{block-in}
 use Rattle.blockfile.proofs.File.{sized, unsized, blocks-in}
 use Rattle.planfile.proofs.Finder.{found-none, found-there}
 use Rattle.planfile_laws.proofs.Causes.{length-fails, sum-fails, opening-fails, guest-fails, tasks-fail}
 use Rattle.planfile_laws.proofs.Zeros.{zeros-fail}
 use Rattle.lists.proofs.Exactly.{among, not-given, given-first, given-later}
-use Rattle.planfile_laws.proofs.Order.{given-passed, first-most, one-first, place-first}
+use Rattle.planfile_laws.proofs.Order.{first-most, one-first, place-first}
 
 -- A block is refused by no number above 6.
 most-six : (t2 t3 t4 t5 t6 : Bool)
@@ -51,7 +51,8 @@ module _ (placed : Bool) (s : List ℕ) (k : ℕ) where
   unfolding numberAt blockNumber among
   two-exactly = given-first (sumsToZero (blockAt s k)) 2 _ (omega arith) refl (sum-fails (blockAt s k))
 
-  -- 3: the kind is neither 1 nor 2, or 2 without marks, or, where places count, the place is not the block's own.
+  -- 3: the kind is neither 1 nor 2, or 2 without marks and without a Deferrable Server, or, where places count, the
+  -- place is not the block's own.
   pub three-exactly :
       (numberAt placed s k ≡ 3) exactlyWhen (WrongSum (blockAt s k) notBut WrongOpening placed (blockAt s k) k)
   unfolding numberAt blockNumber among
@@ -74,12 +75,7 @@ module _ (placed : Bool) (s : List ℕ) (k : ℕ) where
       (given-first (guestOk (guestOf (blockAt s k)) && newId (idAt s) k) 4 _ (omega arith) refl
       (guest-fails (guestOf (blockAt s k)) (idAt s) k)))
 
-  -- Where 4's test passes, and so there are at most 16 tasks, 5's test fails for its cause.
-  zeros-at : (guestOk (guestOf (blockAt s k)) && newId (idAt s) k) ≡ true
-      → (zerosOk (blockAt s k) ≡ false) exactlyWhen WrongZero (blockAt s k)
-  zeros-at h = zeros-fail (blockAt s k) (few-in-block (blockAt s k) (newId (idAt s) k) h)
-
-  -- 5: a byte that must be zero is not, or a mark is past the tasks.
+  -- 5: a byte that must be zero is not, a mark is past the tasks, or the server is neither Periodic nor Deferrable.
   pub five-exactly :
       (numberAt placed s k ≡ 5)
       exactlyWhen
@@ -92,9 +88,9 @@ module _ (placed : Bool) (s : List ℕ) (k : ℕ) where
       given-later (sumsToZero (blockAt s k)) 2 5 _ (λ q. omega arith) (sum-fails (blockAt s k))
       (given-later (kindOk (blockAt s k) && (not placed || ownPlace (blockAt s k) k)) 3 5 _ (λ q. omega arith)
       (opening-fails placed (blockAt s k) k)
-      (given-passed (guestOk (guestOf (blockAt s k)) && newId (idAt s) k) 4 5 _ (λ q. omega arith)
+      (given-later (guestOk (guestOf (blockAt s k)) && newId (idAt s) k) 4 5 _ (λ q. omega arith)
       (guest-fails (guestOf (blockAt s k)) (idAt s) k)
-      (λ h. given-first (zerosOk (blockAt s k)) 5 _ (omega arith) refl (zeros-at h))))
+      (given-first (zerosOk (blockAt s k)) 5 _ (omega arith) refl (zeros-fail (blockAt s k)))))
 
   -- 6: a task's run, period or deadline is outside its range, or a bound task's period is no multiple of its guest's.
   pub six-exactly :
@@ -110,9 +106,9 @@ module _ (placed : Bool) (s : List ℕ) (k : ℕ) where
       given-later (sumsToZero (blockAt s k)) 2 6 _ (λ q. omega arith) (sum-fails (blockAt s k))
       (given-later (kindOk (blockAt s k) && (not placed || ownPlace (blockAt s k) k)) 3 6 _ (λ q. omega arith)
       (opening-fails placed (blockAt s k) k)
-      (given-passed (guestOk (guestOf (blockAt s k)) && newId (idAt s) k) 4 6 _ (λ q. omega arith)
+      (given-later (guestOk (guestOf (blockAt s k)) && newId (idAt s) k) 4 6 _ (λ q. omega arith)
       (guest-fails (guestOf (blockAt s k)) (idAt s) k)
-      (λ h. given-later (zerosOk (blockAt s k)) 5 6 _ (λ q. omega arith) (zeros-at h)
+      (given-later (zerosOk (blockAt s k)) 5 6 _ (λ q. omega arith) (zeros-fail (blockAt s k))
       (given-first (tasksOk (guestOf (blockAt s k))) 6 [] (omega arith) refl (tasks-fail (guestOf (blockAt s k)))))))
 
   never-one : numberAt placed s k ≡ 1 → ⊥

@@ -1,111 +1,176 @@
--- Kind and marks of a block, as they are written and as they are read. Assumes nothing.
+-- Kind, marks and server of a block, as they are written and as they are read. Assumes nothing.
 use mathlib.Core.Path.{_≡_, refl, sym, _∙_}
 use mathlib.Core.Logic.{_⊎_, inl, inr, ⊎-elim}
-use mathlib.Core.Bool.{Bool, true, false, false≢true, _&&_, _||_}
+use mathlib.Core.Bool.{Bool, true, false, false≢true, _||_, or-true}
 use mathlib.Core.List.{List}
-use Prim.Native.Nat.{ℕ, zero, suc, _+_, _/_, _^_, _≤_, _<_}
+use Prim.Native.Nat.{ℕ, zero, suc, _+_, _/_, _%_, _^_, _≤_, _<_}
 use native.Mathlib.Decide.{decLt, ℕ-discrete}
-use native.Mathlib.Nat.{pow-zero, two-pow-succ, pow-le-pow-right, div-eq-of-lt, div-eq-of-lt-le}
+use native.Mathlib.Nat.{pow-zero, one-le-pow, two-pow-succ, pow-le-pow-right, div-eq-of-lt, div-eq-of-lt-le}
 use native.Mathlib.Omega.{arith}
 use lib.Dec.{leb, eqb}
-use borrow.Author.Tests.{eq-eqb, eqb-true, le-leb, leb-true}
+use borrow.Author.Tests.{eq-eqb, eqb-true, le-leb, lt-leb, leb-true}
 use Rattle.lists.specs.Choice.{pick}
-use Rattle.plan.specs.Marks.{marked, marksOf, liveMarks}
+use Rattle.plan.specs.Marks.{marked, liveMarks}
 use Rattle.plan.specs.Ranges.{mostTasks}
+use Rattle.plan.specs.Server.{saysDeferrable}
 use Rattle.words.specs.Word.{word}
-use Rattle.block.specs.Layout.{unmarkedKind, markedKind, marksWord, halfWrap}
-use Rattle.block.specs.Reading.{kindIn, taskCount, marksIn, guestOf, kindOk, marksOk}
-use Rattle.blockwriter.specs.Writing.{kindFor}
+use Rattle.block.specs.Layout.{plainKind, extendedKind, deferrableServer, marksServerWord, byteWrap, halves}
+use Rattle.block.specs.Reading.{kindIn, taskCount, marksIn, serverHalf, serverIn, guestOf, kindOk, marksOk}
+use Rattle.blockwriter.specs.Writing.{serverOf, serverFor, kindFor}
 use Rattle.lists.specs.Exactly.{_exactlyWhen_}
 use Rattle.lists.proofs.All.{and-left, and-right}
-use Rattle.plan.proofs.MarksLaws.{marks-none, marks-below, marks-fit}
+use Rattle.plan.proofs.MarksLaws.{marks-fit}
 use Rattle.block.proofs.Reading.{marks-of-two, marks-of-other}
+use Rattle.blockwriter.proofs.Writing.{half-fits}
 
--- Marks of at most 16 tasks fit a half.
-half-fits : (marks n : ℕ) → n ≤ mostTasks → marks < 2 ^ n → marks < halfWrap
-half-fits marks n h l = let s : 2 ^ n ≤ 2 ^ mostTasks = pow-le-pow-right (omega arith) h in omega (arith, l, s)
-
-pub live-fits : (marks n : ℕ) → n ≤ mostTasks → marksOf marks n < halfWrap
-live-fits marks n h = half-fits (marksOf marks n) n h (marks-below marks n)
-
--- A kind is at most 2.
-pub kind-most : (marks : ℕ) → kindFor marks ≤ markedKind
-kind-most marks = by (leb 1 marks)
+-- A server's number that is written is one of two.
+pub server-most : (deferrable : ℕ) → serverOf deferrable ≤ deferrableServer
+server-most deferrable = by (saysDeferrable deferrable)
   where
-    by : (t : Bool) → pick t markedKind unmarkedKind ≤ markedKind
+    by : (t : Bool) → pick t deferrableServer 0 ≤ deferrableServer
     by true = omega arith
     by false = omega arith
 
--- Marks are written in kind 2.
-kind-marked : (marks : ℕ) → 1 ≤ marks → kindFor marks ≡ markedKind
-kind-marked marks h = rw (le-leb 1 marks h) refl
+-- A kind is at most 2.
+pub kind-most : (marks server : ℕ) → kindFor marks server ≤ extendedKind
+kind-most marks server = by (leb 1 marks || leb 1 server)
+  where
+    by : (t : Bool) → pick t extendedKind plainKind ≤ extendedKind
+    by true = omega arith
+    by false = omega arith
 
--- No marks are written in kind 1.
-kind-unmarked : (marks : ℕ) → marks ≡ 0 → kindFor marks ≡ unmarkedKind
-kind-unmarked marks e = rw e refl
+-- Marks or a Deferrable Server are written in kind 2.
+kind-extended : (marks server : ℕ) → 1 ≤ marks + server → kindFor marks server ≡ extendedKind
+kind-extended marks server h =
+    elim (decLt marks 1) [
+      | yes l ↦ rw (lt-leb 1 marks l, le-leb 1 server (omega arith)) refl
+      | no l ↦ rw (le-leb 1 marks (omega arith)) refl
+    ]
 
--- A block with the kind and the marks that are written.
-module _ (b : List ℕ) (marks : ℕ) (kind : kindIn b ≡ kindFor marks) (at : word b marksWord ≡ marks)
-    (few : taskCount b ≤ mostTasks) (below : marks < 2 ^ taskCount b) where
+-- Neither is written in kind 1.
+kind-plain : (marks server : ℕ) → marks + server ≡ 0 → kindFor marks server ≡ plainKind
+kind-plain marks server e = rw (lt-leb 1 marks (omega arith), lt-leb 1 server (omega arith)) refl
+
+-- A block has the kind, the marks and the server that are written.
+pub record Opened (b : List ℕ) (marks server : ℕ) : Type 0 where
+  pub kind : kindIn b ≡ kindFor marks server
+  pub at : word b marksServerWord ≡ halves marks server
+  pub few : taskCount b ≤ mostTasks
+  pub below : marks < 2 ^ taskCount b
+  pub last : server ≤ deferrableServer
+
+module _ (b : List ℕ) (marks server : ℕ) (o : Opened b marks server) where
+  -- It says these marks.
+  pub marks-there : marksIn b ≡ marks
+  marks-there = omega (arith, o .at, half-fits marks (taskCount b) (o .few) (o .below))
+
+  -- It has this server, and zero in byte 23.
+  half-there : serverHalf b ≡ server
+  half-there = omega (arith, o .at, half-fits marks (taskCount b) (o .few) (o .below))
+
+  pub server-there : serverIn b ≡ server
+  server-there = rw half-there (within-byte server (o .last))
+    where
+      within-byte : (server : ℕ) → server ≤ deferrableServer → server % byteWrap ≡ server
+      within-byte server h = omega arith
+
+  -- Marks or a Deferrable Server pass in kind 2.
+  one-passes : 1 ≤ marks + server → (leb 1 (marksIn b) || eqb (serverIn b) deferrableServer) ≡ true
+  one-passes h =
+      elim (decLt marks 1) [
+        | yes l ↦
+            let e : server ≡ deferrableServer = omega (arith, o .last) in
+            rw (eq-eqb (serverIn b) deferrableServer (server-there ∙ e)) (or-true (leb 1 (marksIn b)))
+        | no l ↦ rw (le-leb 1 (marksIn b) (omega (arith, marks-there))) refl
+      ]
+
   -- The kind passes.
   pub kind-passes : kindOk b ≡ true
   kind-passes =
-      elim (decLt marks 1) [
-        | yes h ↦ rw (eq-eqb (kindIn b) unmarkedKind (kind ∙ kind-unmarked marks (omega arith))) refl
+      elim (decLt (marks + server) 1) [
+        | yes h ↦ rw (eq-eqb (kindIn b) plainKind (o .kind ∙ kind-plain marks server (omega arith))) refl
         | no h ↦
-            let k : kindIn b ≡ markedKind = kind ∙ kind-marked marks (omega arith) in
-            let m : 1 ≤ marksIn b = omega (arith, at, half-fits marks (taskCount b) few below) in
-            rw k (le-leb 1 (marksIn b) m)
+            let k : kindIn b ≡ extendedKind = o .kind ∙ kind-extended marks server (omega arith) in
+            rw k (one-passes (omega arith))
       ]
 
-  -- The marks pass.
+  -- The marks and the server pass.
   pub marks-pass : marksOk b ≡ true
   marks-pass =
-      elim (decLt marks 1) [
+      elim (decLt (marks + server) 1) [
         | yes h ↦
-            let k : kindIn b ≡ unmarkedKind = kind ∙ kind-unmarked marks (omega arith) in
-            marks-of-other b (λ e. omega (arith, k, e)) .1 (omega (arith, at))
-        | no h ↦ marks-of-two b (kind ∙ kind-marked marks (omega arith)) .1 (rw at below)
+            let k : kindIn b ≡ plainKind = o .kind ∙ kind-plain marks server (omega arith) in
+            marks-of-other b (λ e. omega (arith, k, e)) .1 (omega (arith, o .at))
+        | no h ↦
+            marks-of-two b (o .kind ∙ kind-extended marks server (omega arith)) .1
+            (rw marks-there (o .below), rw half-there (o .last))
       ]
 
--- A kind that passes is 1, or 2 with marks.
-kind-says : (b : List ℕ) → kindOk b ≡ true → (kindIn b ≡ unmarkedKind) ⊎ ((kindIn b ≡ markedKind) × (1 ≤ marksIn b))
-kind-says b e = by (eqb (kindIn b) unmarkedKind) refl (eqb (kindIn b) markedKind && leb 1 (marksIn b)) refl e
-  where
-    by : (t : Bool) → eqb (kindIn b) unmarkedKind ≡ t → (u : Bool)
-        → (eqb (kindIn b) markedKind && leb 1 (marksIn b)) ≡ u → (t || u) ≡ true
-        → (kindIn b ≡ unmarkedKind) ⊎ ((kindIn b ≡ markedKind) × (1 ≤ marksIn b))
-    by true p u q e = inl (eqb-true (kindIn b) unmarkedKind p)
-    by false p u q e =
-        inr (
-          eqb-true (kindIn b) markedKind (and-left (eqb (kindIn b) markedKind) _ (q ∙ e)),
-          leb-true 1 (marksIn b) (and-right (eqb (kindIn b) markedKind) _ (q ∙ e)),
-        )
+-- One of two tests passes.
+or-says : (t u : Bool) → (t || u) ≡ true → (t ≡ true) ⊎ (u ≡ true)
+or-says true u e = inl refl
+or-says false u e = inr e
 
--- A block whose kind and marks pass.
-module _ (b : List ℕ) (kind : kindOk b ≡ true) (marks : marksOk b ≡ true) (few : taskCount b ≤ mostTasks) where
-  -- What is written again as its marks stands there.
-  pub marks-again : liveMarks (guestOf b) ≡ word b marksWord
-  marks-again =
-      elim (ℕ-discrete (kindIn b) markedKind) [
-        | yes t ↦
-            let l = marks-of-two b t .0 marks in
-            let e : marksIn b ≡ word b marksWord = omega (arith, half-fits (word b marksWord) (taskCount b) few l) in
-            rw e (marks-fit (word b marksWord) (taskCount b) l)
+-- A kind that passes is 1, or 2 with marks or a Deferrable Server.
+kind-says : (b : List ℕ) → kindOk b ≡ true
+    → (kindIn b ≡ plainKind) ⊎ ((kindIn b ≡ extendedKind) × (1 ≤ marksIn b + serverIn b))
+kind-says b e =
+    ⊎-elim
+    (λ p. inl (eqb-true (kindIn b) plainKind p))
+    (λ q.
+    let two = eqb-true (kindIn b) extendedKind (and-left (eqb (kindIn b) extendedKind) _ q) in
+    inr (
+      two,
+      ⊎-elim
+          (λ m. omega (arith, leb-true 1 (marksIn b) m))
+          (λ s. omega (arith, eqb-true (serverIn b) deferrableServer s))
+          (or-says (leb 1 (marksIn b)) _ (and-right (eqb (kindIn b) extendedKind) _ q)),
+    ))
+    (or-says (eqb (kindIn b) plainKind) _ e)
+
+-- A server's number that a block can have is written as it is.
+server-same : (server : ℕ) → server ≤ deferrableServer → serverOf server ≡ server
+server-same server h =
+    elim (decLt server 1) [
+      | yes l ↦ let e : server ≡ 0 = omega arith in rw e refl
+      | no l ↦ let e : server ≡ deferrableServer = omega arith in rw e refl
+    ]
+
+-- A block whose marks and server pass.
+module _ (b : List ℕ) (marks : marksOk b ≡ true) where
+  -- No mark is past its tasks, and its server is one of two.
+  marks-say : (marksIn b < 2 ^ taskCount b) × (serverHalf b ≤ deferrableServer)
+  marks-say =
+      elim (ℕ-discrete (kindIn b) extendedKind) [
+        | yes t ↦ marks-of-two b t .0 marks
         | no t ↦
             let z = marks-of-other b t .0 marks in
-            sym (marks-none (marksIn b) (taskCount b) (omega (arith, z))) ∙ sym z
+            (omega (arith, z, one-le-pow (taskCount b) 2 (omega arith)), omega (arith, z))
       ]
 
-  -- So does what is written again as its kind.
-  pub kind-again : kindFor (liveMarks (guestOf b)) ≡ kindIn b
-  kind-again =
+  -- The marks and the server that are written again.
+  marks-again : liveMarks (guestOf b) ≡ marksIn b
+  marks-again = marks-fit (marksIn b) (taskCount b) (marks-say .0)
+
+  server-again : serverFor (guestOf b) ≡ serverHalf b
+  server-again =
+      let e : serverIn b ≡ serverHalf b = omega (arith, marks-say .1) in
+      rw e (server-same (serverHalf b) (marks-say .1))
+
+  -- What is written again as their word stands there.
+  pub word-again : halves (liveMarks (guestOf b)) (serverFor (guestOf b)) ≡ word b marksServerWord
+  word-again = omega (arith, marks-again, server-again)
+
+  -- So does what is written again as its kind, if that passes too.
+  pub kind-again : kindOk b ≡ true → kindFor (liveMarks (guestOf b)) (serverFor (guestOf b)) ≡ kindIn b
+  kind-again kind =
       ⊎-elim
-      (λ (k : kindIn b ≡ unmarkedKind).
-      kind-unmarked (liveMarks (guestOf b))
-      (marks-again ∙ marks-of-other b (λ e. omega (arith, k, e)) .0 marks) ∙ sym k)
-      (λ (k : (kindIn b ≡ markedKind) × (1 ≤ marksIn b)).
-      kind-marked (liveMarks (guestOf b)) (rw marks-again (omega (arith, k .1))) ∙ sym (k .0))
+      (λ (k : kindIn b ≡ plainKind).
+      let z = marks-of-other b (λ e. omega (arith, k, e)) .0 marks in
+      kind-plain (liveMarks (guestOf b)) (serverFor (guestOf b)) (omega (arith, z, marks-again, server-again)) ∙ sym k)
+      (λ (k : (kindIn b ≡ extendedKind) × (1 ≤ marksIn b + serverIn b)).
+      kind-extended (liveMarks (guestOf b)) (serverFor (guestOf b)) (omega (arith, k .1, marks-again, server-again))
+      ∙ sym (k .0))
       (kind-says b kind)
 
 -- A number is below its own power of two.

@@ -2,16 +2,13 @@
 use mathlib.Core.Path.{_≡_, refl, sym, ap, _∙_}
 use mathlib.Core.Logic.{⊎-elim}
 use mathlib.Core.Bool.{Bool, true, false, false≢true}
-use mathlib.Core.List.{List, _∷_}
 use Prim.Native.Nat.{ℕ, zero, suc, _<_, _≤_}
 use native.Mathlib.Nat.{eq-or-lt-of-le}
 use native.Mathlib.Omega.{arith}
 use Rattle.plan.specs.declared.Refusal.{Refusal}
 use Rattle.plan.specs.First.{refused, orElse, firstRefused}
-use Rattle.lists.specs.Refusals.{Test, refusal, unless, _orRefuse_}
 use Rattle.lists.specs.Exactly.{_exactlyWhen_, _notBut_}
 use Rattle.planfile_laws.specs.Exact.{FirstAt}
-use Rattle.lists.proofs.Exactly.{given-later}
 
 -- The first refusal, by what stands at place k.
 first-by : (f : ℕ → ℕ) (m k n z x : ℕ) → f k ≡ x → orElse x k (firstRefused f m (suc k)) ≡ refused (suc n) z
@@ -106,11 +103,3 @@ module _ (f : ℕ → ℕ) (m : ℕ) (r : Refusal) (never : (k : ℕ) → f k �
     λ e. let o = place-by b n z l g e in (λ x. false≢true (sym (p .1 x) ∙ o .0), o .1),
     λ h. g (is-true b (λ e. h .0 (p .0 e))) ∙ is-first f m 0 (suc n) z (h .1),
   )
-
--- A later test's number, where what its cause says may rest on the first test's having passed.
-pub given-passed : (b : Bool) (n m : ℕ) (ts : List Test) {A B : Type 0} → (n ≡ m → ⊥) → (b ≡ false) exactlyWhen A
-    → (b ≡ true → (refusal ts ≡ m) exactlyWhen B)
-    → (refusal (b orRefuse n ∷ ts) ≡ m) exactlyWhen (A notBut B)
-unfolding refusal unless
-given-passed true n m ts d p q = given-later true n m ts d p (q refl)
-given-passed false n m ts d p q = (λ e. absurd (d e), λ h. absurd (h .0 (p .0 refl)))

@@ -1,5 +1,5 @@
 -- Read-back: a plan that passes the records' order, written and read, is that plan with zeros past its guests and
--- tasks. Assumes nothing.
+-- tasks, and with 1 for any number that says Deferrable. Assumes nothing.
 use mathlib.Core.Path.{_≡_, refl, sym, ap, _∙_}
 use mathlib.Core.Bool.{Bool, true, false}
 use mathlib.Core.List.{List, _++_}
@@ -132,7 +132,7 @@ module _ (p : Plan) (fits : PlanInTypes p) (ok : planRefusal p .number ≡ 0) wh
       ∙ ap (λ (gs : List Guest). reading fine (record { count = p .count; guests = gs })) records-are
 
 -- For records that pass the check, the file of their blocks is read without a refusal as those records, with zeros
--- past the counts.
+-- past the counts and 1 for any number that says Deferrable.
 pub read-back : (p : Plan) → PlanInTypes p → planRefusal p .number ≡ 0
     → readOf (fileOf p) ≡ record { refusal = fine; plan = cleared p }
 unfolding s

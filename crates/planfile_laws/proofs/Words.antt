@@ -9,18 +9,18 @@ use native.Mathlib.Omega.{arith}
 use lib.ListN.{length, set, replicate, length-set, length-replicate, getD-replicate, List·getD-eq-default}
 use lib.Seq.{getD-set-same, getD-set-other}
 use Rattle.plan.specs.Ranges.{mostTasks}
-use Rattle.block.specs.Layout.{blockWords, kindPlaceWord, markedKind, lastPlace, idWord, capacityWord, periodWord, tasksChargeWord, marksWord, spareFrom, spareTo, runWord, everyWord, deadlineWord, unusedFrom, checkWord, halfWrap, halves}
+use Rattle.block.specs.Layout.{blockWords, kindPlaceWord, deferrableServer, lastPlace, idWord, capacityWord, periodWord, tasksChargeWord, marksServerWord, spareFrom, spareTo, runWord, everyWord, deadlineWord, unusedFrom, checkWord, halfWrap, halves}
 use Rattle.plan.specs.Marks.{liveMarks}
 use Rattle.words.specs.Word.{wordWrap}
 use Rattle.words.specs.Bytes.{Below}
 use Rattle.lists.specs.Places.{nth}
 use Rattle.words.specs.Wrap.{wrapped, complement}
 use Rattle.plan.specs.declared.Guest.{Guest}
-use Rattle.blockwriter.specs.Writing.{kindFor, withKind, withHead, withEntry, withEntries, wordsOf, withCheck}
+use Rattle.blockwriter.specs.Writing.{serverFor, kindFor, withKind, withHead, withEntry, withEntries, wordsOf, withCheck}
 use Rattle.planfile_laws.specs.Fits.{GuestInTypes}
 use Rattle.lists.proofs.Places.{set-get}
-use Rattle.planfile_laws.proofs.Marks.{kind-most, live-fits}
-use Rattle.blockwriter.proofs.Writing.{head-length, entries-length}
+use Rattle.blockwriter.proofs.Writing.{live-fits, head-length, entries-length}
+use Rattle.planfile_laws.proofs.Marks.{server-most, kind-most}
 
 -- An entry that stands.
 pub record EntryAt (x : List ℕ) (i r e d : ℕ) : Type 0 where
@@ -118,7 +118,7 @@ zeros = replicate blockWords 0
 
 module _ (g : Guest) (p : ℕ) where
   -- The head's words.
-  head-opening : nth (withHead g p zeros) kindPlaceWord ≡ halves (kindFor (liveMarks g)) p
+  head-opening : nth (withHead g p zeros) kindPlaceWord ≡ halves (kindFor (liveMarks g) (serverFor g)) p
   unfolding withHead withKind zeros
   head-opening = refl
 
@@ -138,7 +138,7 @@ module _ (g : Guest) (p : ℕ) where
   unfolding withHead withKind zeros
   head-tasks = refl
 
-  head-marks : nth (withHead g p zeros) marksWord ≡ liveMarks g
+  head-marks : nth (withHead g p zeros) marksServerWord ≡ halves (liveMarks g) (serverFor g)
   unfolding withHead withKind zeros
   head-marks = refl
 
@@ -147,8 +147,8 @@ module _ (g : Guest) (p : ℕ) where
   unfolding withHead withKind zeros
   head-past k h l =
       let x : List ℕ = replicate blockWords 0 in
-      let y : List ℕ = set x kindPlaceWord (halves (kindFor (liveMarks g)) p) in
-      let x0 : List ℕ = set y marksWord (liveMarks g) in
+      let y : List ℕ = set x kindPlaceWord (halves (kindFor (liveMarks g) (serverFor g)) p) in
+      let x0 : List ℕ = set y marksServerWord (halves (liveMarks g) (serverFor g)) in
       let x1 : List ℕ = set x0 idWord (g .id) in
       let x2 : List ℕ = set x1 capacityWord (g .capacity) in
       let x3 : List ℕ = set x2 periodWord (g .period) in
@@ -156,8 +156,8 @@ module _ (g : Guest) (p : ℕ) where
       ∙ getD-set-other x2 periodWord k (g .period) 0 (λ q. omega arith)
       ∙ getD-set-other x1 capacityWord k (g .capacity) 0 (λ q. omega arith)
       ∙ getD-set-other x0 idWord k (g .id) 0 (λ q. omega arith)
-      ∙ getD-set-other y marksWord k (liveMarks g) 0 (λ q. omega arith)
-      ∙ getD-set-other x kindPlaceWord k (halves (kindFor (liveMarks g)) p) 0 (λ q. omega arith)
+      ∙ getD-set-other y marksServerWord k (halves (liveMarks g) (serverFor g)) 0 (λ q. omega arith)
+      ∙ getD-set-other x kindPlaceWord k (halves (kindFor (liveMarks g) (serverFor g)) p) 0 (λ q. omega arith)
       ∙ getD-replicate blockWords k 0 0 l
 
   zeros-fit : Below wordWrap zeros
@@ -171,21 +171,22 @@ module _ (g : Guest) (p : ℕ) where
             (omega arith)
       ]
 
-  kind-fits : p ≤ lastPlace → g .tasks ≤ mostTasks → Below wordWrap (withKind (liveMarks g) p zeros)
+  kind-fits : p ≤ lastPlace → g .tasks ≤ mostTasks → Below wordWrap (withKind (liveMarks g) (serverFor g) p zeros)
   unfolding withKind
   kind-fits l h =
-      let k : kindFor (liveMarks g) ≤ markedKind = kind-most (liveMarks g) in
+      let k = kind-most (liveMarks g) (serverFor g) in
       let m : liveMarks g < halfWrap = live-fits (g .marks) (g .tasks) h in
-      let y : List ℕ = set zeros kindPlaceWord (halves (kindFor (liveMarks g)) p) in
-      set-fits wordWrap y marksWord (liveMarks g)
-      (set-fits wordWrap zeros kindPlaceWord (halves (kindFor (liveMarks g)) p) zeros-fit (omega (arith, k, l)))
-      (omega (arith, m))
+      let s : serverFor g ≤ deferrableServer = server-most (g .deferrable) in
+      let v : ℕ = halves (kindFor (liveMarks g) (serverFor g)) p in
+      set-fits wordWrap (set zeros kindPlaceWord v) marksServerWord (halves (liveMarks g) (serverFor g))
+      (set-fits wordWrap zeros kindPlaceWord v zeros-fit (omega (arith, k, l)))
+      (omega (arith, m, s))
 
   head-fits : GuestInTypes g → p ≤ lastPlace → g .tasks ≤ mostTasks → Below wordWrap (withHead g p zeros)
   unfolding withHead
   head-fits f l h =
       let c = f .charge in
-      let y1 : List ℕ = withKind (liveMarks g) p zeros in
+      let y1 : List ℕ = withKind (liveMarks g) (serverFor g) p zeros in
       let y2 : List ℕ = set y1 idWord (g .id) in
       let y3 : List ℕ = set y2 capacityWord (g .capacity) in
       let y4 : List ℕ = set y3 periodWord (g .period) in
@@ -197,12 +198,12 @@ module _ (g : Guest) (p : ℕ) where
 
   -- The words of the block but for the check.
   pub record WordsAt : Type 0 where
-    pub kind-place : nth (wordsOf g p) kindPlaceWord ≡ halves (kindFor (liveMarks g)) p
+    pub kind-place : nth (wordsOf g p) kindPlaceWord ≡ halves (kindFor (liveMarks g) (serverFor g)) p
     pub id : nth (wordsOf g p) idWord ≡ g .id
     pub capacity : nth (wordsOf g p) capacityWord ≡ g .capacity
     pub period : nth (wordsOf g p) periodWord ≡ g .period
     pub tasks-charge : nth (wordsOf g p) tasksChargeWord ≡ halves (g .tasks) (g .charge)
-    pub marks : nth (wordsOf g p) marksWord ≡ liveMarks g
+    pub marks-server : nth (wordsOf g p) marksServerWord ≡ halves (liveMarks g) (serverFor g)
     pub spare : (k : ℕ) → spareFrom ≤ k → k < spareTo → nth (wordsOf g p) k ≡ 0
     pub entry : (i : ℕ) → i < g .tasks
         → EntryAt (wordsOf g p) i (nth (g .run) i) (nth (g .every) i) (nth (g .deadline) i)
@@ -221,7 +222,7 @@ module _ (g : Guest) (p : ℕ) where
         capacity = before capacityWord (omega arith) ∙ head-capacity;
         period = before periodWord (omega arith) ∙ head-period;
         tasks-charge = before tasksChargeWord (omega arith) ∙ head-tasks;
-        marks = before marksWord (omega arith) ∙ head-marks;
+        marks-server = before marksServerWord (omega arith) ∙ head-marks;
         spare = λ k l m. before k m ∙ head-past k l (omega arith);
         entry = entries-at (g .run) (g .every) (g .deadline) (g .tasks) x h (head-length g p zeros);
         unused =

@@ -1,9 +1,10 @@
 -- Worked examples, by computation. Assumes nothing.
 use mathlib.Core.Path.{_≡_, refl}
-use mathlib.Core.List.{[], _∷_}
+use mathlib.Core.List.{List, [], _∷_}
 use Prim.Native.Nat.{ℕ, _*_}
-use lib.ListN.{length, replicate}
+use lib.ListN.{length, set, replicate}
 use Rattle.lists.specs.All.{allTo}
+use Rattle.lists.specs.Places.{nth}
 use Rattle.lists.specs.Sum.{sumTo}
 use Rattle.lists.specs.Table.{table}
 use Rattle.lists.specs.Refusals.{unless, refusal}
@@ -15,11 +16,11 @@ use Rattle.plan.specs.Marks.{marked, marksOf}
 use Rattle.plan.specs.Ranges.{headOk, taskOk, startOk, tasksOk}
 use Rattle.plan.specs.First.{refused, fine, orElse, firstRefused}
 use Rattle.plan.specs.Order.{newId}
-use Rattle.block.specs.Layout.{blockSize}
+use Rattle.block.specs.Layout.{blockSize, blockWords, kindPlaceWord, extendedKind, marksServerWord, halves}
 use Rattle.block.specs.Reading.{column, zeroBetween, marksOk, blockNumber}
 use Rattle.blockwriter.specs.Writing.{withKind, withHead, withEntry, withEntries, wordsOf, withCheck, blockOf}
 use Rattle.blockfile.specs.File.{numberAt, sizedBy, blocksRefusal}
-use Rattle.worked.specs.Plans.{planOf, top, nine, A}
+use Rattle.worked.specs.Plans.{anyGuest, planOf, nine, A}
 use Rattle.blockfile.specs.Records.{recordsOf}
 use Rattle.planfile.specs.Records.{planBy, readOf}
 use Rattle.planfile_laws.specs.File.{joined, fileOf}
@@ -46,30 +47,46 @@ unfolding readOf planBy recordsOf blocksRefusal sizedBy firstRefused orElse numb
     bytesOf withCheck wordsOf withEntries withEntry withHead withKind
 plan-a-back = refl
 
--- Plan A's first guest with these marks; its one task, every 20 ticks, is a multiple of the period of 5.
-abbrev bound : (marks : ℕ) → Guest
-bound marks = record {
-  id = top .id;
-  capacity = top .capacity;
-  period = top .period;
-  tasks = top .tasks;
-  charge = top .charge;
-  marks = marks;
-  run = top .run;
-  every = top .every;
-  deadline = top .deadline;
-}
+-- Plan A's first guest with these marks and this server; its one task, every 20 ticks, is a multiple of the period of 5.
+abbrev first : (marks deferrable : ℕ) → Guest
+first marks deferrable = anyGuest 7 2 5 0 marks deferrable (1 ∷ []) (20 ∷ []) (20 ∷ [])
 
 -- A plan of both kinds is read back as it was, but for a mark past the one task.
 pub bound-back :
-    readOf (fileOf (planOf (bound 3 ∷ nine 8 ∷ [])))
-    ≡ record { refusal = fine; plan = planOf (bound 1 ∷ nine 8 ∷ []) }
+    readOf (fileOf (planOf (first 3 0 ∷ nine 8 ∷ [])))
+    ≡ record { refusal = fine; plan = planOf (first 1 0 ∷ nine 8 ∷ []) }
 unfolding readOf planBy recordsOf blocksRefusal sizedBy firstRefused orElse numberAt blockNumber refusal unless word
     sumTo newId column table zeroBetween allTo marksOk headOk taskOk startOk tasksOk marked marksOf fileOf joined blockOf
     bytesOf withCheck wordsOf withEntries withEntry withHead withKind
 bound-back = refl
 
+-- A Deferrable guest without marks is read back too, with 1 for any number that says Deferrable.
+pub deferrable-back :
+    readOf (fileOf (planOf (first 0 7 ∷ nine 8 ∷ [])))
+    ≡ record { refusal = fine; plan = planOf (first 0 1 ∷ nine 8 ∷ []) }
+unfolding readOf planBy recordsOf blocksRefusal sizedBy firstRefused orElse numberAt blockNumber refusal unless word
+    sumTo newId column table zeroBetween allTo marksOk headOk taskOk startOk tasksOk marked marksOf fileOf joined blockOf
+    bytesOf withCheck wordsOf withEntries withEntry withHead withKind
+deferrable-back = refl
+
 -- A mark past the one task decides nothing by itself: the blocks are those of no mark, of kind 1.
-pub past-alone : fileOf (planOf (bound 2 ∷ nine 8 ∷ [])) ≡ fileOf A
+pub past-alone : fileOf (planOf (first 2 0 ∷ nine 8 ∷ [])) ≡ fileOf A
 unfolding fileOf joined blockOf bytesOf withCheck wordsOf withEntries withEntry withHead withKind marksOf
 past-alone = refl
+
+-- The same guest's block with kind 2, these marks and this number in bytes 22-23, and its check.
+abbrev opened : (marks server : ℕ) → List ℕ
+opened marks server =
+    bytesOf
+    (nth
+    (withCheck (set (set (wordsOf (first 0 0) 0) kindPlaceWord extendedKind) marksServerWord (halves marks server))))
+    blockWords
+
+-- Without marks, 2 in byte 22 is refused by 3; with a mark by 5, as is a byte 23 that is not zero.
+pub servers-refused :
+    readOf (opened 0 2) .refusal ∷ readOf (opened 1 2) .refusal ∷ readOf (opened 0 257) .refusal ∷ []
+    ≡ refused 3 0 ∷ refused 5 0 ∷ refused 5 0 ∷ []
+unfolding readOf planBy recordsOf blocksRefusal sizedBy firstRefused orElse numberAt blockNumber refusal unless word
+    sumTo newId column table zeroBetween allTo marksOk headOk taskOk startOk tasksOk marked marksOf fileOf joined blockOf
+    bytesOf withCheck wordsOf withEntries withEntry withHead withKind
+servers-refused = refl

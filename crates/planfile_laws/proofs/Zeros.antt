@@ -1,22 +1,20 @@
--- The test of 5 fails exactly when document 01's cause holds: a byte that must be zero is not, or a mark is past the
--- tasks. Assumes nothing.
+-- The test of 5 fails exactly when document 01's cause holds: a byte that must be zero is not, a mark is past the
+-- tasks, or the server is none. Assumes nothing.
 use mathlib.Core.Path.{_≡_, refl, sym}
 use mathlib.Core.Logic.{_⊎_, _≢_, inl, inr, ⊎-elim}
 use mathlib.Core.Bool.{Bool, true, false, false≢true}
 use mathlib.Core.List.{List}
 use Prim.Native.Nat.{ℕ, _+_, _*_, _-_, _/_, _^_, _≤_, _<_}
 use native.Mathlib.Decide.{decLt, ℕ-discrete}
-use native.Mathlib.Nat.{pow-le-pow-right}
 use native.Mathlib.Omega.{arith}
 use lib.Dec.{eqb}
 use borrow.Author.Tests.{eqb-false}
 use Rattle.lists.specs.Exactly.{_exactlyWhen_}
 use Rattle.lists.specs.Places.{nth}
-use Rattle.words.specs.Word.{u16At, word}
-use Rattle.plan.specs.Ranges.{mostTasks}
-use Rattle.block.specs.Layout.{markedKind, marksWord, spareFrom, spareTo, unusedFrom, checkWord}
-use Rattle.block.specs.Reading.{kindIn, taskCount, zeroBetween, marksOk, zerosOk}
-use Rattle.planfile_laws.specs.Causes.{MustBeZero, MarkPast, WrongZero}
+use Rattle.words.specs.Word.{word}
+use Rattle.block.specs.Layout.{extendedKind, deferrableServer, marksServerWord, spareFrom, spareTo, unusedFrom, checkWord}
+use Rattle.block.specs.Reading.{kindIn, taskCount, marksIn, serverHalf, zeroBetween, marksOk, zerosOk}
+use Rattle.planfile_laws.specs.Causes.{MustBeZero, MarkPast, WrongServer, WrongZero}
 use Rattle.lists.proofs.All.{all-false}
 use Rattle.block.proofs.Reading.{marks-of-two, marks-of-other}
 use Rattle.block.proofs.Table.{word-bytes, byte-of, zero-bytes}
@@ -65,80 +63,70 @@ fails-when-not : (t : Bool) {A : Type 0} → (t ≡ true) exactlyWhen A → (t �
 fails-when-not true p = (λ e. absurd (false≢true (sym e)), λ n. absurd (n (p .0 refl)))
 fails-when-not false p = (λ e a. false≢true (p .1 a), λ n. refl)
 
--- What must not stand in bytes 20-23.
+-- What must not stand in bytes 20-23: a byte that must be zero, or in kind 2 a mark past the tasks or another server.
 abbrev WrongMarks : List ℕ → Type 0
 WrongMarks b =
-    ((i : ℕ) × ((((kindIn b ≢ markedKind) × ((20 ≤ i) × (i < 22))) ⊎ ((22 ≤ i) × (i < 24))) × (nth b i ≢ 0)))
-    ⊎ MarkPast b
+    ((i : ℕ) × ((((kindIn b ≢ extendedKind) × ((20 ≤ i) × (i < 23))) ⊎ (i ≡ 23)) × (nth b i ≢ 0)))
+    ⊎ (MarkPast b ⊎ WrongServer b)
 
--- In kind 2: a byte beside the marks, or a mark past the tasks.
-marked-fails : (b : List ℕ) → taskCount b ≤ mostTasks → kindIn b ≡ markedKind
-    → (marksOk b ≡ false) exactlyWhen WrongMarks b
-marked-fails b few k =
-    let w = word-bytes b marksWord in
-    let s : 2 ^ taskCount b ≤ 2 ^ mostTasks = pow-le-pow-right (omega arith) few in
-    let f = fails-when-not (marksOk b) (marks-of-two b k) in (
+-- In kind 2: a mark past the tasks, or another server, which one with a byte 23 that is not zero is too.
+extended-fails : (b : List ℕ) → kindIn b ≡ extendedKind → (marksOk b ≡ false) exactlyWhen WrongMarks b
+extended-fails b k =
+    let f = fails-when-not (marksOk b) (marks-of-two b k) in
+    let past = past-exactly (marksIn b) (taskCount b) in (
       λ e.
-          elim (decLt 0 (nth b 22)) [
-            | yes h ↦ inl (22, (inr (omega arith, omega arith), λ z. omega arith))
-            | no h ↦ elim (decLt 0 (nth b 23)) [
-              | yes i ↦ inl (23, (inr (omega arith, omega arith), λ z. omega arith))
-              | no i ↦ elim (decLt (word b marksWord) (2 ^ taskCount b)) [
-                | yes l ↦ absurd (f .0 e l)
-                | no l ↦ inr (k, past-exactly (u16At b 20) (taskCount b) .0 (omega (arith, w)))
-              ]
+          elim (decLt (marksIn b) (2 ^ taskCount b)) [
+            | yes l ↦ elim (decLt deferrableServer (serverHalf b)) [
+              | yes m ↦ inr (inr (k, m))
+              | no m ↦ absurd (f .0 e (l, omega arith))
             ]
+            | no l ↦ inr (inl (k, past .0 (omega arith)))
           ],
       λ h.
           f .1 (λ l.
           ⊎-elim
-          (λ o. ⊎-elim (λ a. a .0 k) (λ c. o .1 .1 (beside b (o .0) (c .0) (c .1) (omega (arith, l, s)))) (o .1 .0))
-          (λ m. omega (arith, w, l, past-exactly (u16At b 20) (taskCount b) .1 (m .1)))
+          (λ o. ⊎-elim (λ a. a .0 k) (λ c. o .1 .1 (rw c (beside b (l .1)))) (o .1 .0))
+          (λ x. ⊎-elim (λ m. omega (arith, l .0, past .1 (m .1))) (λ s. omega (arith, l .1, s .1)) x)
           h),
     )
   where
-    beside : (b : List ℕ) (i : ℕ) → 22 ≤ i → i < 24 → word b marksWord < 2 ^ mostTasks → nth b i ≡ 0
-    beside b i f u l =
-        elim (decLt i 23) [
-          | yes m ↦ let e : i ≡ 22 = omega arith in rw e (omega (arith, word-bytes b marksWord, l))
-          | no m ↦ let e : i ≡ 23 = omega arith in rw e (omega (arith, word-bytes b marksWord, l))
-        ]
+    beside : (b : List ℕ) → serverHalf b ≤ deferrableServer → nth b 23 ≡ 0
+    beside b l = omega (arith, word-bytes b marksServerWord, l)
 
 -- In another kind: any byte there.
-unmarked-fails : (b : List ℕ) → (kindIn b ≡ markedKind → ⊥) → (marksOk b ≡ false) exactlyWhen WrongMarks b
-unmarked-fails b n =
+plain-fails : (b : List ℕ) → (kindIn b ≡ extendedKind → ⊥) → (marksOk b ≡ false) exactlyWhen WrongMarks b
+plain-fails b n =
     let f = fails-when-not (marksOk b) (marks-of-other b n) in (
       λ e.
-          let o = some-byte b marksWord (f .0 e) in
-          elim (decLt (o .0) 22) [
+          let o = some-byte b marksServerWord (f .0 e) in
+          elim (decLt (o .0) 23) [
             | yes l ↦ inl (o .0, (inl (n, (o .1 .0 .0, l)), o .1 .1))
-            | no l ↦ inl (o .0, (inr (omega arith, o .1 .0 .1), o .1 .1))
+            | no l ↦ inl (o .0, (inr (omega (arith, o .1 .0 .1)), o .1 .1))
           ],
       λ h.
           f .1 (λ z.
           ⊎-elim
           (λ o.
           o .1 .1 (zero b z (o .0)
-          (⊎-elim (λ a. a .1 .0) (λ c. omega (arith, c .0)) (o .1 .0))
-          (⊎-elim (λ a. omega (arith, a .1 .1)) (λ c. c .1) (o .1 .0))))
-          (λ m. n (m .0))
+          (⊎-elim (λ a. a .1 .0) (λ c. omega arith) (o .1 .0))
+          (⊎-elim (λ a. omega (arith, a .1 .1)) (λ c. omega arith) (o .1 .0))))
+          (λ x. ⊎-elim (λ m. n (m .0)) (λ s. n (s .0)) x)
           h),
     )
   where
-    zero : (b : List ℕ) → word b marksWord ≡ 0 → (i : ℕ) → 20 ≤ i → i < 24 → nth b i ≡ 0
-    zero b z i l h = let q : i / 4 ≡ marksWord = omega arith in byte-of b i (rw q z)
+    zero : (b : List ℕ) → word b marksServerWord ≡ 0 → (i : ℕ) → 20 ≤ i → i < 24 → nth b i ≡ 0
+    zero b z i l h = let q : i / 4 ≡ marksServerWord = omega arith in byte-of b i (rw q z)
 
 -- Either way.
-marks-fail : (b : List ℕ) → taskCount b ≤ mostTasks → (marksOk b ≡ false) exactlyWhen WrongMarks b
-marks-fail b few =
-    elim (ℕ-discrete (kindIn b) markedKind) [ yes k ↦ marked-fails b few k | no n ↦ unmarked-fails b n ]
+marks-fail : (b : List ℕ) → (marksOk b ≡ false) exactlyWhen WrongMarks b
+marks-fail b = elim (ℕ-discrete (kindIn b) extendedKind) [ yes k ↦ extended-fails b k | no n ↦ plain-fails b n ]
 
--- 5: the bytes that must be zero, and the marks, where there are at most 16 tasks.
-pub zeros-fail : (b : List ℕ) → taskCount b ≤ mostTasks → (zerosOk b ≡ false) exactlyWhen WrongZero b
+-- 5: the bytes that must be zero, the marks, and the server.
+pub zeros-fail : (b : List ℕ) → (zerosOk b ≡ false) exactlyWhen WrongZero b
 unfolding byte-between
-zeros-fail b few =
+zeros-fail b =
     let m =
-    both-fail (marksOk b) (zeroBetween b spareFrom spareTo) (marks-fail b few) (between-fails b spareFrom spareTo) in
+    both-fail (marksOk b) (zeroBetween b spareFrom spareTo) (marks-fail b) (between-fails b spareFrom spareTo) in
     let w =
     both-fail _ (zeroBetween b (unusedFrom (taskCount b)) checkWord) m
     (between-fails b (unusedFrom (taskCount b)) checkWord) in (
@@ -149,7 +137,7 @@ zeros-fail b few =
     from-marks : WrongMarks b → WrongZero b
     from-marks h =
         ⊎-elim
-        (λ o. inl (o .0, (⊎-elim (λ a. inl a) (λ c. inr (inl (c .0, omega (arith, c .1)))) (o .1 .0), o .1 .1)))
+        (λ o. inl (o .0, (⊎-elim (λ a. inl a) (λ c. inr (inl (omega arith, omega arith))) (o .1 .0), o .1 .1)))
         (λ p. inr p)
         h
 
@@ -167,7 +155,7 @@ zeros-fail b few =
         (λ x.
         ⊎-elim
         (λ c. elim (decLt (o .0) 24) [
-          | yes l ↦ inl (inl (inl (o .0, (inr (c .0, l), o .1 .1))))
+          | yes l ↦ inl (inl (inl (o .0, (inr (omega (arith, c .0)), o .1 .1))))
           | no l ↦ inl (inr (o .0, ((omega arith, omega (arith, c .1)), o .1 .1)))
         ])
         (λ c. inr (o .0, ((omega (arith, c .0), omega (arith, c .1)), o .1 .1)))

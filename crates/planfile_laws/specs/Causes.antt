@@ -6,14 +6,14 @@ use mathlib.Core.Bool.{Bool, true, false}
 use mathlib.Core.List.{List}
 use Prim.Native.Nat.{ℕ, _+_, _*_, _%_, _≤_, _<_}
 use Rattle.lists.specs.Places.{nth}
-use Rattle.words.specs.Word.{u16At, word}
+use Rattle.words.specs.Word.{word}
 use Rattle.words.specs.Wrap.{wrapped}
 use Rattle.plan.specs.declared.Guest.{Guest}
 use Rattle.plan.specs.Records.{runOf, everyOf, deadlineOf}
 use Rattle.plan.specs.Marks.{marked, isBound}
 use Rattle.plan.specs.Ranges.{mostTasks, longest}
-use Rattle.block.specs.Layout.{blockSize, blockWords, unmarkedKind, markedKind}
-use Rattle.block.specs.Reading.{kindIn, placeIn, taskCount, marksIn}
+use Rattle.block.specs.Layout.{blockSize, blockWords, plainKind, extendedKind, deferrableServer}
+use Rattle.block.specs.Reading.{kindIn, placeIn, taskCount, marksIn, serverHalf, serverIn}
 use Rattle.blockfile.specs.File.{mostBytes}
 
 -- A number lies outside its range.
@@ -28,10 +28,11 @@ WrongLength n = (n ≡ 0) ⊎ ((n % blockSize ≢ 0) ⊎ (mostBytes < n))
 abbrev pub WrongSum : List ℕ → Type 0
 WrongSum b = wrapped (word b) blockWords ≢ 0
 
--- 3: the kind is neither 1 nor 2, or it is 2 and the marks are zero.
+-- 3: the kind is neither 1 nor 2, or it is 2, the marks are zero, and byte 22 is not 1.
 abbrev pub WrongKind : List ℕ → Type 0
 WrongKind b =
-    ((kindIn b ≢ unmarkedKind) × (kindIn b ≢ markedKind)) ⊎ ((kindIn b ≡ markedKind) × (marksIn b ≡ 0))
+    ((kindIn b ≢ plainKind) × (kindIn b ≢ extendedKind))
+    ⊎ ((kindIn b ≡ extendedKind) × ((marksIn b ≡ 0) × (serverIn b ≢ deferrableServer)))
 
 -- 3: the kind is wrong, or, where places count, the place is not the block's own.
 abbrev pub WrongOpening : (placed : Bool) → List ℕ → (place : ℕ) → Type 0
@@ -52,21 +53,26 @@ Seen id k = (j : ℕ) × ((j < k) × (id j ≡ id k))
 abbrev pub WrongGuest : Guest → (id : ℕ → ℕ) → ℕ → Type 0
 WrongGuest g id k = WrongHead g ⊎ Seen id k
 
--- Byte i of a block of this kind and n tasks must be zero: bytes 20-21 but in kind 2, bytes 22-31, the entries past the
+-- Byte i of a block of this kind and n tasks must be zero: bytes 20-22 but in kind 2, bytes 23-31, the entries past the
 -- number of tasks, and those up to the check.
 abbrev pub MustBeZero : (kind n i : ℕ) → Type 0
 MustBeZero kind n i =
-    ((kind ≢ markedKind) × ((20 ≤ i) × (i < 22))) ⊎
-    (((22 ≤ i) × (i < 32)) ⊎ ((32 + 12 * n ≤ i) × (i < 508)))
+    ((kind ≢ extendedKind) × ((20 ≤ i) × (i < 23))) ⊎
+    (((23 ≤ i) × (i < 32)) ⊎ ((32 + 12 * n ≤ i) × (i < 508)))
 
 -- A block of kind 2 has a mark, in bytes 20-21, past its tasks.
 abbrev pub MarkPast : List ℕ → Type 0
 MarkPast b =
-    (kindIn b ≡ markedKind) × ((i : ℕ) × ((taskCount b ≤ i) × (marked (u16At b 20) i ≡ true)))
+    (kindIn b ≡ extendedKind) × ((i : ℕ) × ((taskCount b ≤ i) × (marked (marksIn b) i ≡ true)))
 
--- 5: a byte that must be zero is not, or a mark is past the tasks.
+-- A block of kind 2 has a number in bytes 22-23 that is no server's.
+abbrev pub WrongServer : List ℕ → Type 0
+WrongServer b = (kindIn b ≡ extendedKind) × (deferrableServer < serverHalf b)
+
+-- 5: a byte that must be zero is not, a mark is past the tasks, or bytes 22-23 are no server's.
 abbrev pub WrongZero : List ℕ → Type 0
-WrongZero b = ((i : ℕ) × (MustBeZero (kindIn b) (taskCount b) i × (nth b i ≢ 0))) ⊎ MarkPast b
+WrongZero b =
+    ((i : ℕ) × (MustBeZero (kindIn b) (taskCount b) i × (nth b i ≢ 0))) ⊎ (MarkPast b ⊎ WrongServer b)
 
 -- A task's run, period or deadline is outside its range.
 abbrev pub TaskOutside : (run every deadline : ℕ) → Type 0

@@ -11,7 +11,7 @@ use Rattle.plan.specs.declared.Plan.{Plan}
 use Rattle.plan.specs.Records.{guestAt, blank}
 use Rattle.plan.specs.Marks.{liveMarks}
 use Rattle.plan.specs.Ranges.{mostGuests, mostTasks}
-use Rattle.blockwriter.specs.Writing.{blockOf}
+use Rattle.blockwriter.specs.Writing.{serverFor, blockOf}
 
 -- The parts f 0, f 1, … and f (n - 1) one after the other.
 unfoldable pub joined : (ℕ → List ℕ) → ℕ → List ℕ
@@ -26,7 +26,7 @@ fileOf p = joined (λ k. blockOf (guestAt (p .guests) k) k) (p .count)
 unfoldable pub firstTasks : ℕ → List ℕ → List ℕ
 firstTasks n column = table (λ i. pick (ltb i n) (nth column i) 0) mostTasks
 
--- A guest with zeros past its tasks.
+-- A guest with zeros past its tasks, and with 1 for any number that says Deferrable.
 abbrev pub clearedGuest : Guest → Guest
 clearedGuest g = record {
   id = g .id;
@@ -35,12 +35,13 @@ clearedGuest g = record {
   tasks = g .tasks;
   charge = g .charge;
   marks = liveMarks g;
+  deferrable = serverFor g;
   run = firstTasks (g .tasks) (g .run);
   every = firstTasks (g .tasks) (g .every);
   deadline = firstTasks (g .tasks) (g .deadline);
 }
 
--- A plan with zeros past its guests and past their tasks.
+-- A plan of such guests, with zeros past them.
 unfoldable pub cleared : Plan → Plan
 cleared p = record {
   count = p .count;

@@ -37,6 +37,7 @@ fn guests_ok(
         capacities: [0; 16],
         periods: [0; 16],
         tasks: [0; 16],
+        deferrable: [0; 16],
     };
     let mut ok = true;
     let mut k: usize = 0;
@@ -46,6 +47,7 @@ fn guests_ok(
         columns.capacities[k] = g.capacity;
         columns.periods[k] = g.period;
         columns.tasks[k] = g.tasks;
+        columns.deferrable[k] = g.deferrable;
         let new_id = plan::new_id(&columns.ids, k);
         ok = ok & (new_id & guest_ok(g, k, left[k], position[k], rest, wait, age));
         k += 1;
@@ -91,6 +93,7 @@ fn nothing() -> Checked
             capacities: [0; 16],
             periods: [0; 16],
             tasks: [0; 16],
+            deferrable: [0; 16],
         },
     }
 }

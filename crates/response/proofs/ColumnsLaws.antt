@@ -25,21 +25,23 @@ use Rattle.response.specs.Task.{gap, systemOf, responseTo}
 use Rattle.response.specs.Met.{met, allMet, accepted}
 use Rattle.response.specs.Columns.{guestsTake, fittedAt, columnSystem, metUnder, fittedIn, acceptedIn, acceptedUnder}
 use Rattle.rounding.proofs.Asked.{asked-mono, asked-same}
-use Rattle.equation.proofs.Alike.{Alike, task-alike}
+use Rattle.equation.proofs.Alike.{SameTasks, task-alike}
 use Rattle.equation.proofs.Rise.{Grows}
 use Rattle.lists.proofs.All.{all-ext, all-and}
+use Rattle.response.proofs.JittersLaws.{JittersOf, jitter-off}
 
 -- Columns that hold the guests above place k.
-pub record Above (p : Plan) (k : ℕ) (capacities periods : List ℕ) : Type 0 where
+pub record Above (p : Plan) (k : ℕ) (capacities periods jitters : List ℕ) : Type 0 where
   pub capacity : (j : ℕ) → j < k → nth capacities j ≡ guestAt (p .guests) j .capacity
   pub period : (j : ℕ) → j < k → nth periods j ≡ guestAt (p .guests) j .period
+  pub late : (j : ℕ) → j < k → nth jitters j ≡ jitter (guestAt (p .guests) j)
 
 -- such columns take what the plan's guests above take
-pub above-is : (p : Plan) (k : ℕ) (capacities periods : List ℕ) → Above p k capacities periods
-    → guestsTake capacities periods k ≡ interference p k
-unfolding guestsTake interference jitter
-above-is p k capacities periods a =
-    fun-ext (λ v. asked-same (nth capacities) (nth periods) (λ j. 0) _ _ _ k v (a .capacity) (a .period) (λ j l. refl))
+pub above-is : (p : Plan) (k : ℕ) (capacities periods jitters : List ℕ) → Above p k capacities periods jitters
+    → guestsTake capacities periods jitters k ≡ interference p k
+unfolding guestsTake interference
+above-is p k capacities periods jitters a =
+    fun-ext (λ v. asked-same (nth capacities) (nth periods) (nth jitters) _ _ _ k v (a .capacity) (a .period) (a .late))
 
 -- what the plan's guests above take grows with the window
 pub interference-grows : (p : Plan) (k : ℕ) → Grows (interference p k)
@@ -49,13 +51,13 @@ interference-grows p k a b h = asked-mono _ _ _ k h
 -- a guest off the columns of its charged runs and of its tasks' J is the guest, seen from its tasks
 pub columns-alike : (above : ℕ → ℕ) (g : Guest) {run late : List ℕ} → Filled run (charged g) (g .tasks)
     → Filled late (λ i. gapFor (isBound g i) (g .period - g .capacity)) (g .tasks)
-    → Alike (columnSystem above (g .capacity) (g .period) run (g .every) late) (systemOf above g) (g .tasks)
+    → SameTasks (columnSystem above (g .capacity) (g .period) run (g .every) late) (systemOf above g) (g .tasks)
 unfolding gap
 columns-alike above g f l =
     record { capacity = refl; period = refl; above = refl; run = f .holds; every = λ j h. refl; gap = l .holds }
 
 -- the guests of two systems that are alike in their first n tasks are accepted alike
-pub accepted-alike : (S S′ : System) (deadline : ℕ → ℕ) (n : ℕ) → Alike S S′ n
+pub accepted-alike : (S S′ : System) (deadline : ℕ → ℕ) (n : ℕ) → SameTasks S S′ n
     → acceptedIn S deadline n ≡ acceptedIn S′ deadline n
 unfolding acceptedIn metUnder
 accepted-alike S S′ deadline n a =
@@ -74,31 +76,39 @@ unfolding acceptedIn metUnder fitted guestResponse allMet met responseTo
 accepted-is p k = refl
 
 -- the columns of a plan
-module _ (p : Plan) (c : Columns) (f : ColumnsOf (p .guests) mostGuests c) where
+module _ (p : Plan) (c : Columns) (f : ColumnsOf (p .guests) mostGuests c) {jitters : List ℕ}
+    (late : JittersOf c jitters) where
   -- the columns take what the plan's guests take
-  pub columns-take : (k : ℕ) → k ≤ 8 → guestsTake (c .capacities) (c .periods) k ≡ interference p k
-  columns-take k h = above-is p k (c .capacities) (c .periods)
-      record { capacity = λ j l. f .capacities .holds j (omega arith); period = λ j l. f .periods .holds j (omega arith) }
+  pub columns-take : (k : ℕ) → k ≤ 8 → guestsTake (c .capacities) (c .periods) jitters k ≡ interference p k
+  columns-take k h = above-is p k (c .capacities) (c .periods) jitters
+      record {
+        capacity = λ j l. f .capacities .holds j (omega arith);
+        period = λ j l. f .periods .holds j (omega arith);
+        late = λ j l. late .holds j (omega arith) ∙ jitter-off (p .guests) c f j (omega arith);
+      }
 
   -- the response at place k of the columns is that of the plan's guest
   pub columns-respond : (k : ℕ) → k < 8
-      → guestUnder (guestsTake (c .capacities) (c .periods) k) (nth (c .capacities) k) (nth (c .periods) k) ≡ guestResponse p k
+      → guestUnder (guestsTake (c .capacities) (c .periods) jitters k) (nth (c .capacities) k) (nth (c .periods) k)
+      ≡ guestResponse p k
   unfolding guestResponse
   columns-respond k h = rw (columns-take k (omega arith), f .capacities .holds k h, f .periods .holds k h) refl
 
   -- the first n of the columns are fitted where the plan's guests are
-  pub columns-fit : (n : ℕ) → n ≤ 8 → allTo (fittedAt (c .capacities) (c .periods)) n ≡ allTo (fitted p) n
+  pub columns-fit : (n : ℕ) → n ≤ 8 → allTo (fittedAt (c .capacities) (c .periods) jitters) n ≡ allTo (fitted p) n
   unfolding fittedAt fitted
   columns-fit n h = all-ext _ _ n (λ j l. ap isAt (columns-respond j (omega arith)))
 
   -- the guest at place k of the columns and all above are fitted where the plan's are
-  pub columns-fit-to : (k : ℕ) → k < 8 → allTo (fittedAt (c .capacities) (c .periods)) (k + 1) ≡ fittedTo p k
+  pub columns-fit-to : (k : ℕ) → k < 8 → allTo (fittedAt (c .capacities) (c .periods) jitters) (k + 1) ≡ fittedTo p k
   unfolding fittedTo
   columns-fit-to k h = rw add-one (columns-fit (suc k) (omega arith))
 
   -- the columns are accepted where the plan's guests and tasks are
   pub columns-accept : p .count ≤ 8
-      → allTo (λ k. acceptedUnder (guestsTake (c .capacities) (c .periods) k) (guestAt (p .guests) k)) (p .count) ≡ accepted p
+      → allTo (λ k. acceptedUnder (guestsTake (c .capacities) (c .periods) jitters k) (guestAt (p .guests) k))
+      (p .count)
+      ≡ accepted p
   unfolding accepted
   columns-accept h =
       all-ext _ (λ k. fitted p k && allMet p k) (p .count) (λ k l. rw (columns-take k (omega arith)) (accepted-is p k))

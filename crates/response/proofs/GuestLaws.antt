@@ -17,16 +17,16 @@ use Rattle.equation.proofs.Solve.{solve-at, solve-none, Solved, solve-answers}
 use Rattle.equation.proofs.Rise.{Grows, Rising, rise-turn, rise-under}
 
 -- what the guests above take grows with the window
-pub take-grows : (capacities periods : List ℕ) (n : ℕ) → Grows (guestsTake capacities periods n)
+pub take-grows : (capacities periods jitters : List ℕ) (n : ℕ) → Grows (guestsTake capacities periods jitters n)
 unfolding guestsTake
-take-grows capacities periods n a b h = asked-mono (nth capacities) (nth periods) (λ j. 0) n h
+take-grows capacities periods jitters n a b h = asked-mono (nth capacities) (nth periods) (nth jitters) n h
 
 -- the code's sum is what the guests above take, cut off
-pub take-cut : (capacities periods : List ℕ) (n v : ℕ) {r : ℕ}
-    → r ≡ cut (asked (nth capacities) (nth periods) (λ j. 0) n v)
-    → r ≡ cut (guestsTake capacities periods n v)
+pub take-cut : (capacities periods jitters : List ℕ) (n v : ℕ) {r : ℕ}
+    → r ≡ cut (asked (nth capacities) (nth periods) (nth jitters) n v)
+    → r ≡ cut (guestsTake capacities periods jitters n v)
 unfolding guestsTake
-take-cut capacities periods n v e = e
+take-cut capacities periods jitters n v e = e
 
 -- The loop's invariant, with the facts that every turn uses.
 pub record GuestInv (above : ℕ → ℕ) (capacity period x : ℕ) : Type 0 where

@@ -3,6 +3,7 @@
 pub mod GuestLaws
 pub mod TaskLaws
 pub mod GapsLaws
+pub mod JittersLaws
 pub mod ColumnsLaws
 pub mod ReadyLaws
 pub mod TrialLaws

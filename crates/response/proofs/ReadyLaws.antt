@@ -23,6 +23,7 @@ use Rattle.lists.proofs.All.{all-at}
 use Rattle.equation.proofs.System.{gap-for-most}
 use Rattle.plan.proofs.Charge.{charged-least}
 use Rattle.plan.proofs.Order.{PlanIn}
+use Rattle.response.proofs.JittersLaws.{JittersOf, jitter-most}
 
 -- a fitted capacity in its ranges is ready for the tasks' recurrences
 pub guest-ready : (above : ℕ → ℕ) (capacity period : ℕ) (run every late deadline : List ℕ) (n : ℕ)
@@ -46,7 +47,7 @@ pub filled-gaps : (isBound : ℕ → Bool) (capacity period n : ℕ) → period 
 filled-gaps isBound capacity period n short f i h =
     omega (arith, f .holds i h, gap-for-most (isBound i) (period - capacity))
 
-module _ (g : Guest) (capacities periods : List ℕ) (k : ℕ) (s : Seated g capacities periods k) where
+module _ (g : Guest) (capacities periods jitters : List ℕ) (k : ℕ) (s : Seated g capacities periods jitters k) where
   -- the guest's capacity and period are in their ranges
   pub seated-server : ServerIn (g .capacity) (g .period)
   seated-server = rw (← s .capacity, ← s .period) (s .ranged k (omega arith))
@@ -63,18 +64,20 @@ module _ (g : Guest) (capacities periods : List ℕ) (k : ℕ) (s : Seated g cap
   }
 
   -- the guest is fitted where it and all above are
-  pub seated-fits : allTo (fittedAt capacities periods) (k + 1) ≡ true
-      → isAt (guestUnder (guestsTake capacities periods k) (g .capacity) (g .period)) ≡ true
+  pub seated-fits : allTo (fittedAt capacities periods jitters) (k + 1) ≡ true
+      → isAt (guestUnder (guestsTake capacities periods jitters k) (g .capacity) (g .period)) ≡ true
   unfolding fittedAt
   seated-fits a =
-      ap (λ (c : ℕ). isAt (guestUnder (guestsTake capacities periods k) c (g .period))) (sym (s .capacity))
-      ∙ ap (λ (t : ℕ). isAt (guestUnder (guestsTake capacities periods k) (nth capacities k) t)) (sym (s .period))
-      ∙ all-at (fittedAt capacities periods) (k + 1) k (omega arith) a
+      let above = guestsTake capacities periods jitters k in
+      ap (λ (c : ℕ). isAt (guestUnder above c (g .period))) (sym (s .capacity))
+      ∙ ap (λ (t : ℕ). isAt (guestUnder above (nth capacities k) t)) (sym (s .period))
+      ∙ all-at (fittedAt capacities periods jitters) (k + 1) k (omega arith) a
 
 -- each guest of records in order is seated in their columns
-pub seated-at : (p : Plan) (c : Columns) → ColumnsOf (p .guests) mostGuests c → PlanIn p → (k : ℕ) → k < p .count
-    → Seated (guestAt (p .guests) k) (c .capacities) (c .periods) k
-seated-at p c f o k h =
+pub seated-at : (p : Plan) (c : Columns) → ColumnsOf (p .guests) mostGuests c → {jitters : List ℕ}
+    → JittersOf c jitters → PlanIn p → (k : ℕ) → k < p .count
+    → Seated (guestAt (p .guests) k) (c .capacities) (c .periods) jitters k
+seated-at p c f late o k h =
     let here : k < 8 = omega (arith, o .few) in
     let g = o .guests k h in
     record {
@@ -87,6 +90,11 @@ seated-at p c f o k h =
             within = omega (arith, f .capacities .holds j b, f .periods .holds j b, g .fits);
             short = omega (arith, f .periods .holds j b, g .short);
           });
+      late = λ j l. (
+          let b : j < 8 = omega arith in
+          let g = o .guests j (omega arith) .head in
+          let most = jitter-most (c .deferrable) (c .capacities) (c .periods) j in
+          omega (arith, late .holds j b, most, f .periods .holds j b, g .short));
       capacity = f .capacities .holds k here;
       period = f .periods .holds k here;
       tasks = record {

@@ -3,7 +3,8 @@
 -- Inner: no promise of an entry names this.
 use mathlib.Core.Bool.{Bool, _&&_}
 use mathlib.Core.List.{List}
-use Prim.Native.Nat.{ℕ}
+use Prim.Native.Nat.{ℕ, _-_}
+use Rattle.lists.specs.Choice.{pick}
 use Rattle.lists.specs.Places.{nth}
 use Rattle.lists.specs.All.{allTo}
 use Rattle.lists.specs.Search.{isAt}
@@ -11,16 +12,23 @@ use Rattle.rounding.specs.Asked.{asked}
 use Rattle.equation.specs.Guest.{guestUnder}
 use Rattle.equation.specs.System.{System, taskUnder}
 use Rattle.plan.specs.Records.{deadlineOf}
+use Rattle.plan.specs.Server.{saysDeferrable}
 use Rattle.plan.specs.declared.Guest.{Guest}
 use Rattle.response.specs.Task.{systemOf}
 
--- what the first n guests take from v ticks: jitter 0, Periodic Servers
-unfoldable pub guestsTake : (capacities periods : List ℕ) → ℕ → ℕ → ℕ
-guestsTake capacities periods n = asked (nth capacities) (nth periods) (λ j. 0) n
+-- the jitter of the guest at place k of the columns: T - C where it is a Deferrable Server, else 0
+unfoldable pub jitterAt : (deferrable capacities periods : List ℕ) → ℕ → ℕ
+jitterAt deferrable capacities periods k =
+    pick (saysDeferrable (nth deferrable k)) (nth periods k - nth capacities k) 0
+
+-- what the first n guests take from v ticks, each put off by its jitter
+unfoldable pub guestsTake : (capacities periods jitters : List ℕ) → ℕ → ℕ → ℕ
+guestsTake capacities periods jitters n = asked (nth capacities) (nth periods) (nth jitters) n
 
 -- whether the guest at place k of the columns is fitted
-unfoldable pub fittedAt : (capacities periods : List ℕ) → ℕ → Bool
-fittedAt capacities periods k = isAt (guestUnder (guestsTake capacities periods k) (nth capacities k) (nth periods k))
+unfoldable pub fittedAt : (capacities periods jitters : List ℕ) → ℕ → Bool
+fittedAt capacities periods jitters k =
+    isAt (guestUnder (guestsTake capacities periods jitters k) (nth capacities k) (nth periods k))
 
 -- a guest seen from its tasks, off columns: run being the charged runs, and late the J of each
 abbrev pub columnSystem : (above : ℕ → ℕ) → (capacity period : ℕ) → (run every late : List ℕ) → System

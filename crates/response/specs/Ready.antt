@@ -31,6 +31,10 @@ Ranged capacities periods n = (k : ℕ) → k < n → ServerIn (nth capacities k
 abbrev pub EachShort : (column : List ℕ) → ℕ → Type 0
 EachShort column n = (i : ℕ) → i < n → nth column i ≤ longest
 
+-- at most 16 guests above, each with a jitter of no more than a period can have
+abbrev pub AboveIn : (jitters : List ℕ) → ℕ → Type 0
+AboveIn jitters n = (n ≤ 16) × EachShort jitters n
+
 -- At most 16 tasks, each with its numbers in their ranges.
 pub record TasksIn (g : Guest) : Type 0 where
   pub few : g .tasks ≤ mostTasks
@@ -51,10 +55,11 @@ pub record InRange (capacity period : ℕ) (run late deadline : List ℕ) (n : �
   pub gaps : EachShort late n
   pub deadlines : EachShort deadline n
 
--- Columns of capacities and periods in their ranges, whose guest at place k is g.
-pub record Seated (g : Guest) (capacities periods : List ℕ) (k : ℕ) : Type 0 where
+-- Columns of capacities, periods and jitters in their ranges, whose guest at place k is g.
+pub record Seated (g : Guest) (capacities periods jitters : List ℕ) (k : ℕ) : Type 0 where
   pub place : k < mostGuests
   pub ranged : Ranged capacities periods (k + 1)
+  pub late : EachShort jitters (k + 1)
   pub capacity : nth capacities k ≡ g .capacity
   pub period : nth periods k ≡ g .period
   pub tasks : TasksIn g

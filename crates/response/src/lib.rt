@@ -2,6 +2,7 @@
 mod charge;
 mod gaps;
 mod guest;
+mod jitters;
 mod met;
 mod task;
 mod trial;
@@ -11,6 +12,7 @@ pub use gaps::gaps_of;
 pub use guest::all_fitted;
 pub use guest::guest_response;
 pub use guest::response_at;
+pub use jitters::jitters_of;
 pub use task::task_response;
 pub use trial::Trial;
 pub use trial::try_guest;

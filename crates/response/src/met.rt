@@ -3,7 +3,7 @@ ghost use mathlib.Core.Path.{_≡_};
 ghost use Prim.Native.Nat.{ℕ, _≤_, _<_};
 ghost use Rattle.lists.specs.Places.{nth};
 ghost use Rattle.response.specs.Columns.{guestsTake, columnSystem, metUnder};
-ghost use Rattle.response.specs.Ready.{Ready, EachShort};
+ghost use Rattle.response.specs.Ready.{Ready, AboveIn, EachShort};
 use crate::task::task_response;
 use lists::is_at;
 
@@ -11,6 +11,7 @@ use lists::is_at;
 pub fn all_met(
     capacities: &[u32; 16],
     periods: &[u32; 16],
+    jitters: &[u32; 16],
     k: usize,
     capacity: u32,
     period: u32,
@@ -20,17 +21,17 @@ pub fn all_met(
     deadline: &[u32; 16],
     tasks: usize,
 ) -> bool
-    requires { ⌜ (k ≤ 16) × (tasks ≤ 16) ⌝ }
+    requires { ⌜ AboveIn (now jitters) k × (tasks ≤ 16) ⌝ }
     requires { ⌜
         ((i : ℕ) → i < tasks
-        → Ready (columnSystem (guestsTake (now capacities) (now periods) k) capacity period (now run) (now every)
-        (now late)) i)
+        → Ready (columnSystem (guestsTake (now capacities) (now periods) (now jitters) k) capacity period (now run)
+        (now every) (now late)) i)
         ⌝ }
     requires { ⌜ EachShort (now late) tasks × EachShort (now deadline) tasks ⌝ }
     ensures { λ r. ⌜
         r
-        ≡ metUnder (columnSystem (guestsTake (now (capacities .entry)) (now (periods .entry)) k) capacity period
-        (now (run .entry)) (now (every .entry)) (now (late .entry)))
+        ≡ metUnder (columnSystem (guestsTake (now (capacities .entry)) (now (periods .entry)) (now (jitters .entry)) k)
+        capacity period (now (run .entry)) (now (every .entry)) (now (late .entry)))
         (nth (now (deadline .entry))) tasks
         ⌝ }
 {
@@ -39,6 +40,7 @@ pub fn all_met(
         if !is_at(task_response(
             capacities,
             periods,
+            jitters,
             k,
             capacity,
             period,

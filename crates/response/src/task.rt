@@ -3,15 +3,14 @@ ghost use mathlib.Core.Path.{_≡_};
 ghost use Prim.Native.Nat.{_+_, _-_, _*_, _≤_, _<_};
 ghost use Rattle.lists.specs.Places.{nth};
 ghost use Rattle.rounding.specs.Asked.{asked};
-ghost use Rattle.rounding.specs.Cut.{bound, long, cut, Short};
+ghost use Rattle.rounding.specs.Cut.{bound, cut, Short};
 ghost use Rattle.equation.specs.System.{serverPeriods, rightAt, right, taskUnder};
 ghost use Rattle.response.specs.Columns.{guestsTake, columnSystem};
 ghost use Rattle.plan.specs.Ranges.{longest};
-ghost use Rattle.response.specs.Ready.{Ready, EachShort};
+ghost use Rattle.response.specs.Ready.{Ready, AboveIn, EachShort};
 use lists::Found;
 use rounding::BOUND;
 use rounding::asked_of;
-use rounding::asked_of_each;
 use rounding::capped;
 use rounding::quotient;
 use rounding::wide;
@@ -25,7 +24,7 @@ fn load_in(run: &[u32; 16], every: &[u32; 16], late: &[u32; 16], i: usize, w: u3
         + asked (nth (now (run .entry))) (nth (now (every .entry))) (nth (now (late .entry))) i w)
         ⌝ }
 {
-    capped(wide(run[i]) + asked_of_each(run, every, late, i, w))
+    capped(wide(run[i]) + asked_of(run, every, late, i, w))
 }
 
 // The server periods before the last one.
@@ -55,20 +54,23 @@ fn rest_of(w: u32, p: u64) -> u32
 fn right_at(
     capacities: &[u32; 16],
     periods: &[u32; 16],
+    jitters: &[u32; 16],
     n: usize,
     capacity: u32,
     period: u32,
     load: u32,
     w: u32,
 ) -> u64
-    requires { ⌜ ((n ≤ 16) × (w < long)) × ((1 ≤ capacity) × ((capacity ≤ period) × (1 ≤ load))) ⌝ }
+    requires { ⌜ ((n ≤ 16) × Short (now jitters) n w) × ((1 ≤ capacity) × ((capacity ≤ period) × (1 ≤ load))) ⌝ }
     ensures { λ r. ⌜
-        r ≡ cut (rightAt (guestsTake (now (capacities .entry)) (now (periods .entry)) n) capacity period load w)
+        r
+        ≡ cut (rightAt (guestsTake (now (capacities .entry)) (now (periods .entry)) (now (jitters .entry)) n)
+        capacity period load w)
         ⌝ }
 {
     let m = whole_of(load, capacity);
     let v = rest_of(w, times(m, period));
-    capped(wide(load) + times(m, period - capacity) + asked_of(capacities, periods, n, v))
+    capped(wide(load) + times(m, period - capacity) + asked_of(capacities, periods, jitters, n, v))
 }
 
 // The right side of task i's equation in a window w, cut off: a load at the bound decides alone, so that no product is
@@ -76,6 +78,7 @@ fn right_at(
 fn right_of(
     capacities: &[u32; 16],
     periods: &[u32; 16],
+    jitters: &[u32; 16],
     n: usize,
     capacity: u32,
     period: u32,
@@ -85,12 +88,15 @@ fn right_of(
     i: usize,
     w: u32,
 ) -> u64
-    requires { ⌜ ((n ≤ 16) × (i < 16)) × ((1 ≤ capacity) × ((capacity ≤ period) × (1 ≤ nth (now run) i))) ⌝ }
+    requires { ⌜
+        (AboveIn (now jitters) n × (i < 16)) × ((1 ≤ capacity) × ((capacity ≤ period) × (1 ≤ nth (now run) i)))
+        ⌝ }
     requires { ⌜ (w ≤ longest) × EachShort (now late) i ⌝ }
     ensures { λ r. ⌜
         r
-        ≡ cut (right (columnSystem (guestsTake (now (capacities .entry)) (now (periods .entry)) n) capacity period
-        (now (run .entry)) (now (every .entry)) (now (late .entry)))
+        ≡ cut (right (columnSystem
+        (guestsTake (now (capacities .entry)) (now (periods .entry)) (now (jitters .entry)) n)
+        capacity period (now (run .entry)) (now (every .entry)) (now (late .entry)))
         i w)
         ⌝ }
 {
@@ -98,13 +104,23 @@ fn right_of(
     if BOUND <= load {
         return load;
     }
-    right_at(capacities, periods, n, capacity, period, load as u32, w)
+    right_at(
+        capacities,
+        periods,
+        jitters,
+        n,
+        capacity,
+        period,
+        load as u32,
+        w,
+    )
 }
 
 // The response of task i of a fitted guest, at most `most`: the recurrence, from 1 on.
 pub fn task_response(
     capacities: &[u32; 16],
     periods: &[u32; 16],
+    jitters: &[u32; 16],
     n: usize,
     capacity: u32,
     period: u32,
@@ -114,16 +130,16 @@ pub fn task_response(
     i: usize,
     most: u32,
 ) -> Found
-    requires { ⌜ (n ≤ 16) × (i < 16) ⌝ }
+    requires { ⌜ AboveIn (now jitters) n × (i < 16) ⌝ }
     requires { ⌜
-        Ready (columnSystem (guestsTake (now capacities) (now periods) n) capacity period (now run) (now every)
-        (now late)) i
+        Ready (columnSystem (guestsTake (now capacities) (now periods) (now jitters) n) capacity period (now run)
+        (now every) (now late)) i
         ⌝ }
     requires { ⌜ (most ≤ longest) × EachShort (now late) i ⌝ }
     ensures { λ r. ⌜
         r
-        ≡ taskUnder (columnSystem (guestsTake (now (capacities .entry)) (now (periods .entry)) n) capacity period
-        (now (run .entry)) (now (every .entry)) (now (late .entry)))
+        ≡ taskUnder (columnSystem (guestsTake (now (capacities .entry)) (now (periods .entry)) (now (jitters .entry)) n)
+        capacity period (now (run .entry)) (now (every .entry)) (now (late .entry)))
         i most
         ⌝ }
 {
@@ -137,6 +153,7 @@ pub fn task_response(
         let next = right_of(
             capacities,
             periods,
+            jitters,
             n,
             capacity,
             period,

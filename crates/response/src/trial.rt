@@ -4,7 +4,7 @@ ghost use Prim.Native.Nat.{_≤_};
 ghost use Rattle.lists.specs.Places.{nth};
 ghost use Rattle.equation.specs.Guest.{guestUnder};
 ghost use Rattle.response.specs.Columns.{guestsTake, columnSystem};
-ghost use Rattle.response.specs.Ready.{InRange};
+ghost use Rattle.response.specs.Ready.{AboveIn, InRange};
 ghost use Rattle.response.specs.Trial.{trialOf};
 use crate::met::all_met;
 use lists::Found;
@@ -24,6 +24,7 @@ pub fn try_guest(
     f: Found,
     capacities: &[u32; 16],
     periods: &[u32; 16],
+    jitters: &[u32; 16],
     k: usize,
     capacity: u32,
     period: u32,
@@ -33,12 +34,14 @@ pub fn try_guest(
     deadline: &[u32; 16],
     tasks: usize,
 ) -> Trial
-    requires { ⌜ ((k ≤ 16) × (tasks ≤ 16)) × InRange capacity period (now run) (now late) (now deadline) tasks ⌝ }
-    requires { ⌜ f ≡ guestUnder (guestsTake (now capacities) (now periods) k) capacity period ⌝ }
+    requires { ⌜
+        (AboveIn (now jitters) k × (tasks ≤ 16)) × InRange capacity period (now run) (now late) (now deadline) tasks
+        ⌝ }
+    requires { ⌜ f ≡ guestUnder (guestsTake (now capacities) (now periods) (now jitters) k) capacity period ⌝ }
     ensures { λ r. ⌜
         r
-        ≡ trialOf (columnSystem (guestsTake (now (capacities .entry)) (now (periods .entry)) k) capacity period
-        (now (run .entry)) (now (every .entry)) (now (late .entry)))
+        ≡ trialOf (columnSystem (guestsTake (now (capacities .entry)) (now (periods .entry)) (now (jitters .entry)) k)
+        capacity period (now (run .entry)) (now (every .entry)) (now (late .entry)))
         (nth (now (deadline .entry))) tasks
         ⌝ }
 {
@@ -48,6 +51,7 @@ pub fn try_guest(
     if all_met(
         capacities,
         periods,
+        jitters,
         k,
         capacity,
         period,

@@ -47,8 +47,8 @@ module _ (placed : Bool) (s : List ℕ) (k : ℕ) where
   pub two-exactly : (numberAt placed s k ≡ 2) exactlyWhen WrongSum (blockAt s k)
   two-exactly = exact.two-exactly placed s k
 
-  -- 3: the kind is neither 1 nor 2, or it is 2 and the marks are zero, or, where places count, the place is not the
-  -- block's own.
+  -- 3: the kind is neither 1 nor 2, or it is 2 with neither marks nor a Deferrable Server, or, where places count, the
+  -- place is not the block's own.
   pub three-exactly :
       (numberAt placed s k ≡ 3) exactlyWhen (WrongSum (blockAt s k) notBut WrongOpening placed (blockAt s k) k)
   three-exactly = exact.three-exactly placed s k
@@ -61,7 +61,7 @@ module _ (placed : Bool) (s : List ℕ) (k : ℕ) where
       notBut WrongGuest (guestOf (blockAt s k)) (idAt s) k)
   four-exactly = exact.four-exactly placed s k
 
-  -- 5: a byte that must be zero is not, or a mark is past the tasks.
+  -- 5: a byte that must be zero is not, a mark is past the tasks, or byte 22 is no server's.
   pub five-exactly :
       (numberAt placed s k ≡ 5)
       exactlyWhen

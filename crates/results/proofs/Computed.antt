@@ -19,6 +19,7 @@ use Rattle.plan.specs.Marks.{marked, mayStart}
 use Rattle.plan.specs.First.{orElse, firstRefused, refusedBy}
 use Rattle.plan.specs.Order.{newId, numberOf, guestNumber, countedBy, planRefusal, recordsThen}
 use Rattle.plan.specs.Place.{placeOf, hasGuest, hasTask}
+use Rattle.plan.specs.Server.{isDeferrable}
 use Rattle.plan.specs.Ranges.{headOk, taskOk, startOk, tasksOk}
 use Rattle.response.specs.Interference.{jitter, interference}
 use Rattle.response.specs.Guest.{guestResponse, fitted, fittedTo}
@@ -30,7 +31,7 @@ use Rattle.capacity.specs.Answer.{smallestCapacity}
 use Rattle.dispatcher.specs.Valid.{tasksIn, guestInRange, taskInRange, rowOk, stateOk}
 use Rattle.dispatcher.specs.Fresh.{idle, startedBy, fresh}
 use Rattle.dispatcher.specs.Release.{taken, releaseNumber, releasedBy, release}
-use Rattle.dispatcher.specs.Tick.{lessAt, refilled, holder, isHeld, leftAfter, worker, isWorked, restAfter, ageAfter, waitAfter, positionAfter, next}
+use Rattle.dispatcher.specs.Tick.{lessAt, refilled, firstTask, claims, holder, isHeld, leftAfter, worker, isWorked, restAfter, ageAfter, waitAfter, positionAfter, next}
 use Rattle.dispatcher.specs.Answer.{marginOf, answerBy, answer, finishes}
 use Rattle.dispatcher.specs.Run.{runFrom, runFor}
 use Rattle.dispatcher.specs.Entries.{tickedBy, tick, ranBy, run}
@@ -39,7 +40,7 @@ use Rattle.lists.specs.Table.{table}
 use Rattle.lists.specs.Places.{upTo}
 use Rattle.results.specs.Numbers.{Numbers}
 use Rattle.history.specs.Calls.{running, start, after, play, times}
-use Rattle.history.specs.Named.{boundBy, everyBy}
+use Rattle.history.specs.Named.{guestBy, boundBy, everyBy}
 use Rattle.verdict_laws.specs.Guests.{There}
 use Rattle.worked.specs.Plans.{A, A35, planB, planD, planE}
 use Rattle.amendment_laws.proofs.Worked.{answers-7}
@@ -64,6 +65,9 @@ pub record Computed : Type 0 where
   -- The guest 1/1000 of case 7.
   pub there-gap : There planD 7 0
   pub place-gap : placeOf planD 7 ≡ 0
+  -- Both guests of plan A are Periodic.
+  pub periodic-A : isDeferrable (guestBy A 9) ≡ false
+  pub periodic-top : isDeferrable (guestBy A 7) ≡ false
   -- Guest 9's tasks of plan A are not bound, nor is the task of case 7; with the first mark the first task is.
   pub unbound-A : boundBy A 9 2 ≡ false
   pub unbound-gap : boundBy planD 7 1 ≡ false
@@ -87,7 +91,7 @@ unfolding marked mayStart startOk gapFor allTo unless refusal least firstFrom su
     headOk taskOk tasksOk jitter interference guestResponse fitted fittedTo gap taskRight responseTo limit
     taskResponse hasGuest hasTask recordsThen refusedBy guestVerdict quotedBy taskSays taskVerdict met allMet
     accepted acceptSays acceptance withCapacity works smallest smallestCapacity upTo tasksIn guestInRange
-    taskInRange rowOk stateOk idle startedBy fresh taken releaseNumber releasedBy release lessAt refilled holder
+    taskInRange rowOk stateOk idle startedBy fresh taken releaseNumber releasedBy release lessAt refilled firstTask claims holder
     isHeld leftAfter worker isWorked restAfter ageAfter waitAfter positionAfter next marginOf answerBy answer
     finishes runFrom runFor ranBy run tickedBy tick after play times table stateAfter answerTo sheetNumber
     sheetBy sheet answeredBy answered
@@ -145,6 +149,19 @@ computed = record {
     bound-away-waiting = refl;
     bound-early = refl;
     unbound-above = refl;
+    deferrable-second = refl;
+    deferrable-first-task = refl;
+    deferrable-second-task = refl;
+    deferrable-unbound-first = refl;
+    deferrable-unbound-second = refl;
+    deferrable-first-bound-first = refl;
+    deferrable-first-bound-second = refl;
+    deferrable-second-bound-first = refl;
+    deferrable-second-bound-second = refl;
+    deferrable-both-bound-first = refl;
+    deferrable-both-bound-second = refl;
+    deferrable-passed-over = refl;
+    deferrable-works = refl;
   };
   there-A = record { order = refl; place = omega arith; named = refl };
   there-A35 = record { order = refl; place = omega arith; named = refl };
@@ -156,6 +173,8 @@ computed = record {
   there-none = record { order = refl; place = omega arith; named = refl };
   there-gap = record { order = refl; place = omega arith; named = refl };
   place-gap = refl;
+  periodic-A = refl;
+  periodic-top = refl;
   unbound-A = refl;
   unbound-gap = refl;
   bound-E = refl;

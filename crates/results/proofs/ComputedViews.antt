@@ -15,7 +15,7 @@ use Rattle.plan.specs.Ranges.{headOk, taskOk, startOk, tasksOk}
 use Rattle.dispatcher.specs.Valid.{tasksIn, guestInRange, taskInRange, rowOk, stateOk}
 use Rattle.dispatcher.specs.Fresh.{idle, startedBy, fresh}
 use Rattle.dispatcher.specs.Release.{taken, releaseNumber, releasedBy, release}
-use Rattle.dispatcher.specs.Tick.{lessAt, refilled, holder, isHeld, leftAfter, worker, isWorked, restAfter, ageAfter, waitAfter, positionAfter, next}
+use Rattle.dispatcher.specs.Tick.{lessAt, refilled, firstTask, claims, holder, isHeld, leftAfter, worker, isWorked, restAfter, ageAfter, waitAfter, positionAfter, next}
 use Rattle.dispatcher.specs.Answer.{marginOf, answerBy, answer, finishes}
 use Rattle.dispatcher.specs.Run.{runFrom, runFor}
 use Rattle.dispatcher.specs.Entries.{tickedBy, tick, ranBy, run}
@@ -44,7 +44,7 @@ pub record ComputedViews : Type 0 where
 pub computed : ComputedViews
 unfolding marked mayStart startOk upTo allTo unless refusal firstFrom chargedRun orElse firstRefused newId numberOf guestNumber
     countedBy planRefusal placeOf hasGuest hasTask headOk taskOk tasksOk tasksIn guestInRange taskInRange
-    rowOk stateOk idle startedBy fresh taken releaseNumber releasedBy release lessAt refilled holder isHeld
+    rowOk stateOk idle startedBy fresh taken releaseNumber releasedBy release lessAt refilled firstTask claims holder isHeld
     leftAfter worker isWorked restAfter ageAfter waitAfter positionAfter next marginOf answerBy answer
     finishes runFrom runFor tickedBy tick ranBy run sheetNumber sheetBy sheet after times singles listed
     NoRuns ownIf asksPairs asksSheet asks own told toldAll answeredIf seesPairs seesSheet sees view before
@@ -64,6 +64,8 @@ computed = record {
     same-run = refl;
     stopped = refl;
     not-stopped = refl;
+    left-to-it = refl;
+    taken-away = refl;
   };
   same-crowded = record {
     here = record { order = refl; place = omega arith; named = refl };
@@ -71,6 +73,8 @@ computed = record {
     same = refl;
     capacities = λ j l. (let z : j ≡ 0 = omega arith in rw z refl);
     periods = λ j l. (let z : j ≡ 0 = omega arith in rw z refl);
+    periodic-here = λ j l. (let z : j ≡ 0 = omega arith in rw z refl);
+    periodic-there = λ j l. (let z : j ≡ 0 = omega arith in rw z refl);
   };
   singly-quiet = tt;
   singly-pressed = tt;

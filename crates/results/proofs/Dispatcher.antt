@@ -7,9 +7,10 @@ use mathlib.Core.List.{List}
 use Prim.Native.Nat.{ℕ, _+_, _-_, _*_, _%_, _≤_, _<_, min}
 use Rattle.lists.specs.Places.{nth}
 use Rattle.lists.specs.Sum.{sumTo}
-use Rattle.arrays.specs.Usage.{wrap, nobodys}
+use Rattle.arrays.specs.Usage.{wrap, idledAt, nobodys}
 use Rattle.plan.specs.Order.{planRefusal}
 use Rattle.plan.specs.Records.{guestAt}
+use Rattle.plan.specs.Server.{isDeferrable}
 use Rattle.plan.specs.declared.Plan.{Plan}
 use Rattle.lists.specs.Exactly.{_exactlyWhen_}
 use Rattle.verdict_laws.specs.Tasks.{TaskThere}
@@ -163,6 +164,17 @@ pub usage-adds-up :
     → (sumTo (nth (play cs (start p) .usage)) (p .count) + nth (play cs (start p) .usage) nobodys) % wrap
     ≡ ticksIn cs (start p) % wrap
 usage-adds-up = usage.usage-adds-up
+
+-- A Deferrable guest has no idled ticks.
+pub none-idled :
+    (p : Plan)
+    → planRefusal p .number ≡ 0
+    → (g : ℕ)
+    → g < p .count
+    → isDeferrable (guestAt (p .guests) g) ≡ true
+    → (cs : List Call)
+    → nth (play cs (start p) .usage) (idledAt g) ≡ 0
+none-idled = usage.none-idled
 
 -- Nothing else looks at the numbers beside the state: with any other numbers there a call has the same answer, number
 -- and ticks, and leaves the same state but for these numbers.

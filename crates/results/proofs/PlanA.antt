@@ -41,14 +41,14 @@ pub guest-9-has-8 :
     (cs : List Call) (k : ℕ)
     → suc k * 20 ≤ ticksIn cs (start A)
     → share 9 (answers cs (start A)) (k * 20) 20 ≡ 8
-guest-9-has-8 = rw (computed .place-A) at (sure-of-capacity A 9 14 (numbers .second))
+guest-9-has-8 = rw (computed .place-A) at (sure-of-capacity A 9 14 (numbers .second) (computed .periodic-A))
 
 -- Guest 9 has had these 8 by the 14th tick of each 20, its response.
 pub guest-9-by-14 :
     (cs : List Call) (k : ℕ)
     → k * 20 + 14 ≤ ticksIn cs (start A)
     → share 9 (answers cs (start A)) (k * 20) 14 ≡ 8
-guest-9-by-14 = rw (computed .place-A) at (had-by-response A 9 14 (numbers .second))
+guest-9-by-14 = rw (computed .place-A) at (had-by-response A 9 14 (numbers .second) (computed .periodic-A))
 
 -- The second task of guest 9 being quoted, guest 7 above it is sure of 2 in each 5 ticks.
 pub guest-7-has-2 :
@@ -57,7 +57,7 @@ pub guest-7-has-2 :
     → share 7 (answers cs (start A)) (k * 5) 5 ≡ 2
 guest-7-has-2 =
     rw (computed .place-top) at
-    (quoted-sure A 9 2 80 second-80 7 (rw (computed .place-top, computed .place-A) (omega arith)))
+    (quoted-sure A 9 2 80 second-80 7 (rw (computed .place-top, computed .place-A) (omega arith)) (computed .periodic-top))
 
 -- In every history an unfinished job of guest 9's second task is younger than 80.
 pub second-below-80 : (cs : List Call) → 0 < restBy A 9 2 (play cs (start A)) → ageBy A 9 2 (play cs (start A)) < 80

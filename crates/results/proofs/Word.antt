@@ -2,11 +2,13 @@
 -- releases, ticks and runs, with any arguments, refused or not, in any order. Nothing is asked of other guests and
 -- tasks: they may be unfit below, unmet, released at any time.
 use mathlib.Core.Path.{_≡_}
+use mathlib.Core.Bool.{false}
 use mathlib.Core.List.{List}
 use Prim.Native.Nat.{ℕ, suc, _+_, _-_, _*_, _≤_, _<_}
 use lib.IntN.{ℤ, pos}
 use Rattle.plan.specs.declared.Plan.{Plan}
 use Rattle.plan.specs.Place.{placeOf}
+use Rattle.plan.specs.Server.{isDeferrable}
 use Rattle.verdict.specs.declared.GuestVerdict.the-variants.{Fitted}
 use Rattle.verdict.specs.declared.TaskVerdict.the-variants.{Met}
 use Rattle.verdict.specs.Verdict.{guestVerdict, taskVerdict}
@@ -16,8 +18,9 @@ use Rattle.dispatcher.specs.Answer.{marginOf}
 use Rattle.dispatcher.specs.Release.{release}
 use Rattle.history.specs.Calls.{Call, start, play, released, ticksIn, answers, answerOf, NoneTaken}
 use Rattle.history.specs.Finished.{FinishedBy}
-use Rattle.history.specs.Named.{guestBy, everyBy, deadlineBy, restBy, ageBy, StartsHere}
+use Rattle.history.specs.Named.{guestBy, everyBy, deadlineBy, restBy, ageBy, positionBy, StartsHere}
 use Rattle.history.specs.Share.{share}
+use Rattle.history.specs.Work.{WorksOn, EachTick}
 use Rattle.history.proofs.Above as upper
 use Rattle.history.proofs.ByResponse as response
 use Rattle.history.proofs.FinishedBy as finished
@@ -25,23 +28,41 @@ use Rattle.history.proofs.NeverLate as late
 use Rattle.history.proofs.NeverTurnedAway as turned
 use Rattle.history.proofs.Sure as sure
 
--- 1. Sure of its capacity. In each of its periods that has ended, a fitted guest has had exactly its capacity of ticks.
+-- 1. Sure of its capacity. In each of its periods that has ended, a fitted Periodic guest has had exactly its capacity
+-- of ticks.
 pub sure-of-capacity :
     (p : Plan) (id x : ℕ)
     → guestVerdict p id ≡ Fitted x
+    → isDeferrable (guestBy p id) ≡ false
     → (cs : List Call) (k : ℕ)
     → suc k * guestBy p id .period ≤ ticksIn cs (start p)
     → share id (answers cs (start p)) (k * guestBy p id .period) (guestBy p id .period) ≡ guestBy p id .capacity
 sure-of-capacity = sure.sure-of-capacity
 
--- In each period that it begins, a fitted guest has had its capacity by the x-th tick, x its response.
+-- In each period that it begins, a fitted Periodic guest has had its capacity by the x-th tick, x its response.
 pub had-by-response :
     (p : Plan) (id x : ℕ)
     → guestVerdict p id ≡ Fitted x
+    → isDeferrable (guestBy p id) ≡ false
     → (cs : List Call) (k : ℕ)
     → k * guestBy p id .period + x ≤ ticksIn cs (start p)
     → share id (answers cs (start p)) (k * guestBy p id .period) x ≡ guestBy p id .capacity
 had-by-response = response.had-by-response
+
+-- A fitted guest of either kind has had its capacity by the x-th tick of a period in which it has work, or nothing left
+-- of its capacity, at each tick from the first on; and so in each period that follows. Work that comes late in a
+-- period may find the period over first.
+pub had-with-work :
+    (p : Plan) (id x : ℕ)
+    → guestVerdict p id ≡ Fitted x
+    → (cs : List Call)
+    → positionBy p id (play cs (start p)) ≡ 0
+    → (ds : List Call)
+    → EachTick (WorksOn p id) ds (play cs (start p))
+    → (k : ℕ)
+    → k * guestBy p id .period + x ≤ ticksIn ds (play cs (start p))
+    → share id (answers ds (play cs (start p))) (k * guestBy p id .period) x ≡ guestBy p id .capacity
+had-with-work = response.had-with-work
 
 -- A task is quoted R if its verdict is met R or unmet R.
 module _ (p : Plan) (id number R : ℕ) (quoted : Quoted p id number R) where
@@ -50,10 +71,11 @@ module _ (p : Plan) (id number R : ℕ) (quoted : Quoted p id number R) where
   pub quoted-fitted : (above : ℕ) → placeOf p above ≤ placeOf p id → (x : ℕ) × (guestVerdict p above ≡ Fitted x)
   quoted-fitted = upper.quoted-fitted p id number R quoted
 
-  -- The guest of a quoted task, and each guest above it, is sure of its capacity.
+  -- The guest of a quoted task, and each guest above it, is sure of its capacity if it is Periodic.
   pub quoted-sure :
       (above : ℕ)
       → placeOf p above ≤ placeOf p id
+      → isDeferrable (guestBy p above) ≡ false
       → (cs : List Call) (k : ℕ)
       → suc k * guestBy p above .period ≤ ticksIn cs (start p)
       → share above (answers cs (start p)) (k * guestBy p above .period) (guestBy p above .period)

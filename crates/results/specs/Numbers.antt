@@ -2,7 +2,7 @@
 use mathlib.Core.Path.{_≡_}
 use mathlib.Core.List.{[], _∷_}
 use lib.IntN.{pos}
-use Rattle.worked.specs.Plans.{planOf, top, nine, planA, A, A35, planB, planC, planD, planE, planF}
+use Rattle.worked.specs.Plans.{planOf, top, nine, planA, A, A35, planB, planC, planD, planE, planF, planG}
 use Rattle.blockwriter.specs.Writing.{blockOf}
 use Rattle.planfile_laws.specs.File.{fileOf}
 use Rattle.amendment.specs.Pair.{inPlan, inSheet, pairRefusal}
@@ -16,9 +16,9 @@ use Rattle.verdict.specs.Verdict.{guestVerdict, taskVerdict, acceptance}
 use Rattle.capacity.specs.declared.CapacityAnswer.the-variants.{Refused, Smallest}
 use Rattle.capacity.specs.Capacity.{withCapacity}
 use Rattle.capacity.specs.Answer.{smallestCapacity}
-use Rattle.dispatcher.specs.declared.Answer.the-variants.{Finished}
+use Rattle.dispatcher.specs.declared.Answer.the-variants.{Nobody, Worked, Finished}
 use Rattle.dispatcher.specs.Release.{release}
-use Rattle.dispatcher.specs.Entries.{run}
+use Rattle.dispatcher.specs.Entries.{tick, run}
 use Rattle.sheet.specs.Sheet.{answered}
 use Rattle.history.specs.Calls.{running, start, play, released, times}
 
@@ -97,3 +97,20 @@ pub record Numbers : Type 0 where
   -- An unbound task above a bound one loads it with its own J: without that 3 would be quoted here, and a run of the
   -- bound task takes 5 ticks if it is released together with the second job of the one above.
   pub unbound-above : taskVerdict planF 7 2 ≡ Unmet
+  -- P9: Plan A with both guests Deferrable: guest 9 and its tasks, then with its first task 10/60/60: none bound, the
+  -- first bound, the second, and both.
+  pub deferrable-second : guestVerdict (planG 50 0) 9 ≡ Fitted 16
+  pub deferrable-first-task : taskVerdict (planG 50 0) 9 1 ≡ Met 38
+  pub deferrable-second-task : taskVerdict (planG 50 0) 9 2 ≡ Met 82
+  pub deferrable-unbound-first : taskVerdict (planG 60 0) 9 1 ≡ Met 38
+  pub deferrable-unbound-second : taskVerdict (planG 60 0) 9 2 ≡ Met 58
+  pub deferrable-first-bound-first : taskVerdict (planG 60 1) 9 1 ≡ Met 26
+  pub deferrable-first-bound-second : taskVerdict (planG 60 1) 9 2 ≡ Met 58
+  pub deferrable-second-bound-first : taskVerdict (planG 60 2) 9 1 ≡ Met 38
+  pub deferrable-second-bound-second : taskVerdict (planG 60 2) 9 2 ≡ Met 46
+  pub deferrable-both-bound-first : taskVerdict (planG 60 3) 9 1 ≡ Met 26
+  pub deferrable-both-bound-second : taskVerdict (planG 60 3) 9 2 ≡ Met 46
+  -- A Deferrable guest without work is passed over, and has no idled tick: nobody has the first tick; released before
+  -- the third, guest 9's first task has it.
+  pub deferrable-passed-over : tick (start (planG 50 0)) .answer ≡ Nobody
+  pub deferrable-works : tick (released (planG 50 0) 9 1 (times 2)) .answer ≡ Worked 9 1

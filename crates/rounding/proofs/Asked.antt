@@ -61,12 +61,13 @@ module _ (cost every late : ℕ → ℕ) (n v : ℕ) where
   pub summed-none : Summed cost every late n v 0 0
   summed-none = record { place = omega arith; is = omega (arith, asked-none cost every late v); most = omega arith }
 
-  -- the loop's turn: one more asks for t of the window with what it can be put off, u
-  pub summed-next : (sum k u t : ℕ) → Summed cost every late n v sum k → k < n → u ≡ v + late k → u < long
-      → t ≡ up u (every k) * cost k → t ≤ u * (bound - 1) → Summed cost every late n v (sum + t) (k + 1)
-  summed-next sum k u t s h q l e m = record {
+  -- the loop's turn: one more asks for t of the window with what it can be put off
+  pub summed-next : (sum k t : ℕ) → Summed cost every late n v sum k → k < n → v + late k < long
+      → t ≡ up (v + late k) (every k) * cost k → t ≤ (v + late k) * (bound - 1)
+      → Summed cost every late n v (sum + t) (k + 1)
+  summed-next sum k t s h l e m = record {
     place = omega arith;
-    is = omega (arith, s .is, asked-next cost every late k v, ap (λ (x : ℕ). up x (every k) * cost k) q);
+    is = omega (arith, s .is, asked-next cost every late k v);
     most = omega (arith, s .most);
   }
 

@@ -4,7 +4,7 @@ ghost use Prim.Native.Nat.{_-_, _*_, _≤_, _<_};
 ghost use Rattle.lists.specs.Places.{nth};
 ghost use Rattle.rounding.specs.Up.{up};
 ghost use Rattle.rounding.specs.Asked.{asked};
-ghost use Rattle.rounding.specs.Cut.{bound, long, cut, Short};
+ghost use Rattle.rounding.specs.Cut.{bound, cut, Short};
 
 // The first number that 32 bits do not hold.
 pub const BOUND: u64 = 4294967296;
@@ -45,22 +45,9 @@ pub fn share(v: u32, every: u32, cost: u32) -> u64
     quotient(v, every) * wide(cost)
 }
 
-// What the first n ask of a window of v ticks, cut off once: the window is so short that no sum of 16 leaves 64 bits.
-pub fn asked_of(cost: &[u32; 16], every: &[u32; 16], n: usize, v: u32) -> u64
-    requires { ⌜ (n ≤ 16) × (v < long) ⌝ }
-    ensures { λ r. ⌜ r ≡ cut (asked (nth (now (cost .entry))) (nth (now (every .entry))) (λ k. 0) n v) ⌝ }
-{
-    let mut sum: u64 = 0;
-    let mut k: usize = 0;
-    while k < n {
-        sum += share(v, every[k], cost[k]);
-        k += 1;
-    }
-    capped(sum)
-}
-
-// What the first n, each put off by its own number in `late`, ask of a window of v ticks, cut off once.
-pub fn asked_of_each(cost: &[u32; 16], every: &[u32; 16], late: &[u32; 16], n: usize, v: u32) -> u64
+// What the first n, each put off by its own number in `late`, ask of a window of v ticks, cut off once: the window is so
+// short for each that no sum of 16 leaves 64 bits.
+pub fn asked_of(cost: &[u32; 16], every: &[u32; 16], late: &[u32; 16], n: usize, v: u32) -> u64
     requires { ⌜ (n ≤ 16) × Short (now late) n v ⌝ }
     ensures { λ r. ⌜
         r ≡ cut (asked (nth (now (cost .entry))) (nth (now (every .entry))) (nth (now (late .entry))) n v)

@@ -13,8 +13,7 @@ use Rattle.plan.specs.Place.{placeOf}
 use Rattle.plan.specs.Records.{guestAt}
 use Rattle.plan.specs.Ranges.{mostTasks}
 use Rattle.plan.specs.Marks.{marked, mayStart}
-use Rattle.arrays.specs.Place.{placeAt}
-use Rattle.steps.specs.Step.{Small}
+use Rattle.arrays.specs.Place.{placeAt, Small}
 use Rattle.refusals.specs.declared.Aim.{Aim}
 use Rattle.refusals.specs.Check.{passes}
 use Rattle.refusals.specs.Aims.{AimsAt, Aims}

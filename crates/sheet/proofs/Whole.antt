@@ -11,7 +11,7 @@ use Rattle.lists.specs.Refusals.{refusal, _orRefuse_}
 use Rattle.plan.specs.Filled.{ColumnsOf}
 use Rattle.plan.specs.First.{refused}
 use Rattle.plan.specs.Order.{planRefusal}
-use Rattle.steps.specs.Step.{Small}
+use Rattle.arrays.specs.Place.{Small}
 use Rattle.refusals.specs.declared.Checked.{Checked}
 use Rattle.jobs.specs.Rows.{JobsOf}
 use Rattle.jobs.specs.Barred.{BarredTo}

@@ -1,5 +1,6 @@
 // Ticks one after the other over lent arrays.
-ghost use Rattle.steps.specs.Step.{Small, StepsOn};
+ghost use Rattle.arrays.specs.Place.{Small};
+ghost use Rattle.steps.specs.Step.{StepsOn};
 use crate::Turn;
 use crate::Went;
 use crate::stepping::step;
@@ -15,12 +16,13 @@ pub fn steps(
     capacities: &[u32; 16],
     periods: &[u32; 16],
     tasks: &[u32; 16],
+    deferrable: &[u32; 16],
     n: usize,
     ticks: u32,
 ) -> Went
     requires { ⌜ Small n (now tasks) ⌝ }
     ensures { λ r. ⌜
-        StepsOn n (now (capacities .entry)) (now (periods .entry)) (now (tasks .entry))
+        StepsOn n (now (capacities .entry)) (now (periods .entry)) (now (tasks .entry)) (now (deferrable .entry))
         (record {
           left = now (left .entry);
           position = now (position .entry);
@@ -57,6 +59,7 @@ pub fn steps(
             capacities,
             periods,
             tasks,
+            deferrable,
             n,
         );
         done += 1;

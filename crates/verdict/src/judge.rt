@@ -1,10 +1,10 @@
 // Verdicts off lent columns and one guest's record at a time.
 ghost use mathlib.Core.Path.{_≡_};
 ghost use mathlib.Core.Bool.{true};
-ghost use Prim.Native.Nat.{ℕ, _+_, _≤_, _<_};
+ghost use Prim.Native.Nat.{_+_, _<_};
 ghost use lib.Dec.{leb};
 ghost use Rattle.lists.specs.All.{allTo};
-ghost use Rattle.plan.specs.Records.{guestAt, deadlineOf};
+ghost use Rattle.plan.specs.Records.{deadlineOf};
 ghost use Rattle.verdict.specs.Verdict.{guestSays, quotedBy, taskSays};
 ghost use Rattle.equation.specs.System.{taskUnder};
 ghost use Rattle.response.specs.Task.{systemOf, limit};
@@ -14,7 +14,6 @@ use crate::GuestVerdict;
 use crate::TaskVerdict;
 use lists::Found;
 use plan::Guest;
-use plan::Plan;
 use response::Trial;
 use response::all_fitted;
 use response::charged_of;
@@ -59,19 +58,23 @@ pub fn judge_task(
     g: Guest,
     capacities: &[u32; 16],
     periods: &[u32; 16],
+    jitters: &[u32; 16],
     k: usize,
     i: usize,
 ) -> TaskVerdict
-    requires { ⌜ Seated g (now capacities) (now periods) k × (i < g .tasks) ⌝ }
+    requires { ⌜ Seated g (now capacities) (now periods) (now jitters) k × (i < g .tasks) ⌝ }
     ensures { λ r. ⌜
         r
-        ≡ taskSays (allTo (fittedAt (now (capacities .entry)) (now (periods .entry))) (k + 1)) (deadlineOf g i)
-        (taskUnder (systemOf (guestsTake (now (capacities .entry)) (now (periods .entry)) k) g) i (limit g i))
+        ≡ taskSays
+        (allTo (fittedAt (now (capacities .entry)) (now (periods .entry)) (now (jitters .entry))) (k + 1))
+        (deadlineOf g i)
+        (taskUnder (systemOf (guestsTake (now (capacities .entry)) (now (periods .entry)) (now (jitters .entry)) k) g) i
+        (limit g i))
         ⌝ }
 {
     let every = g.every;
     let deadline = g.deadline;
-    if !all_fitted(capacities, periods, k + 1) {
+    if !all_fitted(capacities, periods, jitters, k + 1) {
         return TaskVerdict::Unjudged;
     }
     let run = charged_of(g);
@@ -80,6 +83,7 @@ pub fn judge_task(
     let f = task_response(
         capacities,
         periods,
+        jitters,
         k,
         g.capacity,
         g.period,
@@ -93,11 +97,19 @@ pub fn judge_task(
 }
 
 // Whether the guest at place k is fitted and all its tasks are met.
-fn guest_accepted(g: Guest, capacities: &[u32; 16], periods: &[u32; 16], k: usize) -> bool
-    requires { ⌜ Seated g (now capacities) (now periods) k ⌝ }
-    ensures { λ r. ⌜ r ≡ acceptedUnder (guestsTake (now (capacities .entry)) (now (periods .entry)) k) g ⌝ }
+pub fn guest_accepted(
+    g: Guest,
+    capacities: &[u32; 16],
+    periods: &[u32; 16],
+    jitters: &[u32; 16],
+    k: usize,
+) -> bool
+    requires { ⌜ Seated g (now capacities) (now periods) (now jitters) k ⌝ }
+    ensures { λ r. ⌜
+        r ≡ acceptedUnder (guestsTake (now (capacities .entry)) (now (periods .entry)) (now (jitters .entry)) k) g
+        ⌝ }
 {
-    let f = guest_response(capacities, periods, k, g.capacity, g.period);
+    let f = guest_response(capacities, periods, jitters, k, g.capacity, g.period);
     let every = g.every;
     let deadline = g.deadline;
     let tasks = g.tasks as usize;
@@ -107,6 +119,7 @@ fn guest_accepted(g: Guest, capacities: &[u32; 16], periods: &[u32; 16], k: usiz
         f,
         capacities,
         periods,
+        jitters,
         k,
         g.capacity,
         g.period,
@@ -121,29 +134,4 @@ fn guest_accepted(g: Guest, capacities: &[u32; 16], periods: &[u32; 16], k: usiz
         Trial::Unmet => false,
         Trial::Unfit => false,
     }
-}
-
-// Whether all guests are fitted and all tasks met, one guest after the other.
-pub fn all_accepted(plan: Plan, capacities: &[u32; 16], periods: &[u32; 16]) -> bool
-    requires { ⌜
-        ((k : ℕ) → k < plan .count → Seated (guestAt (plan .guests) k) (now capacities) (now periods) k)
-        × (plan .count ≤ 8)
-        ⌝ }
-    ensures { λ r. ⌜
-        r
-        ≡ allTo
-        (λ k. acceptedUnder (guestsTake (now (capacities .entry)) (now (periods .entry)) k) (guestAt (plan .guests) k))
-        (plan .count)
-        ⌝ }
-{
-    let guests = plan.guests;
-    let n = plan.count as usize;
-    let mut k: usize = 0;
-    while k < n {
-        if !guest_accepted(guests[k], capacities, periods, k) {
-            return false;
-        }
-        k += 1;
-    }
-    true
 }

@@ -3,10 +3,13 @@ ghost use Rattle.verdict.specs.Promises.{GuestJudged, TaskJudged, Accept
 use plan::Plan;
 use plan::check;
 use plan::columns_of;
+use plan::count_ok;
 use plan::has_task;
 use plan::look_up;
+use response::jitters_of;
 use response::response_at;
 
+mod accepting;
 mod judge;
 
 // The verdict of a guest: a refusal's number and place; fitted with its response; unfit.
@@ -47,7 +50,9 @@ pub fn guest_verdict(plan: Plan, id: u32) -> GuestVerdict
     if 0 < refusal.number {
         return GuestVerdict::Refused(refusal.number, refusal.place);
     }
-    judge::guest_says(response_at(&capacities, &periods, found.place))
+    let deferrable = columns.deferrable;
+    let jitters = jitters_of(&deferrable, &capacities, &periods);
+    judge::guest_says(response_at(&capacities, &periods, &jitters, found.place))
 }
 
 // The verdict of task number `task`, from 1, of the guest with an id.
@@ -70,23 +75,17 @@ pub fn task_verdict(plan: Plan, id: u32, task: u32) -> TaskVerdict
     if !has_task(g.tasks, task) {
         return TaskVerdict::Refused(8, 0);
     }
-    judge::judge_task(g, &capacities, &periods, k, (task - 1) as usize)
+    let deferrable = columns.deferrable;
+    let jitters = jitters_of(&deferrable, &capacities, &periods);
+    judge::judge_task(g, &capacities, &periods, &jitters, k, (task - 1) as usize)
 }
 
 // Whether all guests are fitted and all tasks met.
 pub fn accept(plan: Plan) -> Acceptance
     ensures { λ r. ⌜ Accepts plan r ⌝ }
 {
-    let refusal = check(plan);
-    if 0 < refusal.number {
-        return Acceptance::Refused(refusal.number, refusal.place);
+    if !count_ok(plan.count) {
+        return Acceptance::Refused(1, 0);
     }
-    let columns = columns_of(plan);
-    let capacities = columns.capacities;
-    let periods = columns.periods;
-    if judge::all_accepted(plan, &capacities, &periods) {
-        Acceptance::Accepted
-    } else {
-        Acceptance::NotAccepted
-    }
+    accepting::judged(plan)
 }

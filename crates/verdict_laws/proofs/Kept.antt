@@ -26,10 +26,11 @@ use Rattle.plan.proofs.Charge.{charged-least}
 use Rattle.plan.proofs.MarksLaws.{bound-starts}
 use Rattle.plan.proofs.Order.{PlanIn}
 use Rattle.windows.proofs.Kept.{kept-tick, kept-taken, kept-same, kept-fresh, age-below}
+use Rattle.dispatcher_laws.proofs.Claims.{busy-claims}
 use Rattle.dispatcher_laws.proofs.Fresh.{idle-position, idle-held, idle-rest, idle-wait}
 use Rattle.dispatcher_laws.proofs.GuestTick.{guest-tick}
 use Rattle.dispatcher_laws.proofs.Release.{Free, taken-here, taken-else}
-use Rattle.dispatcher_laws.proofs.Seen.{capOf, perOf, runIn, everyIn, posAt, leftAt, heldAt, tasksAt}
+use Rattle.dispatcher_laws.proofs.Seen.{capOf, perOf, jitOf, runIn, everyIn, posAt, leftAt, heldAt, claimsAt, tasksAt}
 use Rattle.dispatcher_laws.proofs.Sound.{Sound}
 use Rattle.dispatcher_laws.proofs.TaskTick.{task-else, task-mine}
 
@@ -40,13 +41,12 @@ gapIn p g j = gap (guestAt (p .guests) g) j
 -- A guest of records in order that is fitted with x is fitted with x as the windows have it.
 pub fitted-of :
     (p : Plan) → PlanIn p → {g x : ℕ} → g < p .count → GuestSolves p g x
-    → GuestFits (capOf p) (perOf p) g x
+    → GuestFits (capOf p) (perOf p) (jitOf p) g x
 unfolding guestRight interference jitter
 fitted-of p P {g} {x} in-plan G = record {
   some = P .guests g in-plan .head .some;
   solves = G .solves;
   inside = G .high;
-  periods = λ k h. (let H = P .guests k (omega (arith, in-plan)) .head in omega (arith, H .some, H .fits));
 }
 
 -- Guest g of the plan is fitted with x, and w solves the equation of its task i, from 0, with a response at most the
@@ -65,11 +65,11 @@ boundIn p g j = isBound (guestAt (p .guests) g) j
 -- what is kept of a state, seen from task i of guest g
 abbrev pub KeptIn : Plan → (g x i w : ℕ) → Dispatcher → Type 0
 KeptIn p g x i w d =
-    Kept (capOf p) (perOf p) g x (runIn p g) (everyIn p g) (boundIn p g) i w (heldAt d) (posAt d) (tasksAt d g)
+    Kept (capOf p) (perOf p) (jitOf p) g x (runIn p g) (everyIn p g) (boundIn p g) i w (heldAt d) (posAt d) (tasksAt d g)
 
 module _ (p : Plan) (P : PlanIn p) {g x i w : ℕ} (T : TaskFits p g x i w) where
   -- The ranges of the records bound the task as the windows want it.
-  pub bounded-of : Bounded (capOf p) (perOf p) g x (runIn p g) (everyIn p g) (boundIn p g) i w
+  pub bounded-of : Bounded (capOf p) (perOf p) (jitOf p) g x (runIn p g) (everyIn p g) (boundIn p g) i w
   unfolding taskRight interference jitter gap
   bounded-of =
       let G = P .guests g (T .in-plan) in
@@ -118,9 +118,10 @@ module _ (p : Plan) (P : PlanIn p) {g x i w : ℕ} (T : TaskFits p g x i w) wher
         kept-tick bounded-of
         (subst
         (λ (z : Plan).
-        GuestTick (capOf z) (perOf z) g (holder d) (heldAt d) (posAt d)
+        GuestTick (capOf z) (perOf z) (jitOf z) (claimsAt d) g (holder d) (heldAt d) (posAt d)
         (leftAt (next d)) (heldAt (next d)) (posAt (next d)))
         (D .plan) (guest-tick d (D .shaped) g in-plan))
+        (busy-claims d g i in-guest)
         (task-mine d (D .shaped) g i in-plan in-guest) (task-else d (D .shaped) g i in-plan in-guest)
 
     -- Where the task of a taken release of this guest is bound, the guest is at position 0.

@@ -10,23 +10,29 @@ use Rattle.plan.specs.declared.Plan.{Plan}
 abbrev pub padded : List ℕ → List ℕ
 padded l = take 16 (l ++ replicate 16 0)
 
--- A guest by its id, capacity, period, charge, marks and its tasks' runs, periods and deadlines.
-abbrev pub marked : (id capacity period charge marks : ℕ) → (run every deadline : List ℕ) → Guest
-marked id capacity period charge marks run every deadline = record {
+-- A guest by its id, capacity, period, charge, marks, server and its tasks' runs, periods and deadlines.
+abbrev pub anyGuest : (id capacity period charge marks deferrable : ℕ) → (run every deadline : List ℕ) → Guest
+anyGuest id capacity period charge marks deferrable run every deadline = record {
   id = id;
   capacity = capacity;
   period = period;
   tasks = length run;
   charge = charge;
   marks = marks;
+  deferrable = deferrable;
   run = padded run;
   every = padded every;
   deadline = padded deadline;
 }
 
--- A guest none of whose tasks is bound.
+-- A guest that is a Periodic Server.
+abbrev pub boundGuest : (id capacity period charge marks : ℕ) → (run every deadline : List ℕ) → Guest
+boundGuest id capacity period charge marks run every deadline =
+    anyGuest id capacity period charge marks 0 run every deadline
+
+-- A Periodic guest none of whose tasks is bound.
 abbrev pub guest : (id capacity period charge : ℕ) → (run every deadline : List ℕ) → Guest
-guest id capacity period charge run every deadline = marked id capacity period charge 0 run every deadline
+guest id capacity period charge run every deadline = boundGuest id capacity period charge 0 run every deadline
 
 -- A plan of these guests, records of zeros past them.
 abbrev pub planOf : List Guest → Plan
@@ -76,8 +82,16 @@ planD = planOf (guest 7 1 1000 0 (2 ∷ []) (10 ∷ []) (10 ∷ []) ∷ [])
 
 -- Plan A with guest 9's first task 10/60/60, and these marks there.
 abbrev pub planE : (marks : ℕ) → Plan
-planE marks = planOf (top ∷ marked 9 8 20 0 marks (10 ∷ 8 ∷ []) (60 ∷ 100 ∷ []) (60 ∷ 100 ∷ []) ∷ [])
+planE marks = planOf (top ∷ boundGuest 9 8 20 0 marks (10 ∷ 8 ∷ []) (60 ∷ 100 ∷ []) (60 ∷ 100 ∷ []) ∷ [])
 
 -- Guest 1/2 with an unbound task 1/3/3 above a bound task 1/4/4.
 abbrev pub planF : Plan
-planF = planOf (marked 7 1 2 0 2 (1 ∷ 1 ∷ []) (3 ∷ 4 ∷ []) (3 ∷ 4 ∷ []) ∷ [])
+planF = planOf (boundGuest 7 1 2 0 2 (1 ∷ 1 ∷ []) (3 ∷ 4 ∷ []) (3 ∷ 4 ∷ []) ∷ [])
+
+-- Plan A with both guests Deferrable, this period and deadline of guest 9's first task, and these marks there.
+abbrev pub planG : (every marks : ℕ) → Plan
+planG every marks =
+    planOf
+    (anyGuest 7 2 5 0 0 1 (1 ∷ []) (20 ∷ []) (20 ∷ [])
+    ∷ anyGuest 9 8 20 0 marks 1 (10 ∷ 8 ∷ []) (every ∷ 100 ∷ []) (every ∷ 100 ∷ [])
+    ∷ [])

@@ -55,6 +55,11 @@ fn judging() -> Vec<Case> {
         accept("accept-plan-a", inputs::plan_a(), true),
         accept("accept-near-a-million", inputs::near_a_million(), true),
         accept("accept-bound", inputs::bound_near_a_million(), true),
+        accept(
+            "accept-deferrable",
+            inputs::deferrable_near_a_million(),
+            true,
+        ),
         accept("accept-growing", inputs::growing(), true),
         accept("accept-last-unmet", inputs::last_unmet(), false),
         guest_verdict("guest-long-climb", inputs::long_climb(), 8, 89_600),
@@ -88,8 +93,14 @@ fn dispatching() -> Vec<Case> {
         sheet("sheet-16", inputs::endless(), inputs::last_guests()),
         tick("tick-plan-a", inputs::plan_a()),
         tick("tick-full", inputs::endless()),
+        tick("tick-deferrable", inputs::endless_deferrable()),
         run("run-million-plan-a-idle", inputs::plan_a(), false),
         run("run-million-full", inputs::endless(), true),
+        run(
+            "run-million-passed-over",
+            inputs::endless_deferrable(),
+            false,
+        ),
     ]
 }
 

@@ -27,7 +27,7 @@ fn damage(random: &mut Random, bytes: &mut [u8]) {
     let at = random.below(bytes.len());
     let start = at / BLOCK * BLOCK;
     let any = random.next() as u8;
-    match random.below(7) {
+    match random.below(8) {
         0 => bytes[at] ^= 1 << random.below(8),
         1 => bytes[at] = random.pick(&[0, 1, 255, any]),
         2 => put(
@@ -52,26 +52,34 @@ fn damage(random: &mut Random, bytes: &mut [u8]) {
             start..start + BLOCK,
             random.below(bytes.len() / BLOCK) * BLOCK,
         ),
-        _ => damage_marks(random, &mut bytes[start..start + BLOCK]),
+        _ => damage_kind(random, &mut bytes[start..start + BLOCK]),
     }
 }
 
-/// Another kind, or other marks, or both, or something behind the marks.
-fn damage_marks(random: &mut Random, block: &mut [u8]) {
+/// Another kind, other marks, another server in byte 22, something behind it, or several of these.
+fn damage_kind(random: &mut Random, block: &mut [u8]) {
+    if !random.once_in(4) {
+        let kind: u16 = random.pick(&[0, 1, 2, 2, 2, 3, 256, 258]);
+        put(block, 0, &kind.to_le_bytes());
+    }
+    if random.once_in(2) {
+        let marks = damaged_marks(random, block);
+        put(block, 20, &marks.to_le_bytes());
+    }
+    if random.once_in(2) {
+        block[22] = random.pick(&[0, 1, 1, 2, 255]);
+    }
+    if random.once_in(6) {
+        block[23 + random.pick(&[0, 0, 0, 8])] = random.pick(&[1, 7, 128, 255]);
+    }
+}
+
+/// Marks of some tasks of a block, or of none, or past them.
+fn damaged_marks(random: &mut Random, block: &[u8]) -> u16 {
     let tasks = usize::from(block[16]).clamp(1, MOST_TASKS);
-    let kind = random.pick(&[0, 1, 2, 2, 3, 256, 258]);
     let any = random.next() as u16;
     let first_past = (1_u32 << tasks) as u16;
-    let marks: u16 = random.pick(&[0, 1, 1 << (tasks - 1), first_past, 0x8000, any]);
-    let what = random.below(4);
-    if what != 0 {
-        put(block, 0, &u16::to_le_bytes(kind));
-    }
-    match what {
-        0 | 1 => put(block, 20, &marks.to_le_bytes()),
-        2 => (),
-        _ => block[20 + random.below(12)] = random.pick(&[1, 128, 255]),
-    }
+    random.pick(&[0, 0, 1, 1 << (tasks - 1), first_past, 0x8000, any])
 }
 
 fn put(bytes: &mut [u8], at: usize, value: &[u8]) {

@@ -62,12 +62,12 @@ fn kinds_and_marks(session: &mut Session) {
     }
 }
 
-fn put(block: &mut [u8], at: usize, value: u16) {
+pub(crate) fn put(block: &mut [u8], at: usize, value: u16) {
     block[at..at + 2].copy_from_slice(&value.to_le_bytes());
 }
 
 /// Reads a block with its check made anew, and looks for its guest.
-fn read_and_find(session: &mut Session, block: &mut [u8]) {
+pub(crate) fn read_and_find(session: &mut Session, block: &mut [u8]) {
     seal(block);
     session.compare(Call::Read(block.to_vec()));
     session.compare(Call::Find(block.to_vec(), 5));
@@ -92,7 +92,7 @@ fn records_with_each_mark(session: &mut Session) {
     }
 }
 
-fn written(session: &mut Session, guest: Guest) {
+pub(crate) fn written(session: &mut Session, guest: Guest) {
     session.compare(Call::Write(Box::new(guest), 3, vec![0xA5; BLOCK + 1]));
 }
 

@@ -5,9 +5,11 @@ pub mod amendments;
 mod blocks;
 pub mod bound;
 mod call;
+pub mod deferrable;
 mod exhaustive;
 mod histories;
 pub mod independence;
+mod kinds;
 mod marks;
 mod pairs;
 mod plans;
@@ -31,6 +33,7 @@ pub fn everything(session: &mut Session, budget: Duration) {
     let end = Instant::now() + budget;
     exhaustive::compare(session);
     bound::compare(session);
+    deferrable::compare(session);
     pairs::compare(session);
     amendments::compare(session);
     while Instant::now() < end {

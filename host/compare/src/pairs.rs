@@ -20,7 +20,8 @@ pub fn pairs<T: Copy>(of: &[T]) -> impl Iterator<Item = (T, T)> {
 }
 
 /// Words of the block at a place of a plan of two guests, most of them wrong in a way of its own: the offset and the
-/// word. One of the kinds is the block's own, and it depends on the other word of a pair whether kind 2 is right.
+/// word. One of the kinds is the block's own, and it depends on the other word of a pair whether kind 2 is right: the
+/// words at 20 have marks, a server in byte 22, and something in byte 23.
 pub fn wrong_words(plan: &Plan, place: u32) -> Vec<(usize, u32)> {
     let own = place << 16;
     let guest = plan.guests[place as usize];
@@ -45,6 +46,10 @@ pub fn wrong_words(plan: &Plan, place: u32) -> Vec<(usize, u32)> {
         (20, 1 << guest.tasks),
         (20, 0x0001_0000),
         (20, 0x0001_0001),
+        (20, 0x0002_0000),
+        (20, 0x0002_0001),
+        (20, 0x0700_0001),
+        (20, 0x0701_0000),
         (28, 0x0100_0000),
         (past, 1),
         (220, 0x0100_0000),
@@ -84,7 +89,7 @@ fn blocks(session: &mut Session) {
 }
 
 /// What can be wrong in a record.
-const WRONG_RECORDS: [fn(&mut Guest); 19] = [
+const WRONG_RECORDS: [fn(&mut Guest); 21] = [
     |_| (),
     |guest| guest.id = 0,
     |guest| guest.id = 7,
@@ -102,6 +107,8 @@ const WRONG_RECORDS: [fn(&mut Guest); 19] = [
     |guest| guest.marks = 1,
     |guest| guest.marks = 2,
     |guest| guest.marks = 0xFFFC,
+    |guest| guest.deferrable = 1,
+    |guest| guest.deferrable = 256,
     |guest| guest.deadline[0] = 0,
     |guest| guest.deadline[0] = guest.every[0] + 1,
 ];
@@ -150,7 +157,7 @@ fn writes(session: &mut Session) {
 }
 
 /// What can be wrong in a state of plan A, and what is just not.
-const STATES: [fn(&mut Dispatcher); 21] = [
+const STATES: [fn(&mut Dispatcher); 23] = [
     |_| (),
     |state| state.plan.count = 0,
     |state| state.plan.guests[1].run[0] = 0,
@@ -169,6 +176,8 @@ const STATES: [fn(&mut Dispatcher); 21] = [
     |state| state.age[place_of(2, 0)] = 1,
     |state| state.plan.guests[1].marks = 1,
     |state| state.plan.guests[1].marks = 0xFFFE,
+    |state| state.plan.guests[0].deferrable = 1,
+    |state| state.plan.guests[1].deferrable = u32::MAX,
     |state| state.position[1] = 7,
     |state| state.wait[place_of(1, 1)] = 5,
     |state| bound_off_its_start(state),

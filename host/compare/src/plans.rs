@@ -1,5 +1,6 @@
 //! Random plans: well formed ones of several sizes, and hostile ones.
 
+use crate::kinds;
 use crate::marks;
 use crate::random::Random;
 use reference::plan::{Guest, MOST_GUESTS, MOST_TASKS, Plan};
@@ -115,6 +116,7 @@ pub fn guest(random: &mut Random, size: Size, id: u32, share: u32) -> Guest {
         tasks,
         charge: charge(random),
         marks: marks::some(random, tasks),
+        deferrable: kinds::some(random),
         ..Guest::default()
     };
     for at in 0..tasks as usize {
@@ -180,6 +182,7 @@ fn any_guest(random: &mut Random) -> Guest {
         tasks: random.edge(),
         charge: random.next() as u16,
         marks: random.next() as u16,
+        deferrable: random.edge(),
         run: std::array::from_fn(|_| random.edge()),
         every: std::array::from_fn(|_| random.edge()),
         deadline: std::array::from_fn(|_| random.edge()),
@@ -208,7 +211,7 @@ fn damage(random: &mut Random, plan: &mut Plan) {
     let guest = &mut plan.guests[random.below(count)];
     let task = random.below(guest.tasks.clamp(1, MOST_TASKS as u32) as usize);
     let value = random.edge();
-    match random.below(12) {
+    match random.below(13) {
         0 => plan.count = value,
         1 => guest.id = random.pick(&[0, other.id, value]),
         2 => guest.capacity = random.pick(&[0, guest.period, guest.period.wrapping_add(1), value]),
@@ -220,6 +223,7 @@ fn damage(random: &mut Random, plan: &mut Plan) {
         8 => guest.run[task] = 0,
         9 => guest.marks = random.next() as u16,
         10 => marks::no_multiple(guest, task),
+        11 => guest.deferrable = value,
         _ => guest.charge = value as u16,
     }
 }

@@ -4,7 +4,7 @@ use crate::blocks;
 use crate::plans::{self, SMALL, TINY};
 use crate::session::Session;
 use reference::plan::{BLOCK, blocks_of};
-use reference::samples::{plan_a, plan_a_bound};
+use reference::samples::{deferrable, plan_a, plan_a_bound};
 use reference::show::text;
 use std::io::{self, Write};
 use std::process::{Command, Stdio};
@@ -18,8 +18,9 @@ pub fn compare(session: &mut Session, program: &str) -> io::Result<()> {
         vec![0; 4_097],
         vec![0; 9_000],
     ];
-    inputs.push(blocks_of(&plan_a()));
-    inputs.extend((0..4).map(|marks| blocks_of(&plan_a_bound(marks))));
+    for plan in (0..4).map(plan_a_bound).chain([plan_a()]) {
+        inputs.extend([blocks_of(&plan), blocks_of(&deferrable(plan))]);
+    }
     for _ in 0..200 {
         let size = session.random.pick(&[TINY, SMALL]);
         let plan = plans::plan(&mut session.random, size);

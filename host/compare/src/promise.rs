@@ -9,29 +9,55 @@ mod script;
 mod tests;
 
 use crate::plans::{self, SMALL, TINY};
+use crate::random::Random;
 use crate::session::Session;
 use crate::show;
 use crate::side::Side;
 use crate::tries::{Script, fewest};
 use play::{Quoted, Seen, play};
-use reference::plan::Plan;
+use reference::plan::{Guest, Plan};
 use script::script;
 
 /// One plan with quoted tasks, and some histories against it.
 pub fn histories(session: &mut Session) {
-    let size = session.random.pick(&[TINY, TINY, SMALL]);
-    let plan = plans::clean(&mut session.random, size);
+    let random = &mut session.random;
+    let plan = match random.below(4) {
+        0 => below_a_busy_guest(random),
+        1 => plans::clean(random, SMALL),
+        _ => plans::clean(random, TINY),
+    };
     let quoted = quoted(&session.subject, &plan);
     if quoted.is_empty() {
         return;
     }
     for _ in 0..4 {
-        let script = script(session, &plan);
+        let script = script(session, &plan, &quoted);
         match play(&session.subject, &plan, &quoted, &script) {
             Ok(seen) => note(session, &seen),
             Err(_) => broken(session, &plan, &quoted, script),
         }
     }
+}
+
+/// A guest with some tasks below a Deferrable one that has as much to do as it can ever do, so that all it keeps is
+/// used, and its jitter shows where the periods let it.
+fn below_a_busy_guest(random: &mut Random) -> Plan {
+    let [above, period] = [random.from(1, 2), random.from(3, 6)];
+    let [capacity, own] = [random.from(1, 3), random.from(4, 9)];
+    let tasks: [[u32; 3]; 2] = std::array::from_fn(|_| {
+        let every = own * random.from(3, 6);
+        [random.from(1, 3), every, every]
+    });
+    Plan::new(&[
+        Guest {
+            deferrable: 1,
+            ..Guest::new(1, above, period, &[[14, 14, 14]])
+        },
+        Guest {
+            marks: random.from(0, 3) as u16,
+            ..Guest::new(2, capacity, own, &tasks)
+        },
+    ])
 }
 
 /// The tasks that are quoted a response: met R or unmet R.
@@ -54,10 +80,13 @@ fn quoted(side: &Side, plan: &Plan) -> Vec<Quoted> {
 
 fn note(session: &mut Session, seen: &Seen) {
     session.note("promise: histories", true);
-    session.note_many("promise: quoted jobs", seen.finished);
-    session.count("promise: of them took R", seen.at_the_response);
-    session.count("promise: of them bound", seen.bound);
-    session.count("promise: bound and took R", seen.bound_at_the_response);
+    session.note_many("promise: quoted jobs", seen.jobs.finished);
+    session.count("promise: of them took R", seen.jobs.at_the_response);
+    session.count("promise: of them bound", seen.bound.finished);
+    session.count("promise: bound and took R", seen.bound.at_the_response);
+    let below = &seen.below_deferrable;
+    session.count("promise: below Deferrable", below.finished);
+    session.count("promise: below and took R", below.at_the_response);
     session.count("promise: sheets", seen.sheets);
     session.count("promise: refused whole", seen.refused_whole);
 }

@@ -109,8 +109,8 @@ pub fn plan(plan: &Plan) -> String {
     format!("count {} {{{}}}", plan.count, guests.join("; "))
 }
 
-/// The guest as id, capacity/period, charge, marks with task 1's last, number of tasks, and each entry as
-/// run/period/deadline.
+/// The guest as id, capacity/period, charge, marks with task 1's last, the number of its kind, number of tasks, and
+/// each entry as run/period/deadline.
 fn guest(guest: &Guest) -> String {
     let entry = |at: usize| [guest.run[at], guest.every[at], guest.deadline[at]];
     let tasks: Vec<String> = (0..MOST_TASKS)
@@ -126,10 +126,12 @@ fn guest(guest: &Guest) -> String {
         period,
         charge,
         marks,
+        deferrable,
         ..
     } = guest;
     let tasks = format!("tasks {} ({})", guest.tasks, tasks.join(", "));
-    format!("id {id} {capacity}/{period} charge {charge} marks {marks:b} {tasks}")
+    let kind = format!("marks {marks:b} deferrable {deferrable}");
+    format!("id {id} {capacity}/{period} charge {charge} {kind} {tasks}")
 }
 
 fn state(state: &Dispatcher) -> String {

@@ -207,6 +207,7 @@ fn guest_numbers(guest: &mut Guest) -> Vec<&mut u32> {
         &mut guest.capacity,
         &mut guest.period,
         &mut guest.tasks,
+        &mut guest.deferrable,
     ];
     let entries = [&mut guest.run, &mut guest.every, &mut guest.deadline];
     head.into_iter()

@@ -75,7 +75,7 @@ fn damage(random: &mut Random, state: &mut Dispatcher) {
     let charged = guest.run[task].wrapping_add(2 * u32::from(guest.charge));
     let value = random.edge();
     let over = |most: u32, random: &mut Random| random.pick(&[most.wrapping_add(1), most, value]);
-    match random.below(11) {
+    match random.below(12) {
         0 => state.left[at] = over(guest.capacity, random),
         1 => state.position[at] = over(guest.period.wrapping_sub(1), random),
         2 => state.rest[place] = over(charged, random),
@@ -86,6 +86,7 @@ fn damage(random: &mut Random, state: &mut Dispatcher) {
         7 => state.usage = counts(random),
         8 => state.plan.guests[at].marks = random.next() as u16,
         9 => marks::no_multiple(&mut state.plan.guests[at], task),
+        10 => state.plan.guests[at].deferrable = value,
         _ => state.plan.guests[at].period = value,
     }
 }

@@ -17,7 +17,8 @@ pub const MOST_TASKS: usize = 16;
 /// The longest period and the longest run, in ticks.
 pub const LONGEST: u32 = 1_000_000;
 
-/// One guest's record. The task's period column is called `every`; the marks have bit 0 for task 1 and so on.
+/// One guest's record. The task's period column is called `every`; the marks have bit 0 for task 1 and so on; the guest
+/// is Periodic where `deferrable` is 0, and Deferrable where it is any other number.
 #[derive(Clone, Copy, Debug, Default, PartialEq, Eq)]
 pub struct Guest {
     pub id: u32,
@@ -26,6 +27,7 @@ pub struct Guest {
     pub tasks: u32,
     pub charge: u16,
     pub marks: u16,
+    pub deferrable: u32,
     pub run: [u32; MOST_TASKS],
     pub every: [u32; MOST_TASKS],
     pub deadline: [u32; MOST_TASKS],
@@ -63,7 +65,7 @@ impl Refusal {
 }
 
 impl Guest {
-    /// A record from its tasks' run, period and deadline, with charge 0 and no task bound.
+    /// A record from its tasks' run, period and deadline: Periodic, with charge 0 and no task bound.
     pub fn new(id: u32, capacity: u32, period: u32, tasks: &[[u32; 3]]) -> Guest {
         let mut guest = Guest {
             id,
@@ -78,6 +80,11 @@ impl Guest {
             guest.deadline[at] = *deadline;
         }
         guest
+    }
+
+    /// Whether the guest is Deferrable: any number but 0 says so.
+    pub fn is_deferrable(&self) -> bool {
+        self.deferrable != 0
     }
 
     /// Whether the task at this place is bound: bit 0 of the marks for task 1 and so on.

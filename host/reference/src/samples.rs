@@ -1,5 +1,5 @@
 //! Plans that document 01 works out by hand, plan A with bound tasks, a plan with a fitted guest below an unfit one,
-//! and one that is full.
+//! and one that is full; and any of them with Deferrable guests.
 
 use crate::plan::{Guest, Plan};
 
@@ -18,6 +18,14 @@ pub fn plan_a_bound(marks: u16) -> Plan {
         marks,
         ..Guest::new(9, 8, 20, &[[10, 60, 60], [8, 100, 100]])
     };
+    plan
+}
+
+/// The plan with all its guests Deferrable.
+pub fn deferrable(mut plan: Plan) -> Plan {
+    for guest in &mut plan.guests[..plan.count as usize] {
+        guest.deferrable = 1;
+    }
     plan
 }
 

@@ -125,7 +125,7 @@ fn fitted(plan: &Plan, guest: usize) -> bool {
     guest_response(plan, guest).is_some()
 }
 
-/// The least x from 1 to T with x = C + the sum over guests above of (x / their period, rounded up)
+/// The least x from 1 to T with x = C + the sum over guests above of ((x + their jitter) / their period, rounded up)
 /// times their capacity.
 pub fn guest_response(plan: &Plan, guest: usize) -> Option<u32> {
     let above = &plan.guests[..guest];
@@ -139,14 +139,14 @@ pub fn guest_response(plan: &Plan, guest: usize) -> Option<u32> {
 pub fn task_response(plan: &Plan, guest: usize, task: usize) -> Option<u32> {
     let above = &plan.guests[..guest];
     let own = &plan.guests[guest];
-    let jitter = jitter(own, task);
+    let gap = gap(own, task);
     (1..)
-        .take_while(|w| w + jitter <= own.every[task])
+        .take_while(|w| w + gap <= own.every[task])
         .find(|w| u128::from(*w) == right_side(above, own, task, u128::from(*w)))
-        .map(|w| w + jitter)
+        .map(|w| w + gap)
 }
 
-/// load + (n - 1)(T - C) + the sum over guests above of (max(0, w - (n - 1)T) / their period,
+/// load + (n - 1)(T - C) + the sum over guests above of ((max(0, w - (n - 1)T) + their jitter) / their period,
 /// rounded up) times their capacity.
 fn right_side(above: &[Guest], own: &Guest, task: usize, w: u128) -> u128 {
     let (capacity, period) = (u128::from(own.capacity), u128::from(own.period));
@@ -157,7 +157,7 @@ fn right_side(above: &[Guest], own: &Guest, task: usize, w: u128) -> u128 {
 }
 
 /// J of a task: 0 where it is bound, else T - C of its guest.
-fn jitter(own: &Guest, task: usize) -> u32 {
+fn gap(own: &Guest, task: usize) -> u32 {
     match own.is_bound(task) {
         true => 0,
         false => own.period - own.capacity,
@@ -168,17 +168,26 @@ fn jitter(own: &Guest, task: usize) -> u32 {
 /// rounded up) times its charged run.
 fn load(own: &Guest, task: usize, w: u128) -> u128 {
     let charged = |task: usize| u128::from(own.charged_run(task));
-    let released = |at: usize| rounded_up(w + u128::from(jitter(own, at)), own.every[at].into());
+    let released = |at: usize| rounded_up(w + u128::from(gap(own, at)), own.every[at].into());
     let tasks_above: u128 = (0..task).map(|at| released(at) * charged(at)).sum();
     charged(task) + tasks_above
 }
 
-/// The sum over guests above of (window / their period, rounded up) times their capacity.
+/// The sum over guests above of ((window + their jitter) / their period, rounded up) times their capacity.
 fn taken_above(above: &[Guest], window: u128) -> u128 {
+    let served = |guest: &Guest| rounded_up(window + jitter(guest), guest.period.into());
     above
         .iter()
-        .map(|guest| rounded_up(window, guest.period.into()) * u128::from(guest.capacity))
+        .map(|guest| served(guest) * u128::from(guest.capacity))
         .sum()
+}
+
+/// A Deferrable guest above counts with jitter T - C, a Periodic one with none.
+fn jitter(above: &Guest) -> u128 {
+    match above.is_deferrable() {
+        true => (above.period - above.capacity).into(),
+        false => 0,
+    }
 }
 
 /// The least whole number not below a / b.

@@ -6,7 +6,7 @@ use std::fs;
 use std::path::PathBuf;
 
 /// The plan files, by their names.
-const NAMES: [&str; 5] = ["plan-a", "unfit", "unmet", "bound", "refused"];
+const NAMES: [&str; 6] = ["plan-a", "unfit", "unmet", "bound", "deferrable", "refused"];
 
 fn path(name: &str) -> PathBuf {
     let root = PathBuf::from(env!("CARGO_MANIFEST_DIR")).join("../../examples");
@@ -36,6 +36,7 @@ fn plan_of(name: &str) -> Plan {
             (Some("guest"), [id, capacity, period, charge]) => {
                 let mut guest = Guest::new(*id, *capacity, *period, &[]);
                 guest.charge = *charge as u16;
+                guest.deferrable = u32::from(line.ends_with(" deferrable"));
                 guests.push((guest, Vec::new()));
             }
             (Some("task"), [run, every, deadline]) => {
@@ -50,6 +51,7 @@ fn plan_of(name: &str) -> Plan {
     let with_tasks = |(guest, tasks): &(Guest, Vec<[u32; 3]>)| Guest {
         charge: guest.charge,
         marks: guest.marks,
+        deferrable: guest.deferrable,
         ..Guest::new(guest.id, guest.capacity, guest.period, tasks)
     };
     Plan::new(&guests.iter().map(with_tasks).collect::<Vec<_>>())

@@ -5,9 +5,9 @@ use crate::{Answer, Dispatcher, Plan, Refusal, exports};
 /// What had a tick: guests by their id, tasks by their number from 1.
 #[derive(Clone, Copy, Debug, PartialEq, Eq)]
 pub enum Tick {
-    /// No guest had capacity left.
+    /// No guest had capacity left, but for Deferrable ones with nothing to do.
     Nobody,
-    /// The guest had nothing to do and idled the tick away: it loses one of its capacity.
+    /// The guest, a Periodic one, had nothing to do and idled the tick away: it loses one of its capacity.
     Idled { guest: u32 },
     /// The task ran and has run left.
     Ran { guest: u32, task: u32 },
@@ -135,6 +135,10 @@ impl Dispatcher {
     /// dispatcher.release(7, 1)?;
     /// let finished = Tick::Finished { guest: 7, task: 1, age: 1, margin: 19 };
     /// assert_eq!(dispatcher.tick()?, finished);
+    /// let deferrable = Guest { deferrable: 1, ..plan.guests[0] };
+    /// let mut dispatcher = Dispatcher::fresh(&Plan::new(&[deferrable]))?;
+    /// assert_eq!(dispatcher.tick()?, Tick::Nobody);
+    /// assert_eq!(dispatcher.left[0], 1);
     /// # Ok::<(), coreshare::Refusal>(())
     /// ```
     pub fn tick(&mut self) -> Result<Tick, Refusal> {

@@ -3,7 +3,7 @@
 //! On one core, up to 8 guests share the time, each with up to 16 tasks. The library reads and
 //! writes plan blocks, judges guests and tasks, searches the smallest capacity, does the same for a
 //! standing plan with amendments, and dispatches.
-//! Every rule stands in document 01, as the requests P1 to P8 of document 02 change it; a refusal carries
+//! Every rule stands in document 01, as the requests P1 to P9 of document 02 change it; a refusal carries
 //! document 01's number and place.
 //!
 //! The root of this crate has the calls as Rust has them, with `Result` and enums. [`exports`] has

@@ -64,7 +64,7 @@ pub const fn mark(task: u32) -> u16 {
 }
 
 impl Guest {
-    /// A record from its tasks' run, period and deadline, with charge 0 and no task bound.
+    /// A record from its tasks' run, period and deadline: Periodic, with charge 0 and no task bound.
     ///
     /// # Panics
     /// If there are more than 16 tasks.

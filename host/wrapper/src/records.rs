@@ -7,6 +7,19 @@ use core::fmt;
 /// A task with a [`mark`](crate::mark) is bound to its guest's period: its own period is a multiple of the guest's,
 /// its release is taken only while the guest's position is 0, and its response has no gap of period less capacity
 /// in it.
+///
+/// A Deferrable guest is passed over while none of its tasks has run left, and keeps its capacity until its period
+/// ends; guests and tasks below it are judged with its jitter of period less capacity.
+///
+/// ```
+/// use coreshare::{Guest, GuestVerdict, Plan, TaskVerdict};
+///
+/// let above = Guest { deferrable: 1, ..Guest::new(7, 2, 5, &[[1, 20, 20]]) };
+/// let plan = Plan::new(&[above, Guest::new(9, 8, 20, &[[10, 50, 50], [8, 100, 100]])]);
+/// assert_eq!(plan.guest_verdict(9), Ok(GuestVerdict::Fitted(16)));
+/// assert_eq!(plan.task_verdict(9, 1), Ok(TaskVerdict::Met(38)));
+/// assert_eq!(plan.task_verdict(9, 2), Ok(TaskVerdict::Met(82)));
+/// ```
 #[repr(C)]
 #[derive(Clone, Copy, Debug, Default, PartialEq, Eq)]
 pub struct Guest {
@@ -22,6 +35,8 @@ pub struct Guest {
     pub charge: u16,
     /// Which tasks are bound, bit 0 for task 1 and so on; 0 for none.
     pub marks: u16,
+    /// 0 for a Periodic guest, any other number for a Deferrable one, which is read as 1.
+    pub deferrable: u32,
     /// Each task's run, 1 to 1,000,000.
     pub run: [u32; 16],
     /// Each task's period, 1 to 1,000,000; of a bound task a multiple of the guest's.
@@ -163,9 +178,9 @@ impl Refusal {
             0 => "not refused",
             1 => "the length of the plan or sheet, or the guest count, is out of range",
             2 => "the block's words don't sum to zero",
-            3 => "the kind is neither 1 nor 2 with marks, or the place is not the block's own",
+            3 => "the kind is neither 1 nor 2 with marks or Deferrable, or the place is not its own",
             4 => "id, capacity, period or number of tasks is out of range",
-            5 => "a byte that must be zero, or a mark past the tasks, is not",
+            5 => "a byte that must be zero, or a mark past the tasks, is not; or byte 22 is above 1",
             6 => "a task's run, period (if bound, a multiple) or deadline is out of range",
             7 => "no such guest in the plan",
             8 => "no such task in the guest",

@@ -53,7 +53,7 @@ macro_rules! lines {
 
 fn layout() -> String {
     let mut to = String::new();
-    lines!(to, "CsGuest", Guest, id capacity period tasks charge marks run every deadline);
+    lines!(to, "CsGuest", Guest, id capacity period tasks charge marks deferrable run every deadline);
     lines!(to, "CsPlan", Plan, count guests);
     lines!(to, "CsRefusal", Refusal, number place);
     lines!(to, "CsRead", Read, refusal plan);
@@ -87,7 +87,7 @@ fn the_sizes_are_those_of_the_header() {
         size_of::<Dispatcher>(),
         size_of::<Run>(),
     ];
-    assert_eq!(sizes, [212, 1_700, 3_440, 3_472]);
+    assert_eq!(sizes, [216, 1_732, 3_472, 3_504]);
 }
 
 #[test]
@@ -108,6 +108,8 @@ with capacity 7 guest 9 is fitted 13 and its tasks are met 38 and 86
 so the plan is accepted, and needs 7
 task 1 has 36, and bound 24
 bound, it is answered 0 at position 0 and 17 at position 1
+Deferrable, guest 9 is fitted 16 and its tasks are met 38 and 82
+guest 9 has the first tick, and guest 7 has 2 left
 after 24 ticks guest 9 finished task 1: age 24, margin 26
 guest 7 had 10 ticks and idled 10 of them away
 guest 9 had 10 ticks and idled 0 of them away

@@ -26,9 +26,13 @@ returns found =
     let l = look .look-up .ensures _ (lent (columns .before .check .ensures) (columns .columns-of .ensures)) in
     look-refuses l Refused _ _ (found .if1 .taken)
 
+jitters-of-requires : tie.Need-jitters-of-requires
+jitters-of-requires c κs = search needs
+
 mul-smallest-at : tie.Need-mul-smallest-at
 mul-smallest-at c =
-    let found = c .before in
+    let servers = c .before .before .before .before in
+    let found = servers .before .before in
     let look = found .before .before .before in
     let columns = look .before .before .before .before .before in
     let l = look .look-up .ensures _ (lent (columns .before .check .ensures) (columns .columns-of .ensures)) in
@@ -36,7 +40,8 @@ mul-smallest-at c =
 
 array-copy-out-smallest-at : tie.Need-array-copy-out-smallest-at
 array-copy-out-smallest-at c =
-    let found = c .before in
+    let servers = c .before .before .before .before in
+    let found = servers .before .before in
     let look = found .before .before .before in
     let columns = look .before .before .before .before .before in
     let l = look .look-up .ensures _ (lent (columns .before .check .ensures) (columns .columns-of .ensures)) in
@@ -44,13 +49,15 @@ array-copy-out-smallest-at c =
 
 smallest-at-requires : tie.Need-smallest-at-requires
 smallest-at-requires c κs =
-    let found = c .before .before .before .before in
+    let jitters = c .before .before .before .before in
+    let servers = jitters .before .before .before .before in
+    let found = servers .before .before in
     let look = found .before .before .before in
     let columns = look .before .before .before .before .before in
     let l = look .look-up .ensures _ (lent (columns .before .check .ensures) (columns .columns-of .ensures)) in
     let h = found .if1 .left in
     let order = look-order l h in (
-      seated-at _ _ (columns .columns-of .ensures) order _ (look-here l h),
+      seated-at _ _ (columns .columns-of .ensures) (jitters .jitters-of .ensures) order _ (look-here l h),
       omega (arith, order .guests _ (look-here l h) .head .short),
     )
 
@@ -59,12 +66,15 @@ capacity-says-requires c κs = search needs
 
 returns-2 : tie.Need-returns-2
 returns-2 c =
-    let found = c .before .before .before .before .before .before in
+    let said = c .before .before in
+    let jitters = said .before .before .before .before in
+    let servers = jitters .before .before .before .before in
+    let found = servers .before .before in
     let look = found .before .before .before in
     let columns = look .before .before .before .before .before in
     let l = look .look-up .ensures _ (lent (columns .before .check .ensures) (columns .columns-of .ensures)) in
-    capacity-judged l (found .if1 .left) (columns .columns-of .ensures) (c .before .smallest-at .ensures)
-    (c .capacity-says .ensures)
+    capacity-judged l (found .if1 .left) (columns .columns-of .ensures) (jitters .jitters-of .ensures)
+    (c .before .smallest-at .ensures) (c .capacity-says .ensures)
 
 pub smallest-capacity-spec : {M : Type 1} → statement M
 smallest-capacity-spec =
@@ -74,6 +84,7 @@ smallest-capacity-spec =
     columns-of-requires
     look-up-requires
     returns
+    jitters-of-requires
     mul-smallest-at
     array-copy-out-smallest-at
     smallest-at-requires

@@ -1,16 +1,18 @@
 -- `plan::check` meets its promise: the count first; then the guests in order, of which those that are left have the
 -- same first refusal. Assumes nothing.
-use mathlib.Core.Path.{_≡_, _∙_}
+use mathlib.Core.Path.{_≡_, sym, _∙_}
 use Prim.Native.Nat.{_≤_, _-_}
 use native.Mathlib.Omega.{arith}
 use borrow.Author.Needs.{needs}
+use borrow.Author.Tests.{not-true, not-false}
 use Rattle.plan.specs.Records.{guestAt}
 use Rattle.plan.specs.Ranges.{mostGuests}
 use Rattle.plan.specs.Filled.{Filled}
 use Rattle.plan.specs.First.{firstRefused}
 use Rattle.plan.specs.Order.{guestNumber, planRefusal}
 use Rattle.plan.proofs.First.{first-here, first-next, first-end}
-use Rattle.plan.proofs.Order.{number-is, count-few, count-many, counted}
+use Rattle.plan.proofs.RangesLaws.{within-says}
+use Rattle.plan.proofs.Order.{number-is, count-out, counted}
 use Rattle.plan.proofs.check.Statement.{statement}
 use Rattle.plan.proofs.check.Tie as tie
 
@@ -23,11 +25,11 @@ Inv-loop plan n ids many k₀ k =
 abbrev μ-loop : tie.MeasureT-loop
 μ-loop plan n ids many k₀ k = many - k
 
-returns : tie.Need-returns Inv-loop μ-loop
-returns c = count-few _ (c .if1 .taken)
+count-ok-requires : tie.Need-count-ok-requires Inv-loop μ-loop
+count-ok-requires c κs = search needs
 
-returns-2 : tie.Need-returns-2 Inv-loop μ-loop
-returns-2 c = count-many _ (c .before .if1 .left) (c .if2 .taken)
+returns : tie.Need-returns Inv-loop μ-loop
+returns c = count-out _ (sym (c .before .count-ok .ensures) ∙ not-true _ (c .if1 .taken))
 
 columns-of-requires : tie.Need-columns-of-requires Inv-loop μ-loop
 columns-of-requires c κs = search needs
@@ -37,14 +39,11 @@ cast-many c = search needs
 
 loop-holds : tie.Need-loop-holds Inv-loop μ-loop
 loop-holds c =
-    let p = c .before .before .before .before .args .t1 in
-    let e : p .count - 0 ≡ p .count = omega arith in (
-      (search needs, search needs),
-      (
-        c .before .columns-of .ensures .ids,
-        rw e (counted p (c .before .before .before .if1 .left) (c .before .before .if2 .left)),
-      ),
-    )
+    let test = c .before .before in
+    let p = test .before .before .args .t1 in
+    let w = within-says 1 mostGuests (p .count) (sym (test .before .count-ok .ensures) ∙ not-false _ (test .if1 .left)) in
+    let e : p .count - 0 ≡ p .count = omega arith in
+    ((omega arith, omega (arith, w .1)), (c .before .columns-of .ensures .ids, rw e (counted p (w .0) (w .1))))
 
 mul-guest-number : tie.Need-mul-guest-number Inv-loop μ-loop
 mul-guest-number c = search needs
@@ -58,16 +57,16 @@ new-id-requires c κs = search needs
 guest-number-requires : tie.Need-guest-number-requires Inv-loop μ-loop
 guest-number-requires c κs = search needs
 
-cast-t17 : tie.Need-cast-t17 Inv-loop μ-loop
-cast-t17 c = search needs
+cast-t18 : tie.Need-cast-t18 Inv-loop μ-loop
+cast-t18 c = search needs
 
-returns-3 : tie.Need-returns-3 Inv-loop μ-loop
-returns-3 c =
+returns-2 : tie.Need-returns-2 Inv-loop μ-loop
+returns-2 c =
     let b = c .before .before in
     let l = b .before .before .before .before .loop in
     first-here _ _ _ _ (b .before .before .before .loop-test .taken)
     (number-is _ _ _ (omega arith) (l .inv .1 .0) (b .new-id .ensures) (c .before .guest-number .ensures))
-    (c .if3 .taken)
+    (c .if2 .taken)
     ∙ l .inv .1 .1
 
 add-k : tie.Need-add-k Inv-loop μ-loop
@@ -85,12 +84,12 @@ loop-again c =
         l .inv .1 .0,
         first-next _ _ _ _ (b .before .before .before .loop-test .taken)
             (number-is _ _ _ (omega arith) (l .inv .1 .0) (b .new-id .ensures) (c .before .guest-number .ensures))
-            (c .if3 .left) ∙ l .inv .1 .1,
+            (c .if2 .left) ∙ l .inv .1 .1,
       ),
     )
 
-returns-4 : tie.Need-returns-4 Inv-loop μ-loop
-returns-4 c = first-end _ _ _ (c .loop-test .left) ∙ c .before .loop .inv .1 .1
+returns-3 : tie.Need-returns-3 Inv-loop μ-loop
+returns-3 c = first-end _ _ _ (c .loop-test .left) ∙ c .before .loop .inv .1 .1
 
 pub check-spec : {M : Type 1} → statement M
 check-spec =
@@ -98,8 +97,8 @@ check-spec =
     (tie.spec
     Inv-loop
     μ-loop
+    count-ok-requires
     returns
-    returns-2
     columns-of-requires
     cast-many
     loop-holds
@@ -107,9 +106,9 @@ check-spec =
     element-copy-out-guest-number
     new-id-requires
     guest-number-requires
-    cast-t17
-    returns-3
+    cast-t18
+    returns-2
     add-k
     loop-less
     loop-again
-    returns-4)
+    returns-3)

@@ -1,47 +1,28 @@
--- `verdict::accept` meets its promise: the records' refusal, else one pass over the guests off the columns. Assumes
--- nothing.
+-- `verdict::accept` meets its promise: refused by 1, else by the two passes over the records. Assumes nothing.
+use mathlib.Core.Path.{sym, _∙_}
+use native.Mathlib.Omega.{arith}
 use borrow.Author.Needs.{needs}
-use Rattle.verdict.specs.Verdict.{acceptSays}
-use Rattle.plan.proofs.LookUp.{check-passes}
-use Rattle.plan.proofs.Order.{plan-in}
-use Rattle.response.proofs.ReadyLaws.{seated-at}
-use Rattle.verdict.proofs.Verdict.{plan-accepted, plan-refuses}
+use borrow.Author.Tests.{not-true, not-false}
+use Rattle.plan.specs.Ranges.{mostGuests}
+use Rattle.plan.proofs.RangesLaws.{within-says}
+use Rattle.plan.proofs.Order.{count-out}
+use Rattle.verdict.proofs.Verdict.{plan-refuses}
 use Rattle.verdict.proofs.accept.Statement.{statement}
 use Rattle.verdict.proofs.accept.Tie as tie
 
-check-requires : tie.Need-check-requires
-check-requires c κs = search needs
+count-ok-requires : tie.Need-count-ok-requires
+count-ok-requires c κs = search needs
 
 returns : tie.Need-returns
-returns c = plan-refuses _ (c .before .before .check .ensures) (c .if1 .taken)
+returns c =
+    plan-refuses _ (count-out _ (sym (c .before .count-ok .ensures) ∙ not-true _ (c .if1 .taken))) (omega arith)
 
-columns-of-requires : tie.Need-columns-of-requires
-columns-of-requires c κs = search needs
-
-all-accepted-requires : tie.Need-all-accepted-requires
-all-accepted-requires c κs =
-    let columns = c .before .before .before .before in
-    let passed = columns .before in
-    let order = plan-in _ (check-passes _ (passed .before .before .check .ensures) (passed .if1 .left)) in
-    (seated-at _ _ (columns .columns-of .ensures) order, order .few)
+judged-requires : tie.Need-judged-requires
+judged-requires c κs =
+    within-says 1 mostGuests _ (sym (c .before .count-ok .ensures) ∙ not-false _ (c .if1 .left))
 
 returns-2 : tie.Need-returns-2
-unfolding acceptSays
-returns-2 c =
-    let columns = c .before .before .before .before .before .before in
-    let passed = columns .before in
-    plan-accepted _ (check-passes _ (passed .before .before .check .ensures) (passed .if1 .left))
-    (columns .columns-of .ensures) (c .before .all-accepted .ensures) (c .if2 .taken)
-
-returns-3 : tie.Need-returns-3
-unfolding acceptSays
-returns-3 c =
-    let columns = c .before .before .before .before .before .before in
-    let passed = columns .before in
-    plan-accepted _ (check-passes _ (passed .before .before .check .ensures) (passed .if1 .left))
-    (columns .columns-of .ensures) (c .before .all-accepted .ensures) (c .if2 .left)
+returns-2 c = search needs
 
 pub accept-spec : {M : Type 1} → statement M
-accept-spec =
-    tie.close
-    (tie.spec check-requires returns columns-of-requires all-accepted-requires returns-2 returns-3)
+accept-spec = tie.close (tie.spec count-ok-requires returns judged-requires returns-2)

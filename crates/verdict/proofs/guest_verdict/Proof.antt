@@ -26,27 +26,33 @@ returns found =
     let l = look .look-up .ensures _ (lent (columns .before .check .ensures) (columns .columns-of .ensures)) in
     look-refuses l Refused _ _ (found .if1 .taken)
 
+jitters-of-requires : tie.Need-jitters-of-requires
+jitters-of-requires c κs = search needs
+
 response-at-requires : tie.Need-response-at-requires
 response-at-requires c κs =
-    let found = c .before .before in
+    let jitters = c .before .before .before in
+    let found = jitters .before .before .before .before .before in
     let look = found .before .before .before in
     let columns = look .before .before .before .before .before in
     let l = look .look-up .ensures _ (lent (columns .before .check .ensures) (columns .columns-of .ensures)) in
     let h = found .if1 .left in
-    let s = seated-at _ _ (columns .columns-of .ensures) (look-order l h) _ (look-here l h) in
-    (omega (arith, s .place), s .ranged _ (omega arith))
+    let s = seated-at _ _ (columns .columns-of .ensures) (jitters .jitters-of .ensures) (look-order l h) _
+    (look-here l h) in
+    ((omega (arith, s .place), λ j m. s .late j (omega arith)), s .ranged _ (omega arith))
 
 guest-says-requires : tie.Need-guest-says-requires
 guest-says-requires c κs = search needs
 
 returns-2 : tie.Need-returns-2
 returns-2 c =
-    let found = c .before .before .before .before in
+    let jitters = c .before .before .before .before .before in
+    let found = jitters .before .before .before .before .before in
     let look = found .before .before .before in
     let columns = look .before .before .before .before .before in
     let l = look .look-up .ensures _ (lent (columns .before .check .ensures) (columns .columns-of .ensures)) in
-    guest-judged l (found .if1 .left) (columns .columns-of .ensures) (c .before .response-at .ensures)
-    (c .guest-says .ensures)
+    guest-judged l (found .if1 .left) (columns .columns-of .ensures) (jitters .jitters-of .ensures)
+    (c .before .response-at .ensures) (c .guest-says .ensures)
 
 pub guest-verdict-spec : {M : Type 1} → statement M
 guest-verdict-spec =
@@ -56,6 +62,7 @@ guest-verdict-spec =
     columns-of-requires
     look-up-requires
     returns
+    jitters-of-requires
     response-at-requires
     guest-says-requires
     returns-2)

@@ -58,9 +58,13 @@ returns-2 c =
     let l = look .look-up .ensures _ (lent (columns .before .check .ensures) (columns .columns-of .ensures)) in
     task-missing l (found .if1 .left) _ (c .before .has-task .ensures) (not-true _ (c .if2 .taken))
 
+jitters-of-requires : tie.Need-jitters-of-requires
+jitters-of-requires c κs = search needs
+
 sub-judge-task : tie.Need-sub-judge-task
 sub-judge-task c =
-    let test = c .before .before in
+    let jitters = c .before .before .before in
+    let test = jitters .before .before .before .before .before in
     within-says _ _ _ (sym (test .before .has-task .ensures) ∙ not-false _ (test .if2 .left)) .0
 
 cast-judge-task : tie.Need-cast-judge-task
@@ -68,7 +72,8 @@ cast-judge-task c = search needs
 
 judge-task-requires : tie.Need-judge-task-requires
 judge-task-requires c κs =
-    let test = c .before .before in
+    let jitters = c .before .before .before in
+    let test = jitters .before .before .before .before .before in
     let found = test .before .before .before .before in
     let look = found .before .before .before in
     let columns = look .before .before .before .before .before in
@@ -78,17 +83,20 @@ judge-task-requires c κs =
     let g = guestAt (start .args .plan .guests) (look .look-up .result .place) in
     let number = within-says 1 (g .tasks) (start .args .task)
     (sym (test .before .has-task .ensures) ∙ not-false _ (test .if2 .left)) in
-    (seated-at _ _ (columns .columns-of .ensures) (look-order l h) _ (look-here l h), omega (arith, number .0, number .1))
+    let here = seated-at _ _ (columns .columns-of .ensures) (jitters .jitters-of .ensures) (look-order l h) _
+    (look-here l h) in
+    (here, omega (arith, number .0, number .1))
 
 returns-3 : tie.Need-returns-3
 returns-3 c =
-    let test = c .before .before .before in
+    let jitters = c .before .before .before .before in
+    let test = jitters .before .before .before .before .before in
     let found = test .before .before .before .before in
     let look = found .before .before .before in
     let columns = look .before .before .before .before .before in
     let l = look .look-up .ensures _ (lent (columns .before .check .ensures) (columns .columns-of .ensures)) in
-    task-judged l (found .if1 .left) (columns .columns-of .ensures) _ (test .before .has-task .ensures)
-    (not-false _ (test .if2 .left)) (c .judge-task .ensures)
+    task-judged l (found .if1 .left) (columns .columns-of .ensures) (jitters .jitters-of .ensures) _
+    (test .before .has-task .ensures) (not-false _ (test .if2 .left)) (c .judge-task .ensures)
 
 pub task-verdict-spec : {M : Type 1} → statement M
 task-verdict-spec =
@@ -102,6 +110,7 @@ task-verdict-spec =
     array-copy-out-g
     has-task-requires
     returns-2
+    jitters-of-requires
     sub-judge-task
     cast-judge-task
     judge-task-requires

@@ -56,9 +56,9 @@ pub(crate) fn decode(block: &[u8; BLOCK], place: usize) -> Result<Guest, u32> {
     if sum(block) != 0 {
         return Err(2);
     }
-    let marks = match (short(block, 0), short(block, 20)) {
-        (1, _) => 0,
-        (2, marks @ 1..) => marks,
+    let (marks, server) = match (short(block, 0), short(block, 20), block[22]) {
+        (1, ..) => (0, 0),
+        (2, marks, server) if marks != 0 || server == 1 => (marks, server),
         _ => return Err(3),
     };
     if carried_place(block) != place {
@@ -71,6 +71,7 @@ pub(crate) fn decode(block: &[u8; BLOCK], place: usize) -> Result<Guest, u32> {
         tasks: short(block, 16).into(),
         charge: short(block, 18),
         marks,
+        deferrable: server.into(),
         ..Guest::default()
     };
     for task in 0..16 {
@@ -86,10 +87,11 @@ pub(crate) fn decode(block: &[u8; BLOCK], place: usize) -> Result<Guest, u32> {
 
 pub(crate) fn zeros_and_tasks(block: &[u8; BLOCK], guest: &Guest) -> Result<(), u32> {
     let zero = |part: &[u8]| part.iter().fold(0, |all, byte| all | byte) == 0;
-    let behind = if guest.marks == 0 { 20 } else { 22 };
+    let is_plain = guest.marks == 0 && guest.deferrable == 0;
+    let behind = if is_plain { 20 } else { 23 };
     let past = 32 + 12 * guest.tasks as usize;
-    let no_marks_past = guest.marks == guest.live_marks();
-    if !no_marks_past || !zero(&block[behind..32]) || !zero(&block[past..508]) {
+    let live = guest.marks == guest.live_marks() && guest.deferrable <= 1;
+    if !live || !zero(&block[behind..32]) || !zero(&block[past..508]) {
         return Err(5);
     }
     match guest.tasks_in_range() {
@@ -104,9 +106,10 @@ pub(crate) fn carried_place(block: &[u8; BLOCK]) -> usize {
 }
 
 fn encode(guest: &Guest, place: u32, block: &mut [u8; BLOCK]) {
-    let marks = guest.live_marks();
+    let (marks, deferrable) = (guest.live_marks(), guest.is_deferrable());
+    let is_plain = marks == 0 && !deferrable;
     block.fill(0);
-    put_short(block, 0, if marks == 0 { 1 } else { 2 });
+    put_short(block, 0, if is_plain { 1 } else { 2 });
     put_short(block, 2, place as u16);
     put_word(block, 4, guest.id);
     put_word(block, 8, guest.capacity);
@@ -114,6 +117,7 @@ fn encode(guest: &Guest, place: u32, block: &mut [u8; BLOCK]) {
     put_short(block, 16, guest.tasks as u16);
     put_short(block, 18, guest.charge);
     put_short(block, 20, marks);
+    block[22] = deferrable.into();
     for task in 0..guest.tasks as usize {
         put_word(block, 32 + 12 * task, guest.run[task]);
         put_word(block, 36 + 12 * task, guest.every[task]);

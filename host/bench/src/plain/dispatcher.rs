@@ -188,9 +188,16 @@ impl Dispatcher {
         self.usage[at] = self.usage[at].wrapping_add(1);
     }
 
-    /// Hands the tick to the first guest with capacity left, and in it to the first task with run left.
+    /// Whether a guest has the tick if those above it have not: a Deferrable one has it for its work alone.
+    fn claims(&self, at: usize) -> bool {
+        let guest = &self.plan.guests[at];
+        let mut rest = self.rest[16 * at..16 * at + 16].iter();
+        self.left[at] > 0 && (!guest.is_deferrable() || rest.any(|rest| *rest > 0))
+    }
+
+    /// Hands the tick to the first guest that claims it, and in it to the first task with run left.
     fn serve(&mut self, count: usize) -> Tick {
-        let Some(at) = self.left[..count].iter().position(|left| *left > 0) else {
+        let Some(at) = (0..count).find(|at| self.claims(*at)) else {
             self.count(16);
             return Tick::Nobody;
         };

@@ -12,6 +12,7 @@ pub struct Guest {
     pub tasks: u32,
     pub charge: u16,
     pub marks: u16,
+    pub deferrable: u32,
     pub run: [u32; 16],
     pub every: [u32; 16],
     pub deadline: [u32; 16],
@@ -45,6 +46,18 @@ impl Guest {
 
     pub fn is_bound(&self, task: usize) -> bool {
         self.marks >> task & 1 == 1
+    }
+
+    pub fn is_deferrable(&self) -> bool {
+        self.deferrable != 0
+    }
+
+    /// What the guest can be late by, for those below it.
+    pub fn jitter(&self) -> u32 {
+        match self.is_deferrable() {
+            true => self.period - self.capacity,
+            false => 0,
+        }
     }
 
     /// The marks of the tasks of a guest whose head is in range.

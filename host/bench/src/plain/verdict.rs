@@ -25,7 +25,8 @@ impl Plan {
             return Ok(TaskVerdict::Unjudged);
         }
         let (above, own) = (&self.guests[..guest], &self.guests[guest]);
-        let found = task_response(above, own, own.capacity, task, own.every[task]);
+        let gaps = gaps(own, own.capacity);
+        let found = task_response(above, own, own.capacity, &gaps, task, own.every[task]);
         Ok(match found {
             Some(response) if response <= own.deadline[task] => TaskVerdict::Met(response),
             Some(response) => TaskVerdict::UnmetAt(response),
@@ -73,8 +74,15 @@ pub fn guest_response(above: &[Guest], capacity: u32, period: u32) -> Option<u32
 
 /// Whether all tasks of a judged guest are met at this capacity.
 pub fn all_met(above: &[Guest], own: &Guest, capacity: u32) -> bool {
+    let gaps = gaps(own, capacity);
     (0..own.tasks as usize)
-        .all(|task| task_response(above, own, capacity, task, own.deadline[task]).is_some())
+        .all(|task| task_response(above, own, capacity, &gaps, task, own.deadline[task]).is_some())
+}
+
+/// What a release of each task may wait for its guest's first tick at this capacity: nothing where it is bound.
+fn gaps(own: &Guest, capacity: u32) -> [u32; 16] {
+    let gap = own.period - capacity;
+    std::array::from_fn(|task| if own.is_bound(task) { 0 } else { gap })
 }
 
 /// The response of a task of a judged guest at this capacity, at most `most`: the recurrence from 1 on,
@@ -83,16 +91,15 @@ fn task_response(
     above: &[Guest],
     own: &Guest,
     capacity: u32,
+    gaps: &[u32; 16],
     task: usize,
     most: u32,
 ) -> Option<u32> {
     let period = own.period;
-    let gap = period - capacity;
-    let own_gap = if own.is_bound(task) { 0 } else { gap };
-    let limit = most.checked_sub(own_gap)?;
+    let limit = most.checked_sub(gaps[task])?;
     let mut w = 1;
     while w <= limit {
-        let load = load(own, task, w, gap);
+        let load = load(own, gaps, task, w);
         if load > u64::from(limit) {
             return None;
         }
@@ -101,28 +108,24 @@ fn task_response(
         if full > limit / period {
             return None;
         }
-        let next = load + full * gap + interference(above, w.saturating_sub(full * period));
+        let between = full * (period - capacity);
+        let next = load + between + interference(above, w.saturating_sub(full * period));
         if next == w {
-            return Some(w + own_gap);
+            return Some(w + gaps[task]);
         }
         w = next;
     }
     None
 }
 
-/// What the task and those above it ask of a window; where one above is unbound, of a window longer by the gap.
-fn load(own: &Guest, task: usize, window: u32, gap: u32) -> u64 {
-    let above = own.run[..task].iter().zip(&own.every[..task]).enumerate();
+/// What the task and those above it ask of a window, to which the gap of each one above is added.
+fn load(own: &Guest, gaps: &[u32; 16], task: usize, window: u32) -> u64 {
+    let above = own.run[..task].iter().zip(&own.every[..task]).zip(gaps);
     let charge = 2 * u32::from(own.charge);
     above.fold(
         u64::from(own.charged_run(task)),
-        |sum, (at, (run, every))| {
-            let window = if own.is_bound(at) {
-                window
-            } else {
-                window + gap
-            };
-            sum + u64::from(window.div_ceil(*every)) * u64::from(run + charge)
+        |sum, ((run, every), gap)| {
+            sum + u64::from((window + gap).div_ceil(*every)) * u64::from(run + charge)
         },
     )
 }
@@ -131,6 +134,6 @@ fn load(own: &Guest, task: usize, window: u32, gap: u32) -> u64 {
 fn interference(above: &[Guest], window: u32) -> u32 {
     above
         .iter()
-        .map(|guest| window.div_ceil(guest.period) * guest.capacity)
+        .map(|guest| (window + guest.jitter()).div_ceil(guest.period) * guest.capacity)
         .sum()
 }

@@ -6,7 +6,7 @@ use crate::call::{Amended, Call, Question};
 use crate::pairs::{pairs, wrong_words};
 use crate::session::Session;
 use reference::plan::{BLOCK, Guest, LONGEST_PLAN, MOST_GUESTS, Plan, blocks_of, seal};
-use reference::samples::{full, plan_a, plan_a_bound};
+use reference::samples::{deferrable, full, plan_a, plan_a_bound};
 
 pub fn compare(session: &mut Session) {
     orders(session);
@@ -26,21 +26,24 @@ fn every_question(session: &mut Session, of: &Amended) {
     }
 }
 
-/// Each sheet that has some of four guests, in each order, with other numbers than the plan; the sheet's are of the
-/// kind that the plan's are not.
+/// A guest with its second task bound and Deferrable as two bits say.
+fn of_bits(id: u32, capacity: u32, bits: u32) -> Guest {
+    let long = 10 * (4 + id);
+    Guest {
+        marks: bits as u16 & 2,
+        deferrable: bits & 1,
+        ..Guest::new(id, capacity, 4 + id, &[[1, 40, 30], [id, long, long]])
+    }
+}
+
+/// Each sheet that has some of four guests, in each order, with other numbers than the plan; a guest of the sheet is
+/// Deferrable where it is Periodic in the plan, and has its task bound where it is unbound.
 fn orders(session: &mut Session) {
-    let guest = |id: u32, capacity, marks| {
-        let long = 10 * (4 + id);
-        let guest = Guest::new(id, capacity, 4 + id, &[[1, 40, 30], [id, long, long]]);
-        Guest { marks, ..guest }
-    };
-    let plan = blocks_of(&Plan::new(
-        &[1, 2, 3, 4].map(|id| guest(id, 1, id as u16 & 2)),
-    ));
+    let plan = blocks_of(&Plan::new(&[1, 2, 3, 4].map(|id| of_bits(id, 1, id))));
     for places in some_in_each_order(4) {
         let blocks = places.iter().map(|place| {
             let id = *place as u32 + 1;
-            block_of(&guest(id, 2, !id as u16 & 2), *place)
+            block_of(&of_bits(id, 2, !id), *place)
         });
         let sheet = blocks.collect::<Vec<_>>().concat();
         let of = Amended {
@@ -68,8 +71,8 @@ fn some_in_each_order(count: usize) -> Vec<Vec<usize>> {
     all
 }
 
-/// Plan A with each capacity for guest 9, unbound and with each of its tasks bound, and with a guest for which no
-/// capacity works.
+/// Plan A, both guests Periodic and both Deferrable, with each capacity for guest 9, unbound and with each of its tasks
+/// bound, and with a guest for which no capacity works; the sheet has the first guest as the plan has it not.
 fn capacities(session: &mut Session) {
     let mut tried = vec![Guest::new(9, 1, 6, &[[4, 6, 6]])];
     for plan in [plan_a(), plan_a_bound(1), plan_a_bound(2), plan_a_bound(3)] {
@@ -78,12 +81,15 @@ fn capacities(session: &mut Session) {
             ..plan.guests[1]
         }));
     }
+    let [periodic, other] = [plan_a(), deferrable(plan_a())];
     for guest in tried {
-        let of = Amended {
-            plan: blocks_of(&plan_a()),
-            sheet: block_of(&guest, 1).to_vec(),
-        };
-        every_question(session, &of);
+        for (standing, amended) in [(periodic, other), (other, periodic)] {
+            let [first, second] = [block_of(&amended.guests[0], 0), block_of(&guest, 1)];
+            for sheet in [second.to_vec(), [first, second].concat()] {
+                let plan = blocks_of(&standing);
+                every_question(session, &Amended { plan, sheet });
+            }
+        }
     }
 }
 
@@ -123,11 +129,11 @@ fn lengths(session: &mut Session) {
     }
 }
 
-/// Plan A with guest 9's first task bound, and as amended: guest 7's task is bound, and guest 9 has capacity 7 and no
+/// Plan A with guest 9's first task bound, and as amended: guest 7 is Deferrable, and guest 9 has capacity 7 and no
 /// bound task. So each guest has a block of either kind.
 fn standing_and_amended() -> [Plan; 2] {
     let mut amended = plan_a();
-    amended.guests[0].marks = 1;
+    amended.guests[0].deferrable = 1;
     amended.guests[1].capacity = 7;
     [plan_a_bound(1), amended]
 }

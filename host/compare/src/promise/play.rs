@@ -6,7 +6,7 @@ use reference::dispatcher::{
     Answer, COUNTED, Dispatcher, FINISHED, IDLED, IDLED_FROM, NOBODY, NOBODYS, PLACES, parts,
     place_of,
 };
-use reference::plan::{MOST_TASKS, Plan};
+use reference::plan::{Guest, MOST_TASKS, Plan};
 
 /// A task that the subject quotes a response for, by places from 0.
 #[derive(Clone, Copy)]
@@ -16,25 +16,42 @@ pub struct Quoted {
     pub response: u32,
 }
 
-/// Jobs of quoted tasks that finished, and those of them that took all of their response; the same of bound
-/// tasks alone; sheets, and those of them that were refused whole.
+/// Jobs of quoted tasks, of bound ones alone, and of tasks below a Deferrable guest alone; sheets, and those of them
+/// that were refused whole.
 #[derive(Default)]
 pub struct Seen {
-    pub finished: u64,
-    pub at_the_response: u64,
-    pub bound: u64,
-    pub bound_at_the_response: u64,
+    pub jobs: Jobs,
+    pub bound: Jobs,
+    pub below_deferrable: Jobs,
     pub sheets: u64,
     pub refused_whole: u64,
 }
 
+/// Jobs that finished, and those of them that took all of their response.
+#[derive(Default)]
+pub struct Jobs {
+    pub finished: u64,
+    pub at_the_response: u64,
+}
+
 impl Seen {
-    /// Notes a job if it is done, whether it took all of its response and whether its task is bound.
-    fn note(&mut self, done: bool, all: bool, bound: bool) {
-        self.finished += u64::from(done);
-        self.at_the_response += u64::from(done && all);
-        self.bound += u64::from(done && bound);
-        self.bound_at_the_response += u64::from(done && bound && all);
+    /// Notes a job of the quoted task at a place, and whether it took all of its response.
+    fn note(&mut self, plan: &Plan, place: usize, at_the_response: bool) {
+        let (guest, task) = (place / MOST_TASKS, place % MOST_TASKS);
+        self.jobs.note(at_the_response);
+        if plan.guests[guest].is_bound(task) {
+            self.bound.note(at_the_response);
+        }
+        if plan.guests[..guest].iter().any(Guest::is_deferrable) {
+            self.below_deferrable.note(at_the_response);
+        }
+    }
+}
+
+impl Jobs {
+    fn note(&mut self, at_the_response: bool) {
+        self.finished += 1;
+        self.at_the_response += u64::from(at_the_response);
     }
 }
 
@@ -169,8 +186,9 @@ impl Play<'_> {
                 let place = format!("guest {} task {}", place / 16, place % 16);
                 return Err(format!("tick {time}: {place} is late, quoted {response}"));
             }
-            let bound = self.plan.guests[place / MOST_TASKS].is_bound(place % MOST_TASKS);
-            self.seen.note(done, elapsed == response, bound);
+            if done {
+                self.seen.note(self.plan, place, elapsed == response);
+            }
         }
         if let Some(place) = finished {
             self.unfinished[place] = false;
@@ -189,13 +207,15 @@ impl Play<'_> {
         }
     }
 
-    /// Each number beside the state is the count of such ticks, and all guests' ticks and nobody's
-    /// are the ticks done.
+    /// Each number beside the state is the count of such ticks, all guests' ticks and nobody's are the ticks done,
+    /// and a Deferrable guest has no idled ticks.
     fn accounts(&self, ticks: usize) -> Result<(), String> {
         let usage = &self.state.usage;
         let of_guests = usage[..self.plan.listed().len()].iter();
         let all = of_guests.fold(usage[NOBODYS], |sum, number| sum.wrapping_add(*number));
-        match *usage == self.counted && all == ticks as u64 {
+        let mut idled = self.plan.listed().iter().zip(&usage[IDLED_FROM..]);
+        let none_deferrable = idled.all(|(guest, idled)| !guest.is_deferrable() || *idled == 0);
+        match *usage == self.counted && all == ticks as u64 && none_deferrable {
             true => Ok(()),
             false => Err(format!(
                 "{ticks} ticks went {:?}, not {usage:?}",

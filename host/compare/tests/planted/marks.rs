@@ -1,9 +1,9 @@
 //! Wrong treatments of bound tasks, each of which the small inputs with marks alone must find.
 
 #[path = "marks/amendments.rs"]
-mod amendments;
+pub mod amendments;
 #[path = "marks/blocks.rs"]
-mod blocks;
+pub mod blocks;
 #[path = "marks/records.rs"]
 mod records;
 #[path = "marks/releases.rs"]
@@ -13,7 +13,7 @@ mod sheets;
 #[path = "marks/verdicts.rs"]
 mod verdicts;
 #[path = "marks/writer.rs"]
-mod writer;
+pub mod writer;
 
 use compare::bound;
 use compare::session::Session;
@@ -63,7 +63,7 @@ fn with_records_of(state: &Dispatcher, outcome: Released) -> Released {
 }
 
 /// Bytes with each block changed, and the checks that were right made anew.
-fn changed(bytes: &[u8], change: impl Fn(&mut [u8])) -> Vec<u8> {
+pub fn changed(bytes: &[u8], change: impl Fn(&mut [u8])) -> Vec<u8> {
     let mut bytes = bytes.to_vec();
     for block in bytes.chunks_exact_mut(BLOCK) {
         let mut resealed = block.to_vec();
@@ -78,11 +78,11 @@ fn changed(bytes: &[u8], change: impl Fn(&mut [u8])) -> Vec<u8> {
 }
 
 /// The kind, the marks or the number of tasks of a block.
-fn short(block: &[u8], at: usize) -> u16 {
+pub fn short(block: &[u8], at: usize) -> u16 {
     u16::from_le_bytes([block[at], block[at + 1]])
 }
 
-fn put_short(block: &mut [u8], at: usize, value: u16) {
+pub fn put_short(block: &mut [u8], at: usize, value: u16) {
     block[at..at + 2].copy_from_slice(&value.to_le_bytes());
 }
 

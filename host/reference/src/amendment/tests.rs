@@ -1,6 +1,6 @@
 use super::*;
 use crate::plan::{LONGEST_PLAN, blocks_of, seal};
-use crate::samples::{full, plan_a, plan_a_bound};
+use crate::samples::{deferrable, full, plan_a, plan_a_bound};
 use crate::verdict::{NO, YES};
 
 /// The block of a guest at a place of the standing plan.
@@ -146,4 +146,29 @@ fn kinds_of_a_plan_and_a_sheet_are_mixed() {
     assert_eq!(refused(20, 4), Located::in_sheet(5, 0));
     assert_eq!(refused(36, 61), Located::in_sheet(6, 0));
     assert_eq!(refused(0, 1), Located::in_sheet(5, 0));
+}
+
+#[test]
+fn a_sheet_makes_guests_deferrable_and_periodic_again() {
+    let whole = blocks_of(&deferrable(plan_a()));
+    let responses = |plan: &[u8], sheet: &[u8]| {
+        let tasks = [1, 2].map(|task| task_verdict(plan, sheet, 9, task).ticks);
+        [guest_verdict(plan, sheet, 9).ticks, tasks[0], tasks[1]]
+    };
+    assert_eq!(responses(&standing(), &whole[..BLOCK]), [16, 38, 82]);
+    assert_eq!(responses(&standing(), &whole[BLOCK..]), [14, 36, 80]);
+    assert_eq!(responses(&whole, &standing()[..BLOCK]), [14, 36, 80]);
+    assert_eq!(responses(&whole, &standing()[BLOCK..]), [16, 38, 82]);
+    assert_eq!(replaced(&standing(), &whole), Ok(whole.clone()));
+    let refused = |bytes: &[(usize, u8)]| {
+        let mut sheet = whole[BLOCK..].to_vec();
+        bytes.iter().for_each(|(at, value)| sheet[*at] = *value);
+        seal(&mut sheet);
+        find(&standing(), &sheet, 9)
+    };
+    assert_eq!(refused(&[]), Located::in_sheet(0, 0));
+    assert_eq!(refused(&[(22, 0)]), Located::in_sheet(3, 0));
+    assert_eq!(refused(&[(22, 2)]), Located::in_sheet(3, 0));
+    assert_eq!(refused(&[(22, 2), (20, 2)]), Located::in_sheet(5, 0));
+    assert_eq!(refused(&[(23, 7)]), Located::in_sheet(5, 0));
 }

@@ -1,6 +1,9 @@
 //! The plan block: its layout, the reader, the writer and the finder.
 
+mod bytes;
+
 use super::{Guest, MOST_GUESTS, MOST_TASKS, Plan, Refusal, head_in_range, seen, tasks_in_range};
+use bytes::{put_short, put_word, short, word};
 use std::ops::Range;
 
 /// The bytes of one block.
@@ -17,14 +20,19 @@ const PERIOD: usize = 12;
 const TASKS: usize = 16;
 const CHARGE: usize = 18;
 const MARKS: usize = 20;
+const SERVER: usize = 22;
 const ENTRIES: usize = 32;
 const ENTRY: usize = 12;
 const SECOND_GAP: Range<usize> = 224..508;
 const CHECK: usize = 508;
 
-/// The kind of a block with no marks, and of one with some.
-const UNMARKED: u16 = 1;
-const MARKED: u16 = 2;
+/// The kind of a Periodic guest's block with no marks, and of one with marks or a Deferrable guest.
+const PLAIN: u16 = 1;
+const EXTENDED: u16 = 2;
+
+/// Byte 22 of a block of kind 2: Periodic or Deferrable.
+const PERIODIC: u8 = 0;
+const DEFERRABLE: u8 = 1;
 
 /// What reading gives: a refusal, or the plan. A refused plan is zero throughout.
 #[derive(Clone, Copy, Debug, Default, PartialEq, Eq)]
@@ -130,11 +138,11 @@ pub(crate) fn read_block(block: &[u8], place: u16, earlier: &[Guest]) -> Result<
     Ok(guest)
 }
 
-/// Whether the kind is 1, or 2 with marks.
+/// Whether the kind is 1, or 2 with a mark or a 1 in byte 22.
 fn kind_in_range(block: &[u8]) -> bool {
     match short(block, KIND) {
-        UNMARKED => true,
-        MARKED => short(block, MARKS) != 0,
+        PLAIN => true,
+        EXTENDED => short(block, MARKS) != 0 || block[SERVER] == DEFERRABLE,
         _ => false,
     }
 }
@@ -150,7 +158,12 @@ fn sum_of_words(block: &[u8]) -> u32 {
     (sum % 4_294_967_296) as u32
 }
 
+/// Kind 1 reads as all marks zero and Periodic.
 fn guest_in(block: &[u8]) -> Guest {
+    let (marks, server) = match short(block, KIND) {
+        EXTENDED => (short(block, MARKS), block[SERVER]),
+        _ => (0, PERIODIC),
+    };
     let column = |of: usize| std::array::from_fn(|task| word(block, entry(task) + 4 * of));
     Guest {
         id: word(block, ID),
@@ -158,31 +171,30 @@ fn guest_in(block: &[u8]) -> Guest {
         period: word(block, PERIOD),
         tasks: u32::from(short(block, TASKS)),
         charge: short(block, CHARGE),
-        marks: marks_in(block),
+        marks,
+        deferrable: u32::from(server),
         run: column(0),
         every: column(1),
         deadline: column(2),
     }
 }
 
-/// Kind 1 reads as all marks zero.
-fn marks_in(block: &[u8]) -> u16 {
-    match short(block, KIND) {
-        MARKED => short(block, MARKS),
-        _ => 0,
-    }
-}
-
-/// Whether the bytes that no number stands in are zero, and so the marks past the tasks.
+/// Whether the bytes that no number stands in are zero, and so the marks past the tasks; and byte 22 of kind 2 is
+/// Periodic or Deferrable.
 fn zero_where_it_must_be(block: &[u8], guest: &Guest) -> bool {
     let first_gap = match short(block, KIND) {
-        MARKED => MARKS + 2..ENTRIES,
+        EXTENDED => SERVER + 1..ENTRIES,
         _ => MARKS..ENTRIES,
     };
+    let server_in_range = [PERIODIC, DEFERRABLE].contains(&block[SERVER]);
     let past_the_tasks = entry(guest.tasks as usize)..entry(MOST_TASKS);
     let zero = |part: Range<usize>| block[part].iter().all(|byte| *byte == 0);
     let no_marks_past_the_tasks = guest.marks == guest.marks_of_tasks();
-    zero(first_gap) && no_marks_past_the_tasks && zero(past_the_tasks) && zero(SECOND_GAP)
+    zero(first_gap)
+        && server_in_range
+        && no_marks_past_the_tasks
+        && zero(past_the_tasks)
+        && zero(SECOND_GAP)
 }
 
 /// A plan is its guests' blocks in order.
@@ -193,10 +205,14 @@ pub fn blocks_of(plan: &Plan) -> Vec<u8> {
         .collect()
 }
 
-/// Kind 1 is written when all marks of the tasks are zero, else kind 2.
+/// Kind 1 is written when all marks of the tasks are zero and the guest is Periodic, else kind 2.
 fn block_of(guest: &Guest, place: u16) -> [u8; BLOCK] {
     let marks = guest.marks_of_tasks();
-    let kind = if marks == 0 { UNMARKED } else { MARKED };
+    let (kind, server) = match (marks, guest.is_deferrable()) {
+        (0, false) => (PLAIN, PERIODIC),
+        (_, false) => (EXTENDED, PERIODIC),
+        (_, true) => (EXTENDED, DEFERRABLE),
+    };
     let mut block = [0; BLOCK];
     put_short(&mut block, KIND, kind);
     put_short(&mut block, PLACE, place);
@@ -206,6 +222,7 @@ fn block_of(guest: &Guest, place: u16) -> [u8; BLOCK] {
     put_short(&mut block, TASKS, guest.tasks as u16);
     put_short(&mut block, CHARGE, guest.charge);
     put_short(&mut block, MARKS, marks);
+    block[SERVER] = server;
     for task in guest.places() {
         put_word(&mut block, entry(task), guest.run[task]);
         put_word(&mut block, entry(task) + 4, guest.every[task]);
@@ -225,20 +242,4 @@ pub fn seal(block: &mut [u8]) {
 /// Where a task's entry begins.
 fn entry(task: usize) -> usize {
     ENTRIES + ENTRY * task
-}
-
-fn short(block: &[u8], at: usize) -> u16 {
-    u16::from_le_bytes([block[at], block[at + 1]])
-}
-
-fn word(block: &[u8], at: usize) -> u32 {
-    u32::from_le_bytes([block[at], block[at + 1], block[at + 2], block[at + 3]])
-}
-
-fn put_short(block: &mut [u8], at: usize, value: u16) {
-    block[at..at + 2].copy_from_slice(&value.to_le_bytes());
-}
-
-fn put_word(block: &mut [u8], at: usize, value: u32) {
-    block[at..at + 4].copy_from_slice(&value.to_le_bytes());
 }

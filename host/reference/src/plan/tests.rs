@@ -1,4 +1,5 @@
 mod bound;
+mod deferrable;
 
 use super::*;
 use crate::samples::plan_a;

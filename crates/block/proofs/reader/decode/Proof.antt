@@ -18,8 +18,8 @@ word-at-requires-3 c κs = search needs
 cast-charge : tie.Need-cast-charge
 cast-charge c = search needs
 
-marks-of-requires : tie.Need-marks-of-requires
-marks-of-requires c κs = search needs
+word-at-requires-4 : tie.Need-word-at-requires-4
+word-at-requires-4 c κs = search needs
 
 cast-marks : tie.Need-cast-marks
 cast-marks c = search needs
@@ -45,7 +45,7 @@ decode-spec =
     word-at-requires-2
     word-at-requires-3
     cast-charge
-    marks-of-requires
+    word-at-requires-4
     cast-marks
     column-of-requires
     column-of-requires-2

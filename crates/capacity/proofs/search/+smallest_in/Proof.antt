@@ -13,16 +13,16 @@ use Rattle.capacity.proofs.Halving.{empty-span}
 use Rattle.capacity.proofs.search.+smallest_in.{statement}
 use Rattle.capacity.proofs.search.+smallest_in.Tie.{close}
 
-abbrev μ-smallest-in : Measures 5 smallest-in-kinds.ps ℕ
-μ-smallest-in κs a = a .1 .1 .1 .1 .1 .1 .1 .1 .1 .1 .0 - a .1 .1 .1 .1 .1 .1 .1 .1 .1 .0
+abbrev μ-smallest-in : Measures 6 smallest-in-kinds.ps ℕ
+μ-smallest-in κs a = a .1 .1 .1 .1 .1 .1 .1 .1 .1 .1 .1 .0 - a .1 .1 .1 .1 .1 .1 .1 .1 .1 .1 .0
 
-abbrev smallest-in-at : ℕ → In 5 smallest-in-kinds.ps
+abbrev smallest-in-at : ℕ → In 6 smallest-in-kinds.ps
 smallest-in-at t =
-    and 5 smallest-in-kinds.ps (is 5 smallest-in-kinds.ps μ-smallest-in t) smallest-in.Pre
+    and 6 smallest-in-kinds.ps (is 6 smallest-in-kinds.ps μ-smallest-in t) smallest-in.Pre
 
-abbrev smallest-in-below : ℕ → In 5 smallest-in-kinds.ps
+abbrev smallest-in-below : ℕ → In 6 smallest-in-kinds.ps
 smallest-in-below t =
-    and 5 smallest-in-kinds.ps (falls 5 smallest-in-kinds.ps _<_ μ-smallest-in t) smallest-in.Pre
+    and 6 smallest-in-kinds.ps (falls 6 smallest-in-kinds.ps _<_ μ-smallest-in t) smallest-in.Pre
 
 smallest-in-returns : (t : ℕ) → smallest-in-lts.Need-returns (
   halved-reads.Asked,

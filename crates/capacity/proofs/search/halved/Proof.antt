@@ -68,7 +68,7 @@ returns c =
     let a = s .args in
     let lo = a .lo in
     let hi = a .hi in
-    let good = halving (guestsTake _ _ _) (take-grows _ _ _) _ (a .marks) _ _ _ _ (s .pre .1 .1 .0) in
+    let good = halving (guestsTake _ _ _ _) (take-grows _ _ _ _) _ (a .marks) _ _ _ _ (s .pre .1 .1 .0) in
     turn-left _ _ good lo (lo + (hi - lo) / 2) hi _
     (s .pre .0 .1 .0) (omega arith) (omega arith)
     (trial-unfit _ _ _ (tried .try-guest .ensures) (c .enum-told .given .1))
@@ -82,12 +82,12 @@ returns-2 c =
     let a = s .args in
     let lo = a .lo in
     let hi = a .hi in
-    let good = halving (guestsTake _ _ _) (take-grows _ _ _) _ (a .marks) _ _ _ _ (s .pre .1 .1 .0) in
+    let good = halving (guestsTake _ _ _ _) (take-grows _ _ _ _) _ (a .marks) _ _ _ _ (s .pre .1 .1 .0) in
     let unmet = trial-unmet _ _ _ (tried .try-guest .ensures) (c .enum-told2 .given .1) in
     turn-right _ _ good lo (lo + (hi - lo) / 2) hi _
     (s .pre .0 .1 .0) (omega arith) (omega arith) (
       unmet .0,
-      works-tried (guestsTake _ _ _) _ _ _ (a .run .now) (a .every .now) (nth (a .deadline .now)) _
+      works-tried (guestsTake _ _ _ _) _ _ _ (a .run .now) (a .every .now) (nth (a .deadline .now)) _
           (gaps .gaps-of .ensures) (unmet .1),
     )
 
@@ -99,10 +99,10 @@ returns-3 c =
     let a = s .args in
     let lo = a .lo in
     let hi = a .hi in
-    let good = halving (guestsTake _ _ _) (take-grows _ _ _) _ (a .marks) _ _ _ _ (s .pre .1 .1 .0) in
+    let good = halving (guestsTake _ _ _ _) (take-grows _ _ _ _) _ (a .marks) _ _ _ _ (s .pre .1 .1 .0) in
     turn-here _ _ good lo (lo + (hi - lo) / 2) hi _
     (s .pre .0 .1 .0) (omega arith) (omega arith)
-    (works-tried (guestsTake _ _ _) _ _ _ (a .run .now) (a .every .now) (nth (a .deadline .now)) _
+    (works-tried (guestsTake _ _ _ _) _ _ _ (a .run .now) (a .every .now) (nth (a .deadline .now)) _
     (gaps .gaps-of .ensures) (trial-works _ _ _ (tried .try-guest .ensures) (c .enum-told3 .given .1)))
 
 pub halved-spec : {M : Type 1} → statement M

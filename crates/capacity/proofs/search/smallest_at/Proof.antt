@@ -12,7 +12,9 @@ use Rattle.capacity.proofs.search.smallest_at.Statement.{statement}
 use Rattle.capacity.proofs.search.smallest_at.Tie as tie
 
 all-fitted-requires : tie.Need-all-fitted-requires
-all-fitted-requires c κs = let s = c .pre .0 in (omega (arith, s .place), λ j l. s .ranged j (omega arith))
+all-fitted-requires c κs =
+    let s = c .pre .0 in
+    ((omega (arith, s .place), λ j l. s .late j (omega arith)), λ j l. s .ranged j (omega arith))
 
 returns : tie.Need-returns
 returns c = above-unfit _ _ (sym (c .before .all-fitted .ensures) ∙ not-true _ (c .if1 .taken))
@@ -31,9 +33,12 @@ smallest-in-requires c κs =
     let filled = c .before .before .before in
     let start = filled .before .before .before .before .before .before in
     let s = start .pre .0 in (
-      ((omega (arith, s .place), s .tasks .few), (omega arith, omega arith)),
       (
-        seated-server _ _ _ _ s .short,
+        ((omega (arith, s .place), λ j l. s .late j (omega arith)), s .tasks .few),
+        (omega arith, omega arith),
+      ),
+      (
+        seated-server _ _ _ _ _ s .short,
         (filled-runs (start .args .g) (s .tasks) (filled .charged-of .ensures), s .tasks .deadlines),
       ),
     )
@@ -47,7 +52,7 @@ returns-2 c =
     let test = filled .before .before .before .before in
     let g = test .before .before .args .g in
     above-fitted _ _ (g .period) (sym (test .before .all-fitted .ensures) ∙ not-false _ (test .if1 .left))
-    (works-off (guestsTake _ _ _) g (filled .charged-of .ensures)) (c .before .smallest-in .ensures)
+    (works-off (guestsTake _ _ _ _) g (filled .charged-of .ensures)) (c .before .smallest-in .ensures)
     (c .found-as .ensures)
 
 pub smallest-at-spec : {M : Type 1} → statement M

@@ -9,12 +9,12 @@ use Rattle.plan.proofs.column.columns_of.Statement.{statement}
 use Rattle.plan.proofs.column.columns_of.Tie as tie
 
 abbrev Inv-loop : tie.InvT-loop
-Inv-loop guests ids₀ capacities₀ periods₀ tasks₀ k₀ ids capacities periods tasks k =
+Inv-loop guests ids₀ capacities₀ periods₀ tasks₀ deferrable₀ k₀ ids capacities periods tasks deferrable k =
     (k ≤ mostGuests) × ColumnsOf guests k
-    (record { ids = ids; capacities = capacities; periods = periods; tasks = tasks })
+    (record { ids = ids; capacities = capacities; periods = periods; tasks = tasks; deferrable = deferrable })
 
 abbrev μ-loop : tie.MeasureT-loop
-μ-loop guests ids₀ capacities₀ periods₀ tasks₀ k₀ ids capacities periods tasks k = mostGuests - k
+μ-loop guests ids₀ capacities₀ periods₀ tasks₀ deferrable₀ k₀ ids capacities periods tasks deferrable k = mostGuests - k
 
 loop-holds : tie.Need-loop-holds Inv-loop μ-loop
 loop-holds c = (search needs, columns-none _)
@@ -67,6 +67,18 @@ mul-tasks-2 c = search needs
 array-write-tasks : tie.Need-array-write-tasks Inv-loop μ-loop
 array-write-tasks c = search needs
 
+mul-deferrable : tie.Need-mul-deferrable Inv-loop μ-loop
+mul-deferrable c = search needs
+
+element-copy-out-deferrable : tie.Need-element-copy-out-deferrable Inv-loop μ-loop
+element-copy-out-deferrable c = search needs
+
+mul-deferrable-2 : tie.Need-mul-deferrable-2 Inv-loop μ-loop
+mul-deferrable-2 c = search needs
+
+array-write-deferrable : tie.Need-array-write-deferrable Inv-loop μ-loop
+array-write-deferrable c = search needs
+
 add-k : tie.Need-add-k Inv-loop μ-loop
 add-k c = search needs
 
@@ -102,6 +114,10 @@ columns-of-spec =
     element-copy-out-tasks
     mul-tasks-2
     array-write-tasks
+    mul-deferrable
+    element-copy-out-deferrable
+    mul-deferrable-2
+    array-write-deferrable
     add-k
     loop-less
     loop-again

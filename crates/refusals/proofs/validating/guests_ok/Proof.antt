@@ -56,6 +56,12 @@ mul-columns-4 c = search needs
 element-write-columns-4 : tie.Need-element-write-columns-4 Inv-loop μ-loop
 element-write-columns-4 c = search needs
 
+mul-columns-5 : tie.Need-mul-columns-5 Inv-loop μ-loop
+mul-columns-5 c = search needs
+
+element-write-columns-5 : tie.Need-element-write-columns-5 Inv-loop μ-loop
+element-write-columns-5 c = search needs
+
 new-id-requires : tie.Need-new-id-requires Inv-loop μ-loop
 new-id-requires c κs = search needs
 
@@ -110,6 +116,8 @@ guests-ok-spec =
     element-write-columns-3
     mul-columns-4
     element-write-columns-4
+    mul-columns-5
+    element-write-columns-5
     new-id-requires
     mul-guest-ok
     element-copy-out-guest-ok

@@ -13,16 +13,18 @@ use Rattle.response.proofs.guest.all_fitted.Statement.{statement}
 use Rattle.response.proofs.guest.all_fitted.Tie as tie
 
 abbrev Inv-loop : tie.InvT-loop
-Inv-loop capacities periods n k₀ k = (k ≤ n) × (allTo (fittedAt capacities periods) k ≡ true)
+Inv-loop capacities periods jitters n k₀ k = (k ≤ n) × (allTo (fittedAt capacities periods jitters) k ≡ true)
 
 abbrev μ-loop : tie.MeasureT-loop
-μ-loop capacities periods n k₀ k = n - k
+μ-loop capacities periods jitters n k₀ k = n - k
 
 loop-holds : tie.Need-loop-holds Inv-loop μ-loop
 loop-holds c = (search needs, all-none _)
 
 response-at-requires : tie.Need-response-at-requires Inv-loop μ-loop
-response-at-requires c κs = let s = c .before .before in (omega arith, s .pre .1 _ (c .loop-test .taken))
+response-at-requires c κs =
+    let s = c .before .before .pre in
+    ((omega arith, λ j h. s .0 .1 j (omega arith)), s .1 _ (c .loop-test .taken))
 
 is-at-requires : tie.Need-is-at-requires Inv-loop μ-loop
 is-at-requires c κs = search needs

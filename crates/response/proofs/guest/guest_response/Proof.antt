@@ -9,16 +9,20 @@ use Rattle.response.proofs.guest.guest_response.Statement.{statement}
 use Rattle.response.proofs.guest.guest_response.Tie as tie
 
 abbrev Inv-loop : tie.InvT-loop
-Inv-loop capacities periods n capacity period x₀ x = GuestInv (guestsTake capacities periods n) capacity period x
+Inv-loop capacities periods jitters n capacity period x₀ x =
+    GuestInv (guestsTake capacities periods jitters n) capacity period x
 
 abbrev μ-loop : tie.MeasureT-loop
-μ-loop capacities periods n capacity period x₀ x = period - x
+μ-loop capacities periods jitters n capacity period x₀ x = period - x
 
 loop-holds : tie.Need-loop-holds Inv-loop μ-loop
-loop-holds c = guest-start (take-grows _ _ _) (c .pre .1)
+loop-holds c = guest-start (take-grows _ _ _ _) (c .pre .1)
 
 guest-right-requires : tie.Need-guest-right-requires Inv-loop μ-loop
-guest-right-requires c κs = let i = c .loop .inv in (c .before .pre .0, omega (arith, i .high, i .short))
+guest-right-requires c κs =
+    let i = c .loop .inv in
+    let above = c .before .pre .0 in
+    (above .0, λ j h. omega (arith, i .high, i .short, above .1 j h))
 
 wide-requires : tie.Need-wide-requires Inv-loop μ-loop
 wide-requires c κs = search needs

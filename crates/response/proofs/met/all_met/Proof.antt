@@ -13,12 +13,13 @@ use Rattle.response.proofs.met.all_met.Statement.{statement}
 use Rattle.response.proofs.met.all_met.Tie as tie
 
 abbrev Inv-loop : tie.InvT-loop
-Inv-loop capacities periods k capacity period run every late deadline tasks i₀ i =
+Inv-loop capacities periods jitters k capacity period run every late deadline tasks i₀ i =
     (i ≤ tasks)
-    × (metUnder (columnSystem (guestsTake capacities periods k) capacity period run every late) (nth deadline) i ≡ true)
+    × (metUnder (columnSystem (guestsTake capacities periods jitters k) capacity period run every late) (nth deadline) i
+    ≡ true)
 
 abbrev μ-loop : tie.MeasureT-loop
-μ-loop capacities periods k capacity period run every late deadline tasks i₀ i = tasks - i
+μ-loop capacities periods jitters k capacity period run every late deadline tasks i₀ i = tasks - i
 
 loop-holds : tie.Need-loop-holds Inv-loop μ-loop
 unfolding metUnder
@@ -34,7 +35,7 @@ task-response-requires : tie.Need-task-response-requires Inv-loop μ-loop
 task-response-requires c κs =
     let s = c .before .before .before .pre in
     let h = c .before .loop-test .taken in
-    (omega arith, (s .1 .0 _ h, (s .1 .1 .1 _ h, λ j l. s .1 .1 .0 j (omega arith))))
+    ((s .0 .0, omega arith), (s .1 .0 _ h, (s .1 .1 .1 _ h, λ j l. s .1 .1 .0 j (omega arith))))
 
 is-at-requires : tie.Need-is-at-requires Inv-loop μ-loop
 is-at-requires c κs = search needs

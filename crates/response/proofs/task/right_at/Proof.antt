@@ -1,5 +1,6 @@
 -- `response::task::right_at` meets its contract: the parts of the equation, each as its leaf ensures it. Assumes
 -- nothing.
+use native.Mathlib.Omega.{arith}
 use borrow.Author.Needs.{needs}
 use Rattle.response.specs.Columns.{guestsTake}
 use Rattle.response.proofs.GuestLaws.{take-cut}
@@ -29,7 +30,9 @@ add-capped : tie.Need-add-capped
 add-capped c = search needs
 
 asked-of-requires : tie.Need-asked-of-requires
-asked-of-requires c κs = search needs
+asked-of-requires c κs =
+    let s = c .before .before .before .before .before .pre .0 in
+    (s .0, λ j h. omega (arith, s .1 j h))
 
 add-capped-2 : tie.Need-add-capped-2
 add-capped-2 c = search needs
@@ -40,10 +43,10 @@ capped-requires c κs = search needs
 returns : tie.Need-returns
 returns c =
     let s = c .before .before .before .before in
-    right-by (guestsTake _ _ _) _ _ _ _ (s .before .before .whole-of .ensures .0) (s .before .times .ensures .0)
+    right-by (guestsTake _ _ _ _) _ _ _ _ (s .before .before .whole-of .ensures .0) (s .before .times .ensures .0)
     (s .rest-of .ensures)
-    (c .before .before .before .wide .ensures .0) (c .before .before .times2 .ensures .0) (take-cut _ _ _ _ (c .before .asked-of .ensures))
-    (c .capped .ensures)
+    (c .before .before .before .wide .ensures .0) (c .before .before .times2 .ensures .0)
+    (take-cut _ _ _ _ _ (c .before .asked-of .ensures)) (c .capped .ensures)
 
 pub right-at-spec : {M : Type 1} → statement M
 right-at-spec =

@@ -16,8 +16,8 @@ unfolding load
 returns c =
     let a = c .before .before .args in
     right-large
-    (columnSystem (guestsTake (a .capacities .now) (a .periods .now) (a .n)) (a .capacity) (a .period) (a .run .now)
-    (a .every .now) (a .late .now))
+    (columnSystem (guestsTake (a .capacities .now) (a .periods .now) (a .jitters .now) (a .n)) (a .capacity) (a .period)
+    (a .run .now) (a .every .now) (a .late .now))
     _ _ _
     (c .before .load-in .ensures) (c .if1 .taken)
 
@@ -27,7 +27,7 @@ cast-right-at c = search needs
 right-at-requires : tie.Need-right-at-requires
 right-at-requires c κs =
     let s = c .before .before .pre in (
-      (s .0 .0 .0, omega (arith, s .1 .0)),
+      (s .0 .0 .0 .0, λ j h. omega (arith, s .1 .0, s .0 .0 .0 .1 j h)),
       (s .0 .1 .0, (s .0 .1 .1 .0, omega (arith, s .0 .1 .1 .1, c .before .load-in .ensures))),
     )
 
@@ -36,8 +36,8 @@ unfolding load
 returns-2 c =
     let a = c .before .before .before .args in
     right-small
-    (columnSystem (guestsTake (a .capacities .now) (a .periods .now) (a .n)) (a .capacity) (a .period) (a .run .now)
-    (a .every .now) (a .late .now))
+    (columnSystem (guestsTake (a .capacities .now) (a .periods .now) (a .jitters .now) (a .n)) (a .capacity) (a .period)
+    (a .run .now) (a .every .now) (a .late .now))
     _ _ _ _
     (c .before .before .load-in .ensures) (omega (arith, c .before .if1 .left)) (c .right-at .ensures)
 

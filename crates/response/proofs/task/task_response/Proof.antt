@@ -12,11 +12,11 @@ use Rattle.response.proofs.task.task_response.Statement.{statement}
 use Rattle.response.proofs.task.task_response.Tie as tie
 
 abbrev Inv-loop : tie.InvT-loop
-Inv-loop capacities periods n capacity period run every late i most gap room w₀ w =
-    TaskInv (columnSystem (guestsTake capacities periods n) capacity period run every late) i room w
+Inv-loop capacities periods jitters n capacity period run every late i most gap room w₀ w =
+    TaskInv (columnSystem (guestsTake capacities periods jitters n) capacity period run every late) i room w
 
 abbrev μ-loop : tie.MeasureT-loop
-μ-loop capacities periods n capacity period run every late i most gap room w₀ w = room - w
+μ-loop capacities periods jitters n capacity period run every late i most gap room w₀ w = room - w
 
 mul-gap : tie.Need-mul-gap Inv-loop μ-loop
 mul-gap c = search needs
@@ -28,8 +28,8 @@ returns : tie.Need-returns Inv-loop μ-loop
 returns c =
     let a = c .before .before .args in
     task-late
-    (columnSystem (guestsTake (a .capacities .now) (a .periods .now) (a .n)) (a .capacity) (a .period) (a .run .now)
-    (a .every .now) (a .late .now))
+    (columnSystem (guestsTake (a .capacities .now) (a .periods .now) (a .jitters .now) (a .n)) (a .capacity) (a .period)
+    (a .run .now) (a .every .now) (a .late .now))
     _ _ (c .if1 .taken)
 
 sub-room : tie.Need-sub-room Inv-loop μ-loop
@@ -38,10 +38,10 @@ sub-room c = search needs
 loop-holds : tie.Need-loop-holds Inv-loop μ-loop
 loop-holds c =
     let a = c .before .before .args in
-    let above = guestsTake (a .capacities .now) (a .periods .now) (a .n) in
+    let above = guestsTake (a .capacities .now) (a .periods .now) (a .jitters .now) (a .n) in
     let S = columnSystem above (a .capacity) (a .period) (a .run .now) (a .every .now) (a .late .now) in
     let s = c .before .before .pre in
-    task-start (regular S (take-grows _ _ _) _ (s .1 .0) .1) (omega arith) (omega (arith, s .1 .1 .0))
+    task-start (regular S (take-grows _ _ _ _) _ (s .1 .0) .1) (omega arith) (omega (arith, s .1 .1 .0))
 
 right-of-requires : tie.Need-right-of-requires Inv-loop μ-loop
 right-of-requires c κs =
@@ -53,8 +53,8 @@ right-of-requires c κs =
 wide-requires : tie.Need-wide-requires Inv-loop μ-loop
 wide-requires c κs = search needs
 
-add-t22 : tie.Need-add-t22 Inv-loop μ-loop
-add-t22 c = omega (arith, c .before .before .before .loop .inv .high)
+add-t23 : tie.Need-add-t23 Inv-loop μ-loop
+add-t23 c = omega (arith, c .before .before .before .loop .inv .high)
 
 returns-2 : tie.Need-returns-2 Inv-loop μ-loop
 unfolding taskUnder responseOf
@@ -94,7 +94,7 @@ task-response-spec =
     loop-holds
     right-of-requires
     wide-requires
-    add-t22
+    add-t23
     returns-2
     wide-requires-2
     returns-3

@@ -25,7 +25,7 @@ all-met-requires c κs =
     let start = asked .before in (
       start .pre .0 .0,
       (
-        guest-ready (guestsTake _ _ _) _ _ _ (start .args .every .now) _ _ _ (start .pre .0 .1)
+        guest-ready (guestsTake _ _ _ _) _ _ _ (start .args .every .now) _ _ _ (start .pre .0 .1)
             (test-is (start .pre .1) (asked .is-at .ensures) (not-false _ (c .if1 .left))),
         (start .pre .0 .1 .gaps, start .pre .0 .1 .deadlines),
       ),

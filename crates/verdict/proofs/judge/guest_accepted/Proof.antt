@@ -11,7 +11,9 @@ use Rattle.verdict.proofs.judge.guest_accepted.Statement.{statement}
 use Rattle.verdict.proofs.judge.guest_accepted.Tie as tie
 
 guest-response-requires : tie.Need-guest-response-requires
-guest-response-requires c κs = (omega (arith, c .pre .place), seated-server _ _ _ _ (c .pre))
+guest-response-requires c κs =
+    let s = c .pre in
+    ((omega (arith, s .place), λ j h. s .late j (omega arith)), seated-server _ _ _ _ _ s)
 
 cast-tasks : tie.Need-cast-tasks
 cast-tasks c = search needs
@@ -22,7 +24,7 @@ charged-of-requires c κs = c .before .before .before .before .pre .tasks
 sub-gaps-of : tie.Need-sub-gaps-of
 sub-gaps-of c =
     let filled = c .before in
-    seated-server _ _ _ _ (filled .before .before .before .before .before .pre) .within
+    seated-server _ _ _ _ _ (filled .before .before .before .before .before .pre) .within
 
 gaps-of-requires : tie.Need-gaps-of-requires
 gaps-of-requires c κs = search needs
@@ -34,8 +36,8 @@ try-guest-requires c κs =
     let asked = filled .before .before .before .before in
     let s = asked .before .pre in (
       (
-        (omega (arith, s .place), s .tasks .few),
-        seated-range _ _ _ _ s (filled .charged-of .ensures) (gaps .gaps-of .ensures),
+        ((omega (arith, s .place), λ j h. s .late j (omega arith)), s .tasks .few),
+        seated-range _ _ _ _ _ s (filled .charged-of .ensures) (gaps .gaps-of .ensures),
       ),
       asked .guest-response .ensures,
     )
@@ -56,7 +58,8 @@ returns c =
     let filled = gaps .before .before in
     let g = filled .before .before .before .before .before .args .g in
     sym (trial-works _ _ _ (tried .try-guest .ensures) (c .enum-told .given .1))
-    ∙ accepted-alike _ _ _ _ (columns-alike (guestsTake _ _ _) g (filled .charged-of .ensures) (gaps .gaps-of .ensures))
+    ∙ accepted-alike _ _ _ _
+    (columns-alike (guestsTake _ _ _ _) g (filled .charged-of .ensures) (gaps .gaps-of .ensures))
 
 returns-2 : tie.Need-returns-2
 returns-2 c =
@@ -65,7 +68,8 @@ returns-2 c =
     let filled = gaps .before .before in
     let g = filled .before .before .before .before .before .args .g in
     sym (trial-unmet _ _ _ (tried .try-guest .ensures) (c .enum-told2 .given .1) .1)
-    ∙ accepted-alike _ _ _ _ (columns-alike (guestsTake _ _ _) g (filled .charged-of .ensures) (gaps .gaps-of .ensures))
+    ∙ accepted-alike _ _ _ _
+    (columns-alike (guestsTake _ _ _ _) g (filled .charged-of .ensures) (gaps .gaps-of .ensures))
 
 returns-3 : tie.Need-returns-3
 returns-3 c =
@@ -74,7 +78,8 @@ returns-3 c =
     let filled = gaps .before .before in
     let g = filled .before .before .before .before .before .args .g in
     sym (trial-unfit-not _ _ _ (tried .try-guest .ensures) (c .enum-told3 .given .1))
-    ∙ accepted-alike _ _ _ _ (columns-alike (guestsTake _ _ _) g (filled .charged-of .ensures) (gaps .gaps-of .ensures))
+    ∙ accepted-alike _ _ _ _
+    (columns-alike (guestsTake _ _ _ _) g (filled .charged-of .ensures) (gaps .gaps-of .ensures))
 
 pub guest-accepted-spec : {M : Type 1} → statement M
 guest-accepted-spec =

@@ -17,7 +17,9 @@ add-all-fitted : tie.Need-add-all-fitted
 add-all-fitted c = search needs
 
 all-fitted-requires : tie.Need-all-fitted-requires
-all-fitted-requires c κs = let s = c .before .before .pre in (omega (arith, s .0 .place), s .0 .ranged)
+all-fitted-requires c κs =
+    let s = c .before .before .pre .0 in
+    ((omega (arith, s .place), s .late), s .ranged)
 
 returns : tie.Need-returns
 returns c = says-unjudged _ _ (sym (c .before .all-fitted .ensures) ∙ not-true _ (c .if1 .taken))
@@ -28,7 +30,7 @@ charged-of-requires c κs = c .before .before .before .before .pre .0 .tasks
 sub-gaps-of : tie.Need-sub-gaps-of
 sub-gaps-of c =
     let filled = c .before in
-    seated-server _ _ _ _ (filled .before .before .before .before .before .pre .0) .within
+    seated-server _ _ _ _ _ (filled .before .before .before .before .before .pre .0) .within
 
 cast-gaps-of : tie.Need-cast-gaps-of
 cast-gaps-of c = search needs
@@ -49,11 +51,14 @@ task-response-requires c κs =
     let test = filled .before in
     let start = test .before .before .before .before in
     let s = start .pre in
-    let range = seated-range _ _ _ _ (s .0) (filled .charged-of .ensures) (gaps .gaps-of .ensures) in (
-      (omega (arith, s .0 .place), omega (arith, s .1, s .0 .tasks .few)),
+    let range = seated-range _ _ _ _ _ (s .0) (filled .charged-of .ensures) (gaps .gaps-of .ensures) in (
       (
-        guest-ready (guestsTake _ _ _) _ _ _ (start .args .g .every) _ _ _ range
-            (seated-fits _ _ _ _ (s .0) (sym (test .before .all-fitted .ensures) ∙ not-false _ (test .if1 .left)))
+        (omega (arith, s .0 .place), λ j h. s .0 .late j (omega arith)),
+        omega (arith, s .1, s .0 .tasks .few),
+      ),
+      (
+        guest-ready (guestsTake _ _ _ _) _ _ _ (start .args .g .every) _ _ _ range
+            (seated-fits _ _ _ _ _ (s .0) (sym (test .before .all-fitted .ensures) ∙ not-false _ (test .if1 .left)))
             _ (s .1),
         (s .0 .tasks .periods _ (s .1), λ j h. range .gaps j (omega (arith, s .1))),
       ),
@@ -63,7 +68,11 @@ mul-met-or-not : tie.Need-mul-met-or-not
 mul-met-or-not c = search needs
 
 array-read-met-or-not : tie.Need-array-read-met-or-not
-array-read-met-or-not c = search needs
+array-read-met-or-not c =
+    let gaps = c .before .before .before .before in
+    let filled = gaps .before .before .before in
+    let s = filled .before .before .before .before .before .pre in
+    omega (arith, s .1, s .0 .tasks .few)
 
 met-or-not-requires : tie.Need-met-or-not-requires
 met-or-not-requires c κs = search needs
@@ -80,7 +89,7 @@ returns-2 c =
     says-judged _ (sym (test .before .all-fitted .ensures) ∙ not-false _ (test .if1 .left)) (c .met-or-not .ensures)
     (asked .task-response .ensures
     ∙ task-alike _ _ (g .tasks) _ (s .1)
-    (columns-alike (guestsTake _ _ _) g (filled .charged-of .ensures) (gaps .gaps-of .ensures)) _)
+    (columns-alike (guestsTake _ _ _ _) g (filled .charged-of .ensures) (gaps .gaps-of .ensures)) _)
 
 pub judge-task-spec : {M : Type 1} → statement M
 judge-task-spec =

@@ -13,7 +13,7 @@ fn passes(side: Side) -> bool {
 }
 
 /// The amended plan, where the pair is not refused.
-fn amended(plan: &[u8], sheet: &[u8]) -> Option<Plan> {
+pub fn amended(plan: &[u8], sheet: &[u8]) -> Option<Plan> {
     replaced(plan, sheet).ok().map(|bytes| read(&bytes).plan)
 }
 

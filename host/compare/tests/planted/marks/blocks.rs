@@ -18,7 +18,7 @@ fn all_marks(block: &[u8]) -> u16 {
 }
 
 /// A reading with blocks changed before it, where the right one refuses by this number.
-fn let_through(bytes: &[u8], number: u32, change: impl Fn(&mut [u8])) -> Read {
+pub fn let_through(bytes: &[u8], number: u32, change: impl Fn(&mut [u8])) -> Read {
     let right = read(bytes);
     match right.refusal.number == number {
         true => read(&changed(bytes, change)),
@@ -27,7 +27,7 @@ fn let_through(bytes: &[u8], number: u32, change: impl Fn(&mut [u8])) -> Read {
 }
 
 /// A refusal of a reading.
-fn refused(number: u32, place: u32) -> Read {
+pub fn refused(number: u32, place: u32) -> Read {
     Read {
         refusal: Refusal::new(number, place),
         ..Read::default()
@@ -35,7 +35,7 @@ fn refused(number: u32, place: u32) -> Read {
 }
 
 /// A reading that refuses the block which the right one refuses by this number by another, if it is so.
-fn by_another(bytes: &[u8], number: u32, is_so: impl Fn(&[u8]) -> bool, other: u32) -> Read {
+pub fn by_another(bytes: &[u8], number: u32, is_so: impl Fn(&[u8]) -> bool, other: u32) -> Read {
     let right = read(bytes);
     let Refusal {
         number: given,
@@ -185,9 +185,9 @@ fn bytes_behind_the_marks_not_looked_at() {
 }
 
 #[test]
-fn the_byte_behind_the_marks_taken_for_marks() {
+fn a_byte_behind_the_marks_taken_for_marks() {
     assert!(!read_passes(|bytes| {
-        by_another(bytes, 3, |block| short(block, 0) == 2 && block[22] != 0, 5)
+        by_another(bytes, 3, |block| short(block, 0) == 2 && block[23] != 0, 5)
     }));
 }
 

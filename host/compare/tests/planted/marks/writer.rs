@@ -13,7 +13,12 @@ fn write_passes(wrong: fn(&Guest, u32, &mut [u8]) -> Refusal) -> bool {
 }
 
 /// Writes a block and changes it, its check made anew.
-fn changed(guest: &Guest, place: u32, buffer: &mut [u8], change: impl Fn(&mut [u8])) -> Refusal {
+pub fn changed(
+    guest: &Guest,
+    place: u32,
+    buffer: &mut [u8],
+    change: impl Fn(&mut [u8]),
+) -> Refusal {
     let refusal = write(guest, place, buffer);
     if refusal == Refusal::NONE {
         change(&mut buffer[..BLOCK]);

@@ -54,8 +54,9 @@ fn kinds_that_are_refused() {
     assert_eq!(put(1, &[(BLOCK + 1, 1)]), Refusal::new(3, 1));
     assert_eq!(put(1, &[(BLOCK + 20, 0)]), Refusal::new(3, 1));
     assert_eq!(put(0, &[(BLOCK, 2)]), Refusal::new(3, 1));
-    // The byte behind the marks is none of them.
-    assert_eq!(put(0, &[(BLOCK, 2), (BLOCK + 22, 1)]), Refusal::new(3, 1));
+    // The bytes behind the marks are none of them.
+    assert_eq!(put(0, &[(BLOCK, 2), (BLOCK + 22, 2)]), Refusal::new(3, 1));
+    assert_eq!(put(0, &[(BLOCK, 2), (BLOCK + 23, 1)]), Refusal::new(3, 1));
     assert_eq!(put(0, &[(BLOCK, 2), (BLOCK + 20, 2)]), Refusal::NONE);
 }
 
@@ -65,7 +66,7 @@ fn bytes_that_must_be_zero_by_kind() {
     for at in 20..32 {
         assert_eq!(put(0, &[(BLOCK + at, 1)]), Refusal::new(5, 1));
     }
-    for at in 22..32 {
+    for at in 23..32 {
         assert_eq!(put(1, &[(BLOCK + at, 1)]), Refusal::new(5, 1));
     }
 }
