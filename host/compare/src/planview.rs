@@ -6,6 +6,7 @@ use crate::session::Session;
 use reference::plan::{BLOCK, blocks_of};
 use reference::samples::{deferrable, plan_a, plan_a_bound};
 use reference::show::text;
+use std::env;
 use std::io::{self, Write};
 use std::process::{Command, Stdio};
 
@@ -38,8 +39,18 @@ pub fn compare(session: &mut Session, program: &str) -> io::Result<()> {
     Ok(())
 }
 
+/// The program as it is run here: by the emulator that EMULATOR names, if it names one.
+fn command(program: &str) -> Command {
+    let Some(emulator) = env::var_os("EMULATOR") else {
+        return Command::new(program);
+    };
+    let mut command = Command::new(emulator);
+    command.arg(program);
+    command
+}
+
 fn output(program: &str, input: &[u8]) -> io::Result<Vec<u8>> {
-    let mut child = Command::new(program)
+    let mut child = command(program)
         .stdin(Stdio::piped())
         .stdout(Stdio::piped())
         .spawn()?;

@@ -1,5 +1,6 @@
 //! The C side: the header's layout against the wrapper's, and the example against its text.
 
+use std::env;
 use std::fmt::Write;
 use std::mem::{align_of, offset_of, size_of};
 use std::path::{Path, PathBuf};
@@ -14,7 +15,7 @@ use coreshare::{
 fn output_of(name: &str, libraries: &[PathBuf]) -> String {
     let host = Path::new(env!("CARGO_MANIFEST_DIR")).join("..");
     let program = Path::new(env!("CARGO_TARGET_TMPDIR")).join(name);
-    let compiled = Command::new("cc")
+    let compiled = Command::new(env::var_os("CC").unwrap_or("cc".into()))
         .args([
             "-std=c11",
             "-O2",
@@ -28,9 +29,13 @@ fn output_of(name: &str, libraries: &[PathBuf]) -> String {
         .arg(host.join("c").join(name).with_extension("c"))
         .args(libraries)
         .status()
-        .expect("a C compiler called cc");
+        .expect("a C compiler, which CC names, or cc");
     assert!(compiled.success());
-    let run = Command::new(&program).output().expect("the program");
+    let run = match env::var_os("EMULATOR") {
+        Some(emulator) => Command::new(emulator).arg(&program).output(),
+        None => Command::new(&program).output(),
+    };
+    let run = run.expect("the program");
     assert!(run.status.success());
     String::from_utf8(run.stdout).expect("text")
 }
