@@ -1,7 +1,7 @@
 #!/bin/sh
 # Prints the instructions of one call, of the library, of plain Rust behind the same interface and of plain Rust by
 # reference, for each case or the named ones. The count of a call is a twentieth of the difference between 30 calls and
-# 10 (of a run: that between 2 and 1), so that the start of the program falls out.
+# 10 (of a run and of a long log: that between 2 and 1), so that the start of the program falls out.
 # From the folder host: bench/callgrind.sh [NAME..]
 set -eu
 cd "$(dirname "$0")/.."
@@ -18,7 +18,7 @@ count() {
 # The instructions of one call: NAME SIDE
 per_call() {
     case "$1" in
-        run-*) few=1 more=2 ;; # a million ticks each
+        run-* | statement-100000-*) few=1 more=2 ;; # a million ticks each, or four million jobs
         *) few=10 more=30 ;;
     esac
     echo $((($(count "$1" "$2" "$more") - $(count "$1" "$2" "$few")) / (more - few)))

@@ -27,6 +27,9 @@ static uint64_t pairs[CS_MOST_PAIRS]; /* each task of the full plan, and once mo
 static uint32_t answers[CS_MOST_PAIRS];
 static uint8_t amendments[GUESTS * CS_BLOCK];      /* each guest of the full plan, the last one first */
 static uint8_t wide_amendments[GUESTS * CS_BLOCK]; /* the same of the wide plan */
+static CsLogEntries jobs;                          /* as many as a log block holds, of all guests */
+static uint8_t finished[GUESTS * CS_BLOCK];        /* a log of such blocks */
+static CsStatement running;                        /* the statement of that log */
 
 static _Alignas(4096) uint8_t stack[1 << 20];
 static uint8_t *at_call;   /* where the stack ends just before the call, arguments included */
@@ -71,6 +74,9 @@ EXPORT(cs_amended_accept, CsVerdict, (const uint8_t *p, size_t n, const uint8_t 
 EXPORT(cs_amended_smallest_capacity, CsVerdict, (const uint8_t *p, size_t n, const uint8_t *s, size_t m, uint32_t id),
        (bytes, sizeof bytes, wide_amendments, sizeof wide_amendments, GUESTS))
 EXPORT(cs_run, CsRun, (CsDispatcher d, uint32_t ticks), (states, 1000000))
+EXPORT(cs_write_log, CsRefusal, (CsLogEntries j, uint8_t *b, size_t n), (jobs, buffer, sizeof buffer))
+EXPORT(cs_statement, CsStated, (CsStatement s, const uint8_t *p, size_t n, const uint8_t *l, size_t m),
+       (running, bytes, sizeof bytes, finished, sizeof finished))
 
 static const struct {
     const char *name;
@@ -95,6 +101,8 @@ static const struct {
     {"cs_sheet", call_cs_sheet, sizeof(CsDispatcher)},
     {"cs_tick", call_cs_tick, sizeof(CsDispatcher)},
     {"cs_run", call_cs_run, sizeof(CsDispatcher)},
+    {"cs_write_log", call_cs_write_log, sizeof(CsLogEntries)},
+    {"cs_statement", call_cs_statement, sizeof(CsStatement)},
 };
 
 static void fail(const char *why) {
@@ -172,6 +180,23 @@ static void make_sheet(void) {
     }
 }
 
+static void make_log(void) {
+    jobs.count = CS_MOST_JOBS;
+    for (uint32_t i = 0; i < CS_MOST_JOBS; i++) {
+        jobs.entries[i] = (CsLogEntry){.guest = i % GUESTS + 1, .task = i % TASKS + 1, .age = 900000 + i};
+    }
+    for (size_t at = 0; at < sizeof finished; at += CS_BLOCK) {
+        if (cs_write_log(jobs, finished + at, CS_BLOCK).number != 0) {
+            fail("a block of the log is refused");
+        }
+    }
+    CsStated stated = cs_statement(running, bytes, sizeof bytes, finished, sizeof finished);
+    if (stated.refusal.number != 0 || stated.passed != 0) {
+        fail("the log is not stated");
+    }
+    running = stated.statement;
+}
+
 static void *on_thread(void *call) {
     (*(void (**)(int))call)(at_call == NULL);
     return NULL;
@@ -212,6 +237,7 @@ int main(int count, char **words) {
     make_amendments();
     make_state();
     make_sheet();
+    make_log();
     printf("%-28s %10s %10s %10s\n", "export", "arguments", "below", "together");
     for (size_t at = 0; at < sizeof exports / sizeof exports[0]; at++) {
         size_t taken = below(exports[at].call);

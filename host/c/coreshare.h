@@ -1,18 +1,19 @@
 /* The core-sharing library's C interface, for x86-64. Link libcoreshare.a, which `rt staticlib coreshare` writes.
  *
  * On one core, up to 8 guests share the time, each with up to 16 tasks. Every rule stands in document 01,
- * as the requests P1 to P9 of document 02 change it.
+ * as the requests P1 to P10 of document 02 change it.
  *
  * - Records and states cross by value, and bytes are lent for the call alone: the library keeps no pointer and
  *   no state of its own, so calls from several threads need no lock.
  * - No call asks anything of its input: any value of any field is taken, and what is out of range is
- *   refused by its number. Number 0 is no refusal; the place of a refusal 7 to 15, or 17, is 0.
+ *   refused by its number. Number 0 is no refusal; the place of a refusal 7 to 15, 17 or 18, is 0.
  * - A pointer must be good for its length, for the whole call, and not be NULL even where the length is 0. The library
  *   does not test that, and promises nothing where it does not hold.
- * - A CsGuest is 216 bytes, a CsPlan 1,732, a CsDispatcher 3,472 and aligned to 8. They cross on the stack, there and
- *   back; docs/FIGURES.md has the stack that each call takes, as measured.
- * - CsDispatcher has four bytes of padding before usage, CsTicked four at its end. The library neither reads nor
- *   promises them: compare states field by field, not by memcmp, and clear them before their bytes are sent anywhere.
+ * - A CsGuest is 216 bytes, a CsPlan 1,732, a CsDispatcher 3,472 and a CsStatement 2,568, both aligned to 8. They cross
+ *   on the stack, there and back; docs/FIGURES.md has the stack that each call takes, as measured.
+ * - CsDispatcher has four bytes of padding before usage, CsTicked and CsStated four at their ends. The library neither
+ *   reads nor promises them: compare states field by field, not by memcmp, and clear them before their bytes are sent
+ *   anywhere. CsStatement has none.
  * - A CsGuest has grown by deferrable, before its arrays: a host is compiled anew, and sets it and the marks.
  * - Like any compiled C, the library may call memcpy, memmove, memset and memcmp, also where there is no C library.
  */
@@ -26,7 +27,7 @@
 extern "C" {
 #endif
 
-/* The bytes of one guest's block. */
+/* The bytes of one guest's block, and of one block of a log. */
 #define CS_BLOCK 512
 
 /* The mark of a task, by its number from 1 to 16. */
@@ -99,7 +100,8 @@ typedef struct CsLocated {
  * Nothing else changes these numbers: a release leaves them, a run adds what its single ticks would, and a refused
  * call hands them back as they came. After 2^64 - 1 each goes on at 0. They have no range: any numbers are taken
  * and refusal 14 does not look at them, so a host may set them to 0 whenever it likes. From a fresh state on,
- * usage[0] to usage[count - 1] and usage[16] sum to the ticks done, modulo 2^64; places past the count count nothing. */
+ * usage[0] to usage[count - 1] and usage[16] sum to the ticks done, modulo 2^64; places past the count count
+ * nothing. */
 typedef struct CsDispatcher {
     CsPlan plan;
     uint64_t usage[17];   /* ticks of each guest, those of them that it idled away, ticks that no guest had */
@@ -143,6 +145,40 @@ typedef struct CsRun {
     CsAnswer answer;         /* the last tick's; no answer if none was done */
     CsDispatcher dispatcher; /* unchanged on a refusal */
 } CsRun;
+
+/* The most jobs of a log block. */
+#define CS_MOST_JOBS 41
+
+/* A finished job. */
+typedef struct CsLogEntry {
+    uint32_t guest; /* its id */
+    uint32_t task;  /* its number from 1 */
+    uint32_t age;   /* 1 to 1,000,000 ticks */
+} CsLogEntry;
+
+/* The jobs for one log block. Entries past the count are not looked at. */
+typedef struct CsLogEntries {
+    uint32_t count; /* 1 to 41 */
+    CsLogEntry entries[CS_MOST_JOBS];
+} CsLogEntries;
+
+/* The running statement of finished jobs; zero throughout is an empty one. Line 16 * g + t is that of task t of the
+ * guest at place g of the plan, both from 0. All 128 lines are held to these ranges, those of no task too. */
+typedef struct CsStatement {
+    uint64_t blocks;       /* log blocks counted, at most 1,000,000 */
+    int64_t margins[128];  /* the exact sum of the margins, deadline less age: at most 999,999 for each job in size */
+    uint32_t jobs[128];    /* the jobs counted, at most 41 for each block */
+    uint32_t longest[128]; /* their longest age, at most 1,000,000 */
+    uint32_t late[128];    /* how many of them were late, their age being past the deadline: at most all */
+} CsStatement;
+
+typedef struct CsStated {
+    CsRefusal refusal;
+    CsStatement statement; /* unchanged on a refusal */
+    uint64_t passed;       /* blocks passed over, 0 on a refusal */
+    uint64_t position;     /* of the first of them in this log, from 0; 0 if none was */
+    uint32_t number;       /* by which the first of them was passed over; 0 if none was */
+} CsStated;
 
 /* Reads a plan's blocks.
  * Refusals: 1 for the length; then block by block 2 sum, 3 kind (neither 1, nor 2 with marks or a 1 in byte 22) or
@@ -248,6 +284,22 @@ CsTicked cs_tick(CsDispatcher dispatcher);
 /* Ticks until one finishes a job or their number is used up.
  * Refusals: 14 a state outside its ranges (usage has none), 13 more than 1,000,000 ticks. */
 CsRun cs_run(CsDispatcher dispatcher, uint32_t ticks);
+
+/* Writes a log block of these jobs to the first 512 bytes of the buffer and to no others. Guest ids and task numbers
+ * are written as they are, and zeros for the entries past the count.
+ * Refusals, with nothing written: 12 a buffer shorter than 512; 18 a count that is not 1 to 41, or an age, up to the
+ * count, that is not 1 to 1,000,000. */
+CsRefusal cs_write_log(CsLogEntries jobs, uint8_t *buffer, size_t length);
+
+/* Adds a log of any number of blocks, none too, to the running statement against a plan's blocks. Against one plan, a
+ * log cut between blocks and added part by part gives the same statement. A block that is passed over counts nothing.
+ * A block is passed over by the first of these: 2 sum; 3 kind (not 3); 18 a number of jobs that is not 1 to 41, or an
+ * age that is not 1 to 1,000,000; 5 a byte of 4 to 7, or past the entries, that is not zero; 7 an entry whose guest is
+ * not in the plan; 8 an entry whose task is not in its guest; 19 a block when 1,000,000 are counted already.
+ * Refusals of the whole call: the plan's, those of cs_read; then 14 a running statement outside its ranges; then 1 for
+ * a log's length that is no multiple of 512, with place 0. */
+CsStated cs_statement(CsStatement running, const uint8_t *plan, size_t plan_length, const uint8_t *log,
+                      size_t log_length);
 
 #ifdef __cplusplus
 }

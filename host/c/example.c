@@ -1,5 +1,6 @@
 /* Plan A of document 01 from C: its blocks written, read and judged, an amendment to it tried, a task bound, its guests
- * made Deferrable, and its dispatcher run until a job finishes; then where the ticks went, and last a sheet of releases.
+ * made Deferrable, and its dispatcher run until a job finishes; then where the ticks went, a sheet of releases, and
+ * last a statement of finished jobs.
  * From this folder: cc -O2 example.c ../../target/staticlib/libcoreshare.a -o example */
 #include "coreshare.h"
 
@@ -109,7 +110,8 @@ static int bind_a_task(CsPlan plan) {
     return 0;
 }
 
-/* Both guests Deferrable: guest 9 and its tasks have longer responses, and guest 7 is passed over while it has no work. */
+/* Both guests Deferrable: guest 9 and its tasks have longer responses, and guest 7 is passed over while it has no
+ * work. */
 static int make_deferrable(CsPlan plan) {
     plan.guests[0].deferrable = plan.guests[1].deferrable = 1;
     printf("Deferrable, guest 9 is fitted %u and its tasks are met %u and %u\n", cs_guest_verdict(plan, 9).ticks,
@@ -162,6 +164,27 @@ static int run_until_finished(const CsPlan *plan) {
     return release_a_sheet(&run.dispatcher);
 }
 
+/* Two jobs of guest 9's first task logged and stated, the second one late; the log's other block is empty and so passed
+ * over. The task's line is the first of the guest at place 1. */
+static int state_finished_jobs(const uint8_t *plan, size_t length) {
+    CsLogEntry on_time = {.guest = 9, .task = 1, .age = 24}, late = {.guest = 9, .task = 1, .age = 60};
+    CsLogEntries jobs = {.count = 2, .entries = {on_time, late}};
+    CsStatement statement = {.blocks = 0};
+    uint8_t log[2 * CS_BLOCK] = {0};
+    if (refused("log", cs_write_log(jobs, log, sizeof log))) {
+        return 1;
+    }
+    CsStated stated = cs_statement(statement, plan, length, log, sizeof log);
+    if (refused("statement", stated.refusal)) {
+        return 1;
+    }
+    statement = stated.statement;
+    printf("%" PRIu64 " block counted: %u jobs, longest age %u, %u late, margins %" PRId64 "\n", statement.blocks,
+           statement.jobs[16], statement.longest[16], statement.late[16], statement.margins[16]);
+    printf("%" PRIu64 " passed over, the first at %" PRIu64 " by %u\n", stated.passed, stated.position, stated.number);
+    return 0;
+}
+
 int main(void) {
     uint8_t bytes[2 * CS_BLOCK];
     if (write_plan_a(bytes)) {
@@ -180,5 +203,5 @@ int main(void) {
     if (try_an_amendment(bytes, sizeof bytes) || bind_a_task(read.plan) || make_deferrable(read.plan)) {
         return 1;
     }
-    return run_until_finished(&read.plan);
+    return run_until_finished(&read.plan) || state_finished_jobs(bytes, sizeof bytes);
 }

@@ -73,6 +73,28 @@ static void dispatcher(void) {
     FIELD(CsRun, dispatcher);
 }
 
+static void statement(void) {
+    STRUCT(CsLogEntry);
+    FIELD(CsLogEntry, guest);
+    FIELD(CsLogEntry, task);
+    FIELD(CsLogEntry, age);
+    STRUCT(CsLogEntries);
+    FIELD(CsLogEntries, count);
+    FIELD(CsLogEntries, entries);
+    STRUCT(CsStatement);
+    FIELD(CsStatement, blocks);
+    FIELD(CsStatement, margins);
+    FIELD(CsStatement, jobs);
+    FIELD(CsStatement, longest);
+    FIELD(CsStatement, late);
+    STRUCT(CsStated);
+    FIELD(CsStated, refusal);
+    FIELD(CsStated, statement);
+    FIELD(CsStated, passed);
+    FIELD(CsStated, position);
+    FIELD(CsStated, number);
+}
+
 static void marks(void) {
     printf("mark %u\n", (unsigned)CS_MARK(1));
     printf("mark %u\n", (unsigned)CS_MARK(16));
@@ -86,6 +108,7 @@ static void pairs(void) {
 int main(void) {
     records();
     dispatcher();
+    statement();
     marks();
     pairs();
     return 0;

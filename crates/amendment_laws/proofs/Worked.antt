@@ -16,7 +16,8 @@ use Rattle.plan.specs.Ranges.{headOk, taskOk, startOk, tasksOk}
 use Rattle.plan.specs.First.{orElse, firstRefused, refusedBy}
 use Rattle.plan.specs.Order.{newId}
 use Rattle.block.specs.Reading.{column, zeroBetween, marksOk, blockNumber}
-use Rattle.blockwriter.specs.Writing.{withKind, withHead, withEntry, withEntries, wordsOf, withCheck, blockOf}
+use Rattle.blockparts.specs.Parts.{withEntry, withEntries, withCheck}
+use Rattle.blockwriter.specs.Writing.{withKind, withHead, wordsOf, blockOf}
 use Rattle.blockfile.specs.File.{sizeOk, numberAt, sizedBy, blocksRefusal, fileRefusal}
 use Rattle.blockfile.specs.Records.{recordsOf}
 use Rattle.planfile.specs.declared.Reading.{Reading}

@@ -19,7 +19,7 @@ use Rattle.lists.specs.All.{allTo}
 use Rattle.block.specs.Layout.{plainKind, extendedKind, deferrableServer, periodWord, marksServerWord, runWord, everyWord, deadlineWord, lowHalf, highHalf}
 use Rattle.plan.proofs.MarksLaws.{moved-up}
 use Rattle.plan.proofs.RangesLaws.{head-says}
-use Rattle.lists.proofs.All.{and-left, and-right, and-true, all-at}
+use Rattle.lists.proofs.All.{and-left, and-right, and-true, all-by, all-at}
 use Rattle.lists.proofs.Table.{table-at}
 use Rattle.lists.proofs.Refusals.{none-left, go-on, stop, passed}
 
@@ -175,6 +175,12 @@ zero-at b from to k l h e =
     rw q at
     (eqb-true (word b (from + (k - from))) 0
     (all-at (λ i. eqb (word b (from + i)) 0) (to - from) (k - from) (omega arith) e))
+
+-- Words that are zero pass.
+pub zeros-pass : (b : List ℕ) (from to : ℕ) → ((k : ℕ) → from ≤ k → k < to → word b k ≡ 0)
+    → zeroBetween b from to ≡ true
+unfolding zeroBetween
+zeros-pass b from to h = all-by _ (to - from) (λ k l. eq-eqb _ _ (h (from + k) (omega arith) (omega arith)))
 
 -- A column's number.
 pub column-at : (b : List ℕ) (at : ℕ → ℕ) (i : ℕ) → i < mostTasks → nth (column b at) i ≡ word b (at i)

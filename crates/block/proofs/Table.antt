@@ -2,7 +2,7 @@
 use mathlib.Core.Path.{_≡_, refl, sym, _∙_}
 use mathlib.Core.Bool.{true, _&&_}
 use mathlib.Core.List.{List}
-use Prim.Native.Nat.{ℕ, zero, suc, _+_, _*_, _-_, _/_, _%_, _^_, _≤_, _<_}
+use Prim.Native.Nat.{ℕ, zero, suc, _+_, _*_, _/_, _%_, _^_, _≤_, _<_}
 use native.Mathlib.Decide.{decLt, ℕ-discrete}
 use native.Mathlib.Omega.{arith}
 use borrow.Author.Tests.{eq-eqb, eqb-true}
@@ -17,9 +17,9 @@ use Rattle.lists.specs.Exactly.{_exactlyWhen_}
 use Rattle.block.specs.Layout.{blockWords, kindPlaceWord, extendedKind, idWord, capacityWord, periodWord, tasksChargeWord, marksServerWord, spareFrom, spareTo, runWord, everyWord, deadlineWord, unusedFrom, checkWord, lowHalf, highHalf}
 use Rattle.block.specs.Reading.{kindIn, taskCount, column, zeroBetween, marksOk, zerosOk}
 use Rattle.block.specs.Table.{ZeroBytes, ZerosStand, InBytes}
-use Rattle.lists.proofs.All.{and-left, and-right, and-true, all-by}
+use Rattle.lists.proofs.All.{and-left, and-right, and-true}
 use Rattle.lists.proofs.Sum.{sum-last}
-use Rattle.block.proofs.Reading.{marks-of-two, marks-of-other, zero-at, column-at}
+use Rattle.block.proofs.Reading.{marks-of-two, marks-of-other, zero-at, zeros-pass, column-at}
 
 -- A word is its four bytes, least first.
 pub word-bytes : (b : List ℕ) (k : ℕ) → word b k ≡ u32At b (4 * k)
@@ -27,11 +27,11 @@ unfolding word
 word-bytes b k = refl
 
 -- The low half of a word is its first two bytes.
-low-bytes : (b : List ℕ) (k : ℕ) → Bytes b → lowHalf (word b k) ≡ u16At b (4 * k)
+pub low-bytes : (b : List ℕ) (k : ℕ) → Bytes b → lowHalf (word b k) ≡ u16At b (4 * k)
 low-bytes b k h = omega (arith, word-bytes b k, h (4 * k), h (4 * k + 1))
 
 -- The high half of a word is its other two bytes.
-high-bytes : (b : List ℕ) (k : ℕ) → Bytes b → highHalf (word b k) ≡ u16At b (4 * k + 2)
+pub high-bytes : (b : List ℕ) (k : ℕ) → Bytes b → highHalf (word b k) ≡ u16At b (4 * k + 2)
 high-bytes b k h =
     let e : 4 * k + 2 + 1 ≡ 4 * k + 3 = omega arith in rw e (omega (arith, word-bytes b k, h (4 * k), h (4 * k + 1)))
 
@@ -53,19 +53,17 @@ byte-of b i e = let q : 4 * (i / 4) + i % 4 ≡ i = omega arith in rw q at (byte
 
 -- The words from one on, up to another, are zero exactly when their bytes are.
 pub zero-bytes : (b : List ℕ) (from to : ℕ) → (zeroBetween b from to ≡ true) exactlyWhen ZeroBytes b (4 * from) (4 * to)
-unfolding zeroBetween
 zero-bytes b from to = (
   λ e i l h. byte-of b i (zero-at b from to (i / 4) (omega arith) (omega arith) e),
   λ h.
-      all-by _ (to - from) (λ k l.
-      eq-eqb (word b (from + k)) 0
-      (word-bytes b (from + k)
+      zeros-pass b from to (λ k l u.
+      word-bytes b k
       ∙ rw (
-        h (4 * (from + k)) (omega arith) (omega arith),
-        h (4 * (from + k) + 1) (omega arith) (omega arith),
-        h (4 * (from + k) + 2) (omega arith) (omega arith),
-        h (4 * (from + k) + 3) (omega arith) (omega arith),
-      ) refl)),
+        h (4 * k) (omega arith) (omega arith),
+        h (4 * k + 1) (omega arith) (omega arith),
+        h (4 * k + 2) (omega arith) (omega arith),
+        h (4 * k + 3) (omega arith) (omega arith),
+      ) refl),
 )
 
 -- A block of kind 2 has marks of which none is past the tasks, a server beside them, and zero in byte 23.
@@ -165,7 +163,7 @@ zeros-stand b h few =
     )
 
 -- The sum of all words is that of the words before the check, and the check.
-sum-with-check : (b : List ℕ)
+pub sum-with-check : (b : List ℕ)
     → wrapped (word b) blockWords ≡ (sumTo (λ k. u32At b (4 * k)) checkWord + u32At b (4 * checkWord)) % wordWrap
 unfolding word
 sum-with-check b = rw (sum-last (word b) checkWord) refl

@@ -63,17 +63,21 @@ spareTo = 8
 abbrev pub entryWords : ℕ
 entryWords = 3
 
+-- The first entry starts at this word.
+abbrev pub firstTask : ℕ
+firstTask = 8
+
 -- The run of entry i, from 0, is an entry's first word.
 abbrev pub runWord : ℕ → ℕ
-runWord i = 8 + entryWords * i
+runWord i = firstTask + entryWords * i
 
 -- The period of entry i is the second.
 abbrev pub everyWord : ℕ → ℕ
-everyWord i = 9 + entryWords * i
+everyWord i = firstTask + 1 + entryWords * i
 
 -- The deadline of entry i is the third.
 abbrev pub deadlineWord : ℕ → ℕ
-deadlineWord i = 10 + entryWords * i
+deadlineWord i = firstTask + 2 + entryWords * i
 
 -- Entries past the number n of tasks, and bytes 224-507, are zero; they start at this word and end before the check.
 abbrev pub unusedFrom : ℕ → ℕ

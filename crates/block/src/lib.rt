@@ -6,3 +6,4 @@ pub use reader::block_number;
 pub use reader::decode;
 pub use reader::id_of;
 pub use reader::place_of;
+pub use reader::zero_between;

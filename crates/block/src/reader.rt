@@ -56,7 +56,7 @@ pub fn place_of(b: &[u8]) -> u32
 }
 
 // Whether the words from one on, up to another, are zero.
-fn zero_between(b: &[u8], from: usize, to: usize) -> bool
+pub fn zero_between(b: &[u8], from: usize, to: usize) -> bool
     requires { ⌜ (from ≤ to) × ((to ≤ blockWords) × (length (now b) ≡ blockSize)) ⌝ }
     ensures { λ r. ⌜ r ≡ zeroBetween (now (b .entry)) from to ⌝ }
 {

@@ -1,27 +1,24 @@
--- How the code comes to the block written, and its words one by one. Assumes nothing.
+-- How the code comes to the block written. Assumes nothing.
 use mathlib.Core.Path.{_≡_, refl, sym, ap, _∙_}
 use mathlib.Core.Bool.{true, false}
 use mathlib.Core.List.{List, [], _++_}
-use Prim.Native.Nat.{ℕ, zero, suc, _+_, _^_, _≤_, _<_}
+use Prim.Native.Nat.{ℕ, _^_, _≤_, _<_}
 use native.Mathlib.Nat.{pow-le-pow-right}
 use native.Mathlib.Omega.{arith}
-use native.Mathlib.Numerals.{add-one}
-use lib.ListN.{length, set, drop, replicate, length-set, length-replicate, getD-replicate}
+use lib.ListN.{length, set, drop, replicate, length-set, length-replicate}
 use lib.Dec.{leb}
 use borrow.Author.Tests.{le-leb, lt-leb, leb-true}
-use Rattle.lists.specs.Places.{nth}
-use Rattle.words.specs.Word.{word}
-use Rattle.words.specs.Bytes.{withWord, bytesOf}
-use Rattle.words.specs.Wrap.{wrapped, complement}
+use Rattle.words.specs.Bytes.{withWord}
 use Rattle.plan.specs.declared.Guest.{Guest}
+use Rattle.plan.specs.Records.{runOf, everyOf, deadlineOf}
 use Rattle.plan.specs.Marks.{marksOf, liveMarks}
 use Rattle.plan.specs.Ranges.{guestOk, tasksOk, mostTasks}
-use Rattle.block.specs.Layout.{blockSize, blockWords, kindPlaceWord, lastPlace, idWord, capacityWord, periodWord, tasksChargeWord, marksServerWord, runWord, everyWord, deadlineWord, checkWord, halfWrap, halves}
-use Rattle.blockwriter.specs.Writing.{serverFor, kindFor, withKind, withHead, withEntry, withEntries, wordsOf, withCheck, blockOf, writeNumber, writeRefusal, writtenBy, written}
-use Rattle.words.proofs.Bytes.{put-set, bytes-zeros}
-use Rattle.words.proofs.Wrap.{wrapped-bytes}
+use Rattle.block.specs.Layout.{blockSize, blockWords, kindPlaceWord, lastPlace, idWord, capacityWord, periodWord, tasksChargeWord, marksServerWord, firstTask, halfWrap, halves}
+use Rattle.blockwriter.specs.Writing.{serverFor, kindFor, withKind, withHead, wordsOf, blockOf, writeNumber, writeRefusal, written}
+use Rattle.words.proofs.Bytes.{put-set}
 use Rattle.lists.proofs.Refusals.{none-left, go-on, stop, passed}
 use Rattle.plan.proofs.MarksLaws.{marks-below}
+use Rattle.blockparts.proofs.Parts.{by-refused, laid, zeros-laid, put-laid, entries-length}
 
 -- The writer's number, by the tests that led to it.
 module _ (g : Guest) (p n : ℕ) where
@@ -56,17 +53,6 @@ module _ (g : Guest) (p n : ℕ) where
             (go-on 12 _ (le-leb blockSize n h) ∙ go-on 3 _ (le-leb p lastPlace l) ∙ go-on 4 _ o ∙ go-on 6 _ e
             ∙ none-left)
 
--- A refusal writes nothing.
-pub by-refused : (x : ℕ) (block before : List ℕ) → 0 < x → before ≡ writtenBy x block before
-unfolding writtenBy
-by-refused zero block before h = absurd (omega arith)
-by-refused (suc n) block before h = refl
-
--- Number 0: the block is written.
-pub by-none : (x : ℕ) (block before : List ℕ) → x ≡ 0 → block ++ drop blockSize before ≡ writtenBy x block before
-unfolding writtenBy
-by-none x block before e = rw e refl
-
 -- A record that the writer does not refuse is in its ranges, and there is room for its block.
 pub record WriteIn (g : Guest) (p n : ℕ) : Type 0 where
   pub room : blockSize ≤ n
@@ -91,32 +77,6 @@ kind-length m s p x = simp length-set
 pub head-length : (g : Guest) (p : ℕ) (x : List ℕ) → length (withHead g p x) ≡ length x
 unfolding withHead
 head-length g p x = simp length-set (kind-length (liveMarks g) (serverFor g) p x)
-
-pub entries-length : (r e d : List ℕ) (n : ℕ) (x : List ℕ) → length (withEntries r e d n x) ≡ length x
-unfolding withEntries withEntry
-entries-length r e d zero x = refl
-entries-length r e d (suc n) x = simp length-set (entries-length r e d n x)
-
--- A loop's turn: one entry more.
-pub entries-next : (r e d : List ℕ) (n : ℕ) (x₀ x : List ℕ) → x ≡ withEntries r e d n x₀
-    → withEntry n (nth r n) (nth e n) (nth d n) x ≡ withEntries r e d (n + 1) x₀
-unfolding withEntries
-entries-next r e d n x₀ x h = rw (h, add-one) refl
-
--- The bytes of a block's words x before bytes t.
-abbrev pub laid : List ℕ → List ℕ → List ℕ
-laid x t = bytesOf (nth x) blockWords ++ t
-
--- 512 zero bytes are zero words.
-pub zeros-laid : (t : List ℕ) → replicate blockSize 0 ++ t ≡ laid (replicate blockWords 0) t
-zeros-laid t =
-    ap (λ (b : List ℕ). b ++ t)
-    (bytes-zeros (nth (replicate blockWords 0)) blockWords (λ k l. getD-replicate blockWords k 0 0 l))
-
--- A word put into them.
-put-laid : (x t b c : List ℕ) (k w : ℕ) → length x ≡ blockWords → k < blockWords → b ≡ laid x t → c ≡ withWord b k w
-    → c ≡ laid (set x k w) t
-put-laid x t b c k w l h e q = q ∙ ap (λ (y : List ℕ). withWord y k w) e ∙ put-set x blockWords k w t l h
 
 -- Marks of at most 16 tasks fit a half of a word.
 pub half-fits : (marks n : ℕ) → n ≤ mostTasks → marks < 2 ^ n → marks < halfWrap
@@ -182,39 +142,6 @@ head-puts g p b z b0 b1 b2 b3 b4 e e0 e1 e2 e3 e4 =
     let f3 : b3 ≡ laid x3 t = put-laid x2 t b2 b3 periodWord (g .period) l2 (omega arith) f2 e3 in
     put-laid x3 t b3 b4 tasksChargeWord (halves (g .tasks) (g .charge)) l3 (omega arith) f3 e4
 
--- Three words put in, one after the other.
-pub put-three :
-    (b b1 b2 b3 : List ℕ) (i j k v w z : ℕ) → b1 ≡ withWord b i v → b2 ≡ withWord b1 j w → b3 ≡ withWord b2 k z
-    → b3 ≡ withWord (withWord (withWord b i v) j w) k z
-put-three b b1 b2 b3 i j k v w z p q r = rw (← p, ← q) r
-
--- An entry put into the bytes.
-entry-laid :
-    (i r e d : ℕ) (x t : List ℕ) → i < mostTasks → length x ≡ blockWords
-    → withWord (withWord (withWord (laid x t) (runWord i) r) (everyWord i) e) (deadlineWord i) d
-    ≡ laid (withEntry i r e d x) t
-unfolding withEntry
-entry-laid i r e d x t h l =
-    let x0 : List ℕ = set x (runWord i) r in
-    let x1 : List ℕ = set x0 (everyWord i) e in
-    let l0 : length x0 ≡ blockWords = length-set x (runWord i) r ∙ l in
-    let l1 : length x1 ≡ blockWords = length-set x0 (everyWord i) e ∙ l0 in
-    let W : List ℕ → ℕ → ℕ → List ℕ = λ b i w. withWord b i w in
-    ap (λ (b : List ℕ). W (W b (everyWord i) e) (deadlineWord i) d)
-    (put-set x blockWords (runWord i) r t l (omega arith))
-    ∙ ap (λ (b : List ℕ). W b (deadlineWord i) d) (put-set x0 blockWords (everyWord i) e t l0 (omega arith))
-    ∙ put-set x1 blockWords (deadlineWord i) d t l1 (omega arith)
-
--- A loop's turn: one entry more.
-pub entries-laid :
-    (R E D : List ℕ) (i : ℕ) (x b t : List ℕ) → i < mostTasks → length x ≡ blockWords → b ≡ laid
-    (withEntries R E D i x) t
-    → withWord (withWord (withWord b (runWord i) (nth R i)) (everyWord i) (nth E i)) (deadlineWord i) (nth D i)
-    ≡ laid (withEntries R E D (i + 1) x) t
-entries-laid R E D i x b t h l e =
-    rw (e, ← entries-next R E D i x (withEntries R E D i x) refl)
-    (entry-laid i (nth R i) (nth E i) (nth D i) (withEntries R E D i x) t h (entries-length R E D i x ∙ l))
-
 -- The words have their number.
 pub words-count : (g : Guest) (p : ℕ) → length (withHead g p (replicate blockWords 0)) ≡ blockWords
 words-count g p = head-length g p (replicate blockWords 0) ∙ length-replicate {A = ℕ} blockWords 0
@@ -222,32 +149,11 @@ words-count g p = head-length g p (replicate blockWords 0) ∙ length-replicate 
 pub words-length : (g : Guest) (p : ℕ) → length (wordsOf g p) ≡ blockWords
 unfolding wordsOf
 words-length g p =
-    entries-length (g .run) (g .every) (g .deadline) (g .tasks) (withHead g p (replicate blockWords 0))
+    entries-length firstTask (runOf g) (everyOf g) (deadlineOf g) (g .tasks) (withHead g p (replicate blockWords 0))
     ∙ words-count g p
 
--- The check put in.
-pub check-laid :
-    (g : Guest) (p : ℕ) (b t : List ℕ) (s r : ℕ)
-    → b ≡ laid (wordsOf g p) t
-    → s ≡ wrapped (word b) checkWord
-    → r ≡ complement s
-    → withWord b checkWord r ≡ blockOf g p ++ t
-unfolding blockOf withCheck
-check-laid g p b t s r e h q =
-    let n : length (wordsOf g p) ≡ blockWords = words-length g p in
-    let k : s ≡ wrapped (nth (wordsOf g p)) checkWord =
-    h
-    ∙ ap (λ (y : List ℕ). wrapped (word y) checkWord) e
-    ∙ wrapped-bytes (nth (wordsOf g p)) blockWords t checkWord (omega arith) in
-    rw (q, k, e)
-    (put-set (wordsOf g p) blockWords checkWord (complement (wrapped (nth (wordsOf g p)) checkWord)) t n (omega arith))
-
 -- A refused write leaves every byte as it was.
-same-by : (n : ℕ) (block before : List ℕ) → 0 < n → writtenBy n block before ≡ before
-unfolding writtenBy
-same-by zero block before h = absurd (omega arith)
-same-by (suc n) block before h = refl
-
 pub refused-write-same : (g : Guest) (place : ℕ) (before : List ℕ) → 0 < writeRefusal g place (length before) .number
     → written g place before ≡ before
-refused-write-same g place before h = same-by (writeNumber g place (length before)) (blockOf g place) before h
+refused-write-same g place before h =
+    sym (by-refused (writeNumber g place (length before)) (blockOf g place) before h)

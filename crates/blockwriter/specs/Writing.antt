@@ -1,21 +1,22 @@
 -- What the writer writes, and its refusals in their order.
 use mathlib.Core.Bool.{_||_}
-use mathlib.Core.List.{List, [], _∷_, _++_}
-use Prim.Native.Nat.{ℕ, zero, suc}
+use mathlib.Core.List.{List, [], _∷_}
+use Prim.Native.Nat.{ℕ}
 use lib.Dec.{leb}
-use lib.ListN.{set, drop, length, replicate}
+use lib.ListN.{set, length, replicate}
 use Rattle.lists.specs.Choice.{pick}
 use Rattle.lists.specs.Places.{nth}
 use Rattle.lists.specs.Refusals.{refusal, _orRefuse_}
 use Rattle.words.specs.Bytes.{bytesOf}
-use Rattle.words.specs.Wrap.{wrapped, complement}
 use Rattle.plan.specs.declared.Guest.{Guest}
 use Rattle.plan.specs.declared.Refusal.{Refusal}
+use Rattle.plan.specs.Records.{runOf, everyOf, deadlineOf}
 use Rattle.plan.specs.Marks.{liveMarks}
 use Rattle.plan.specs.Server.{saysDeferrable}
 use Rattle.plan.specs.Ranges.{within, guestOk, tasksOk}
 use Rattle.plan.specs.First.{refused}
-use Rattle.block.specs.Layout.{blockSize, blockWords, kindPlaceWord, plainKind, extendedKind, deferrableServer, lastPlace, idWord, capacityWord, periodWord, tasksChargeWord, marksServerWord, runWord, everyWord, deadlineWord, checkWord, halves}
+use Rattle.block.specs.Layout.{blockSize, blockWords, kindPlaceWord, plainKind, extendedKind, deferrableServer, lastPlace, idWord, capacityWord, periodWord, tasksChargeWord, marksServerWord, firstTask, halves}
+use Rattle.blockparts.specs.Parts.{withEntries, withCheck, writtenBy}
 
 -- The number that is written for a record's number of its server.
 abbrev pub serverOf : (deferrable : ℕ) → ℕ
@@ -44,23 +45,10 @@ withHead g place x =
     periodWord (g .period))
     tasksChargeWord (halves (g .tasks) (g .charge))
 
--- Words x with entry i put in.
-unfoldable pub withEntry : ℕ → (run every deadline : ℕ) → List ℕ → List ℕ
-withEntry i run every deadline x = set (set (set x (runWord i) run) (everyWord i) every) (deadlineWord i) deadline
-
--- Words x with the first n entries put in, taken from the tasks' columns.
-unfoldable pub withEntries : (run every deadline : List ℕ) → ℕ → List ℕ → List ℕ
-withEntries run every deadline zero x = x
-withEntries run every deadline (suc n) x =
-    withEntry n (nth run n) (nth every n) (nth deadline n) (withEntries run every deadline n x)
-
 -- The block's words but for the check: the head, the guest's entries, and zeros everywhere else.
 unfoldable pub wordsOf : Guest → (place : ℕ) → List ℕ
-wordsOf g place = withEntries (g .run) (g .every) (g .deadline) (g .tasks) (withHead g place (replicate blockWords 0))
-
--- Words x with the check put in, the wrapping complement of the rest.
-unfoldable pub withCheck : List ℕ → List ℕ
-withCheck x = set x checkWord (complement (wrapped (nth x) checkWord))
+wordsOf g place =
+    withEntries firstTask (runOf g) (everyOf g) (deadlineOf g) (g .tasks) (withHead g place (replicate blockWords 0))
 
 -- A guest's block at a place.
 unfoldable pub blockOf : Guest → (place : ℕ) → List ℕ
@@ -83,11 +71,6 @@ withPlace number place = refused number (pick (within 2 6 number) place 0)
 -- The writer's refusal.
 abbrev pub writeRefusal : Guest → (place size : ℕ) → Refusal
 writeRefusal g place size = withPlace (writeNumber g place size) place
-
--- The lent bytes: the block and what stood behind it, or on a refusal what stood there.
-unfoldable pub writtenBy : (number : ℕ) → (block before : List ℕ) → List ℕ
-writtenBy zero block before = block ++ drop blockSize before
-writtenBy (suc n) block before = before
 
 -- The lent bytes after the writer.
 abbrev pub written : Guest → (place : ℕ) → List ℕ → List ℕ

@@ -1,13 +1,13 @@
 // A block written: the record tested, and its words put straight into the lent buffer.
 ghost use mathlib.Core.Path.{_≡_};
 ghost use mathlib.Core.List.{_++_};
-ghost use Prim.Native.Nat.{_≤_, _<_};
+ghost use Prim.Native.Nat.{_≤_};
 ghost use lib.ListN.{length, replicate, drop};
 ghost use Rattle.lists.specs.Places.{nth};
 ghost use Rattle.words.specs.Bytes.{withWord, bytesOf};
 ghost use Rattle.plan.specs.Marks.{marksOf};
 ghost use Rattle.plan.specs.Ranges.{mostTasks};
-ghost use Rattle.block.specs.Layout.{blockSize, blockWords, kindPlaceWord, extendedKind, deferrableServer, lastPlace, marksServerWord, runWord, everyWord, deadlineWord, halves};
+ghost use Rattle.block.specs.Layout.{blockSize, blockWords, kindPlaceWord, extendedKind, deferrableServer, lastPlace, marksServerWord, halves};
 ghost use Rattle.blockwriter.specs.Writing.{serverOf, kindFor, withHead, wordsOf, blockOf, writeNumber};
 use block::layout;
 use plan::Guest;
@@ -92,20 +92,6 @@ fn put_head(g: Guest, place: u32, buf: &mut [u8])
     words::put_word(buf, layout::TASKS_CHARGE, tasks_charge);
 }
 
-// Entry i put in.
-fn put_entry(buf: &mut [u8], i: usize, run: u32, every: u32, deadline: u32)
-    requires { ⌜ (blockSize ≤ length (now buf)) × (i < mostTasks) ⌝ }
-    ensures { λ _. ⌜
-        now (buf .exit)
-        ≡ withWord (withWord (withWord (now (buf .entry)) (runWord i) run) (everyWord i) every)
-        (deadlineWord i) deadline
-        ⌝ }
-{
-    words::put_word(buf, layout::RUN + layout::ENTRY * i, run);
-    words::put_word(buf, layout::EVERY + layout::ENTRY * i, every);
-    words::put_word(buf, layout::DEADLINE + layout::ENTRY * i, deadline);
-}
-
 // The head and the guest's entries put in: the block's words but for the check.
 fn put_entries(g: Guest, place: u32, buf: &mut [u8])
     requires { ⌜ (blockSize ≤ length (now buf)) × ((place ≤ lastPlace) × (g .tasks ≤ mostTasks)) ⌝ }
@@ -120,7 +106,7 @@ fn put_entries(g: Guest, place: u32, buf: &mut [u8])
     let n = g.tasks as usize;
     let mut i: usize = 0;
     while i < n {
-        put_entry(buf, i, run[i], every[i], deadline[i]);
+        blockparts::put_entry(buf, layout::RUN, i, run[i], every[i], deadline[i]);
         i += 1;
     }
 }
@@ -131,6 +117,5 @@ pub fn put_block(g: Guest, place: u32, buf: &mut [u8])
     ensures { λ _. ⌜ now (buf .exit) ≡ blockOf g place ++ drop blockSize (now (buf .entry)) ⌝ }
 {
     put_entries(g, place, buf);
-    let sum = words::sum_words(buf, layout::CHECK);
-    words::put_word(buf, layout::CHECK, words::complement_of(sum));
+    blockparts::put_check(buf);
 }

@@ -1,6 +1,6 @@
 // Amendments: the plan in hand as a sheet, tried against a standing plan.
-use crate::say;
 use capacity::CapacityAnswer;
+use casework::say;
 use draft::text::Row;
 use plan::Guest;
 use plan::Plan;

@@ -1,6 +1,6 @@
 // The dispatcher's calls, on states that its own calls gave and on states with a number out of place.
-use crate::say;
 use crate::sheets;
+use casework::say;
 use dispatcher::Answer;
 use dispatcher::Dispatcher;
 use draft::text::Row;

@@ -1,7 +1,7 @@
 // The plan's blocks as the writer writes them: printed, cut short, damaged, searched.
-use crate::damage;
-use crate::say;
 use block::layout;
+use casework::damage;
+use casework::say;
 use draft::text::Row;
 use plan::Guest;
 use plan::Plan;

@@ -1,6 +1,6 @@
 // The plan's records handed over: verdicts, acceptance and the smallest capacity.
-use crate::say;
 use capacity::CapacityAnswer;
+use casework::say;
 use draft::text::Row;
 use plan::Plan;
 use show::Line;

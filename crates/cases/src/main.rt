@@ -9,11 +9,10 @@ use draft::text::Row;
 use plan::Plan;
 
 mod amending;
-mod damage;
 mod dispatching;
+mod echo;
 mod files;
 mod judging;
-mod say;
 mod sheets;
 
 // The plan with these marks for the guest at a place, also past its tasks.
@@ -58,7 +57,7 @@ fn kept(standing: Plan, p: Plan, row: Row) -> Plan {
 
 // The dispatcher's state after a line; what the line asks is asked, and the answer ends the line.
 fn asked(standing: Plan, p: Plan, d: Dispatcher, row: Row) -> Dispatcher {
-    say::end(row);
+    echo::end(row);
     files::ask(p, row);
     judging::ask(p, row);
     amending::ask(standing, p, row);
@@ -79,7 +78,7 @@ fn lines(text: &[u8]) {
             row = text::blank_row();
         } else {
             row = text::with_byte(row, b);
-            say::byte(row, b);
+            echo::byte(row, b);
         }
     }
 }

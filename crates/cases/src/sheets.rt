@@ -1,5 +1,5 @@
 // Sheets of releases, handed in with places for their answers.
-use crate::say;
+use casework::say;
 use dispatcher::Dispatcher;
 use draft::text::Row;
 

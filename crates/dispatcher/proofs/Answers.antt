@@ -14,13 +14,14 @@ use Rattle.lists.specs.Choice.{pick}
 use Rattle.lists.specs.Places.{nth, upTo}
 use Rattle.plan.specs.declared.Plan.{Plan}
 use Rattle.plan.specs.Records.{guestAt, deadlineOf}
+use Rattle.margins.specs.Margin.{marginOf}
 use Rattle.dispatcher.specs.declared.Dispatcher.{Dispatcher}
 use Rattle.steps.specs.declared.Turn.{Turn}
 use Rattle.dispatcher.specs.declared.Answer.the-variants.{Nobody, Idled, Worked, Finished}
 use Rattle.arrays.specs.Place.{placeAt}
 use Rattle.dispatcher.specs.State.{guestIn, restAt}
 use Rattle.dispatcher.specs.Tick.{firstTask, holder, isHeld, worker, isWorked, ageAfter}
-use Rattle.dispatcher.specs.Answer.{marginOf, answerBy, answer, finishes}
+use Rattle.dispatcher.specs.Answer.{answerBy, answer, finishes}
 use Rattle.dispatcher.specs.Lent.{turnBy, turn, Telling, Ending}
 use Rattle.arrays.specs.Parts.{grown, hasRun}
 use Rattle.lists.proofs.All.{and-right}

@@ -7,7 +7,6 @@ pub mod Claims
 pub mod Lent
 pub mod Fresh
 pub mod Release
-pub mod Margin
 pub mod Run
 pub mod Entries
 pub mod Promises

@@ -2,19 +2,15 @@
 use mathlib.Core.Bool.{Bool, true, false}
 use Prim.Native.Nat.{ℕ, _+_}
 use lib.Dec.{ltb}
-use lib.IntN.{ℤ, pos, _-ℤ_}
 use Rattle.lists.specs.Places.{nth}
 use Rattle.plan.specs.Records.{deadlineOf}
+use Rattle.margins.specs.Margin.{marginOf}
 use Rattle.dispatcher.specs.declared.Dispatcher.{Dispatcher}
 use Rattle.dispatcher.specs.declared.Answer.{Answer}
 use Rattle.dispatcher.specs.declared.Answer.the-variants.{Silent, Nobody, Idled, Worked, Finished}
 use Rattle.arrays.specs.Place.{placeAt}
 use Rattle.dispatcher.specs.State.{guestIn, restAt}
 use Rattle.dispatcher.specs.Tick.{holder, isHeld, worker, isWorked, ageAfter}
-
--- the deadline less the age, negative when late
-unfoldable pub marginOf : (deadline age : ℕ) → ℤ
-marginOf deadline age = pos deadline -ℤ pos age
 
 -- the id of the guest that has the tick
 abbrev pub holderId : Dispatcher → ℕ

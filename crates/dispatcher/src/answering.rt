@@ -1,9 +1,7 @@
 // The answer of a tick, made from what its step noted.
 ghost use mathlib.Core.Path.{_≡_};
-ghost use Prim.Native.Nat.{_≤_};
-ghost use Rattle.plan.specs.Ranges.{longest};
 ghost use Rattle.dispatcher.specs.declared.Dispatcher.{Dispatcher};
-ghost use Rattle.dispatcher.specs.Answer.{marginOf, answer};
+ghost use Rattle.dispatcher.specs.Answer.{answer};
 ghost use Rattle.dispatcher.specs.Lent.{Telling, Ending};
 use crate::Answer;
 use plan::Plan;
@@ -27,14 +25,6 @@ pub fn unfinished(ids: &[u32; 16], n: usize, turn: Turn) -> Answer
     Answer::Worked(id, (t + 1) as u32)
 }
 
-// The deadline less the age: both are at most 1,000,000, so the difference is exact.
-fn margin(deadline: u32, age: u32) -> i32
-    requires { ⌜ (deadline ≤ longest) × (age ≤ longest) ⌝ }
-    ensures { λ r. ⌜ r ≡ marginOf deadline age ⌝ }
-{
-    (deadline as i32) - (age as i32)
-}
-
 // Who had a tick that finished a job, with the job's age and margin.
 pub fn finished(plan: Plan, turn: Turn, age: &[u32; 128]) -> Answer
     requires { ⌜ ((d : Dispatcher) × Ending d plan turn (now age)) ⌝ }
@@ -48,6 +38,6 @@ pub fn finished(plan: Plan, turn: Turn, age: &[u32; 128]) -> Answer
         guest: g.id,
         task: (t + 1) as u32,
         age: grown,
-        margin: margin(g.deadline[t], grown),
+        margin: margins::margin_of(g.deadline[t], grown),
     }
 }

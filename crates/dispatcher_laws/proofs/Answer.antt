@@ -1,51 +1,17 @@
--- Laws of a tick's answer: what it is by who had the tick, and that the older a job, the less its margin. Assumes
--- nothing.
-use mathlib.Core.Path.{_≡_, ap, refl}
-use mathlib.Core.Bool.{Bool, cond}
-use Prim.Native.Nat.{ℕ, zero, suc, _+_, _-_, _≤_, _<_}
-use native.Mathlib.Decide.{decLe}
-use native.Mathlib.Omega.{arith}
-use lib.Dec.{le→leb}
-use lib.IntN.{pos, negsuc}
-use lib.Signed.{_≤ℤ_}
+-- Laws of a tick's answer: what it is by who had the tick. Assumes nothing.
+use mathlib.Core.Path.{_≡_, refl}
+use Prim.Native.Nat.{ℕ, _+_, _≤_, _<_}
 use borrow.Author.Tests.{le-ltb, lt-ltb}
-use Rattle.dispatcher.specs.Answer.{marginOf, holderId, answerBy, answer}
 use Rattle.plan.specs.Records.{deadlineOf}
+use Rattle.margins.specs.Margin.{marginOf}
 use Rattle.dispatcher.specs.declared.Dispatcher.{Dispatcher}
 use Rattle.dispatcher.specs.declared.Answer.{Answer}
 use Rattle.dispatcher.specs.declared.Answer.the-variants.{Nobody, Idled, Worked, Finished}
+use Rattle.dispatcher.specs.Answer.{holderId, answerBy, answer}
 use Rattle.dispatcher.specs.State.{guestIn, restAt, ageAt}
 use Rattle.dispatcher.specs.Tick.{holder, worker, next}
 use Rattle.dispatcher_laws.proofs.Tick.{is-held, not-held, is-worked, not-worked}
 
--- ---- the margin
--- The margin of a job that is not late is what the deadline has left.
-pub margin-left : (deadline age : ℕ) → age ≤ deadline → marginOf deadline age ≡ pos (deadline - age)
-unfolding marginOf
-margin-left deadline zero h = ap pos (let e : deadline + 0 ≡ deadline - 0 = omega arith in e)
-margin-left deadline (suc age) h = ap (λ (b : Bool). cond b (negsuc (suc age - suc deadline)) (pos (deadline - suc age))) (le-ltb deadline (suc age) h)
-
--- The margin of a late job is negative.
-margin-late : (deadline age : ℕ) → deadline < age → marginOf deadline age ≡ negsuc (age - suc deadline)
-unfolding marginOf
-margin-late deadline zero h = absurd (omega arith)
-margin-late deadline (suc age) h = ap (λ (b : Bool). cond b (negsuc (suc age - suc deadline)) (pos (deadline - suc age))) (lt-ltb deadline (suc age) h)
-
--- A job of at most R ticks has no less margin than one of R ticks.
-pub margin-falls : (deadline age R : ℕ) → age ≤ R → marginOf deadline R ≤ℤ marginOf deadline age
-margin-falls deadline age R h =
-    elim (decLe R deadline) [
-      | yes l ↦ rw (margin-left deadline R l, margin-left deadline age (omega arith))
-          (record { le = le→leb (deadline - R) (deadline - age) (omega arith) })
-      | no l ↦
-          elim (decLe age deadline) [
-            | yes m ↦ rw (margin-late deadline R (omega arith), margin-left deadline age m) (record { le = tt })
-            | no m ↦ rw (margin-late deadline R (omega arith), margin-late deadline age (omega arith))
-                (record { le = le→leb (age - suc deadline) (R - suc deadline) (omega arith) })
-          ]
-    ]
-
--- ---- who had the tick
 -- the answer that task t of guest k is finished by this tick
 abbrev pub finishedBy : Dispatcher → (k t : ℕ) → Answer
 finishedBy d k t =

@@ -9,12 +9,13 @@ use native.Mathlib.Numerals.{add-one}
 use lib.ListN.{length, length-append}
 use Rattle.plan.specs.declared.Plan.{Plan}
 use Rattle.plan.specs.Records.{guestAt, deadlineOf}
+use Rattle.margins.specs.Margin.{marginOf}
 use Rattle.dispatcher.specs.declared.Dispatcher.{Dispatcher}
 use Rattle.dispatcher.specs.declared.Answer.{Answer}
 use Rattle.dispatcher.specs.declared.Answer.the-variants.{Finished}
 use Rattle.dispatcher.specs.State.{guestIn, restAt, ageAt}
 use Rattle.dispatcher.specs.Tick.{holder, worker, next}
-use Rattle.dispatcher.specs.Answer.{marginOf, answer}
+use Rattle.dispatcher.specs.Answer.{answer}
 use Rattle.dispatcher.specs.Release.{taken}
 use Rattle.windows.specs.TaskTick.{TaskTick}
 use Rattle.equation.specs.System.{responseOf}

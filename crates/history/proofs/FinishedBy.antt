@@ -7,9 +7,10 @@ use native.Mathlib.Omega.{arith}
 use lib.ListN.{length}
 use Rattle.plan.specs.declared.Plan.{Plan}
 use Rattle.plan.specs.Place.{placeOf}
+use Rattle.margins.specs.Margin.{marginOf}
 use Rattle.dispatcher.specs.declared.Dispatcher.{Dispatcher}
 use Rattle.dispatcher.specs.declared.Answer.the-variants.{Finished}
-use Rattle.dispatcher.specs.Answer.{marginOf, finishes}
+use Rattle.dispatcher.specs.Answer.{finishes}
 use Rattle.dispatcher.specs.Release.{release}
 use Rattle.verdict.specs.Quoted.{Quoted}
 use Rattle.equation.specs.System.{responseOf}
@@ -25,7 +26,7 @@ use Rattle.history.proofs.Finished.Job.{pending, ended}
 use Rattle.history.proofs.Told.{finish-told}
 use Rattle.verdict_laws.proofs.Quoted.{Judged, quoted-judged}
 use Rattle.history.proofs.Clocks.{sound-start, sound-reached, new-job}
-use Rattle.dispatcher_laws.proofs.Answer.{margin-falls}
+use Rattle.margins.proofs.Margin.{margin-falls}
 use Rattle.dispatcher_laws.proofs.Fresh.{fresh-idle}
 use Rattle.dispatcher_laws.proofs.Release.{taken-here}
 use Rattle.dispatcher_laws.proofs.Sound.{Sound, free-task}

@@ -8,12 +8,13 @@ use lib.IntN.{ℤ}
 use lib.ListN.{length, length-append, List·getD-eq-default}
 use Rattle.plan.specs.declared.Plan.{Plan}
 use Rattle.plan.specs.Records.{guestAt, deadlineOf}
+use Rattle.margins.specs.Margin.{marginOf}
 use Rattle.dispatcher.specs.declared.Dispatcher.{Dispatcher}
 use Rattle.dispatcher.specs.declared.Answer.{Answer}
 use Rattle.dispatcher.specs.declared.Answer.the-variants.{Silent, Nobody, Idled, Worked, Finished}
 use Rattle.dispatcher.specs.State.{guestIn, restAt, ageAt}
 use Rattle.dispatcher.specs.Tick.{holder, worker, next}
-use Rattle.dispatcher.specs.Answer.{marginOf, holderId, answer}
+use Rattle.dispatcher.specs.Answer.{holderId, answer}
 use Rattle.dispatcher.specs.Release.{taken}
 use Rattle.equation.specs.System.{responseOf}
 use Rattle.history.specs.Share.{answerAt}

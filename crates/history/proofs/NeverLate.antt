@@ -6,8 +6,9 @@ use native.Mathlib.Omega.{arith}
 use lib.IntN.{ℤ, pos}
 use Rattle.plan.specs.declared.Plan.{Plan}
 use Rattle.plan.specs.Place.{placeOf}
+use Rattle.margins.specs.Margin.{marginOf}
 use Rattle.dispatcher.specs.declared.Answer.the-variants.{Silent, Finished}
-use Rattle.dispatcher.specs.Answer.{marginOf, finishes}
+use Rattle.dispatcher.specs.Answer.{finishes}
 use Rattle.equation.specs.System.{responseOf}
 use Rattle.verdict.specs.declared.TaskVerdict.the-variants.{Met}
 use Rattle.verdict.specs.Verdict.{taskVerdict}
@@ -25,7 +26,7 @@ use Rattle.verdict_laws.proofs.Quoted.{Judged, quoted-judged}
 use Rattle.verdict.proofs.Quoted.{met-quoted}
 use Rattle.verdict_laws.proofs.Tasks.{judged-means}
 use Rattle.history.proofs.FinishedBy.{kept-reached}
-use Rattle.dispatcher_laws.proofs.Answer.{margin-left}
+use Rattle.margins.proofs.Margin.{margin-left}
 
 module _ (p : Plan) (id number R : ℕ) (quoted : Quoted p id number R) (cs : List Call) (c : Call) where
   -- what the verdict says of the task

@@ -7,7 +7,7 @@ use lib.Signed.{_≤ℤ_}
 use Rattle.dispatcher.specs.declared.Dispatcher.{Dispatcher}
 use Rattle.dispatcher.specs.declared.Answer.{Answer}
 use Rattle.dispatcher.specs.declared.Answer.the-variants.{Finished}
-use Rattle.dispatcher.specs.Answer.{marginOf}
+use Rattle.margins.specs.Margin.{marginOf}
 use Rattle.history.specs.Calls.{Call, play, ticksOf, ticksIn, answerOf}
 
 -- In the history ds from the state d one of the calls hands back the answer a; with its ticks n ticks are done.

@@ -14,12 +14,13 @@ use Rattle.dispatcher.specs.declared.Dispatcher.{Dispatcher}
 use Rattle.dispatcher.specs.declared.Answer.the-variants.{Idled, Worked}
 use Rattle.dispatcher.specs.State.{guestIn, restAt}
 use Rattle.dispatcher.specs.Tick.{holder, isHeld, worker, isWorked}
-use Rattle.dispatcher.specs.Answer.{marginOf, holderId, workerNumber, workerAge, answerBy, answer}
+use Rattle.dispatcher.specs.Answer.{holderId, workerNumber, workerAge, answerBy, answer}
 use Rattle.verdict_laws.specs.Guests.{There}
 use Rattle.independence.specs.Event.{Event, elsewhere, idled, worked, finished}
 use Rattle.independence.specs.View.{told}
 use Rattle.independence.specs.SameFor.{SameFor}
 use Rattle.plan.specs.Records.{deadlineOf}
+use Rattle.margins.specs.Margin.{marginOf}
 use Rattle.verdict_laws.proofs.Guests.{there-place}
 use Rattle.dispatcher_laws.proofs.Answer.{finishedBy, answer-idled, answer-worked, answer-finished}
 use Rattle.dispatcher_laws.proofs.Sound.{Sound}

@@ -2,10 +2,9 @@
 use mathlib.Core.Path.{_≡_, refl, _∙_}
 use mathlib.Core.List.{List}
 use Prim.Native.Nat.{ℕ, _+_, _≤_, _<_}
-use native.Mathlib.Decide.{ℕ-discrete, decLt}
+use native.Mathlib.Decide.{decLt}
 use native.Mathlib.Omega.{arith}
 use lib.ListN.{length, set, length-set}
-use lib.Seq.{getD-set-same, getD-set-other}
 use Rattle.lists.specs.Places.{nth}
 use Rattle.plan.specs.declared.Plan.{Plan}
 use Rattle.plan.specs.Records.{guestAt, everyOf}
@@ -13,6 +12,7 @@ use Rattle.plan.specs.Charge.{chargedRun, charged}
 use Rattle.arrays.specs.Place.{placeAt}
 use Rattle.jobs.specs.Rows.{ShortRuns, Long, RowTo, JobsOf}
 use Rattle.plan.proofs.Order.{PlanIn}
+use Rattle.arrays.proofs.Place.{row-grown, row-stands}
 
 module _ (run every : List ℕ) (charge k : ℕ) (runs₀ periods₀ : List ℕ) where
   -- No task of the row is there yet.
@@ -25,23 +25,6 @@ module _ (run every : List ℕ) (charge k : ℕ) (runs₀ periods₀ : List ℕ)
     long = L;
   }
 
-  -- One number more in a column of the row: places up to it.
-  grown :
-      (f : ℕ → ℕ) (l : List ℕ) (n v : ℕ)
-      → placeAt k n < length l
-      → v ≡ f n
-      → ((t : ℕ) → t < n → nth l (placeAt k t) ≡ f t)
-      → (t : ℕ) → t < n + 1 → nth (set l (placeAt k n) v) (placeAt k t) ≡ f t
-  grown f l n v inside e H t h =
-      elim (ℕ-discrete t n) [
-        | yes q ↦ rw q (getD-set-same l (placeAt k n) v 0 inside ∙ e)
-        | no q ↦ getD-set-other l (placeAt k n) (placeAt k t) v 0 (λ z. q (omega arith)) ∙ H t (omega arith)
-      ]
-
-  -- Places before the row stand.
-  stands : (l : List ℕ) (n v m : ℕ) → m < placeAt k 0 → nth (set l (placeAt k n) v) m ≡ nth l m
-  stands l n v m h = getD-set-other l (placeAt k n) m v 0 (λ z. omega arith)
-
   -- One task more.
   pub row-next :
       {n r e : ℕ} {runs periods : List ℕ}
@@ -51,10 +34,10 @@ module _ (run every : List ℕ) (charge k : ℕ) (runs₀ periods₀ : List ℕ)
       → RowTo run every charge k n runs₀ periods₀ runs periods
       → RowTo run every charge k (n + 1) runs₀ periods₀ (set runs (placeAt k n) r) (set periods (placeAt k n) e)
   row-next {n} {r} {e} {runs} {periods} a p q R = record {
-    runs-in = grown (λ t. chargedRun (nth run t) charge) runs n r (rw (R .long .runs-long) a) p (R .runs-in);
-    periods-in = grown (nth every) periods n e (rw (R .long .periods-long) a) q (R .periods-in);
-    runs-kept = λ m h. stands runs n r m h ∙ R .runs-kept m h;
-    periods-kept = λ m h. stands periods n e m h ∙ R .periods-kept m h;
+    runs-in = row-grown k (λ t. chargedRun (nth run t) charge) runs n r (rw (R .long .runs-long) a) p (R .runs-in);
+    periods-in = row-grown k (nth every) periods n e (rw (R .long .periods-long) a) q (R .periods-in);
+    runs-kept = λ m h. row-stands k runs n r m h ∙ R .runs-kept m h;
+    periods-kept = λ m h. row-stands k periods n e m h ∙ R .periods-kept m h;
     long = record {
       runs-long = length-set runs (placeAt k n) r ∙ R .long .runs-long;
       periods-long = length-set periods (placeAt k n) e ∙ R .long .periods-long;

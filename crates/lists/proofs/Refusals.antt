@@ -1,7 +1,7 @@
 -- Laws of an order of refusals: how code that tests in that order comes to its number. Assumes nothing.
 use mathlib.Core.Path.{_≡_, refl}
 use mathlib.Core.Bool.{Bool, true, false}
-use mathlib.Core.List.{List, [], _∷_}
+use mathlib.Core.List.{List, [], _∷_, _++_}
 use Prim.Native.Nat.{ℕ, _<_}
 use native.Mathlib.Omega.{arith}
 use Rattle.lists.specs.Refusals.{Test, unless, refusal, _orRefuse_}
@@ -35,3 +35,13 @@ passed-on false n m ts d e = absurd (d e)
 pub passed :
     (b : Bool) (n : ℕ) (ts : List Test) → 0 < n → refusal (b orRefuse n ∷ ts) ≡ 0 → (b ≡ true) × (refusal ts ≡ 0)
 passed b n ts p e = passed-on b n 0 ts (λ q. omega arith) e
+
+-- Where tests refuse, those after them do not matter.
+pub tests-first : (xs ys : List Test) → 0 < refusal xs → refusal (xs ++ ys) ≡ refusal xs
+unfolding refusal unless
+tests-first [] ys h = absurd (omega arith)
+tests-first (t ∷ ts) ys h = first-by (t .passes) (t .number) (tests-first ts ys) h
+  where
+    first-by : (b : Bool) (n : ℕ) {x y : ℕ} → (0 < x → y ≡ x) → 0 < unless b n x → unless b n y ≡ unless b n x
+    first-by true n go h = go h
+    first-by false n go h = refl

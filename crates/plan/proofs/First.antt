@@ -93,6 +93,56 @@ first-fine f zero k h = refl
 first-fine f (suc m) k h =
     rw (h k (omega arith) (omega arith)) (first-fine f m (suc k) (λ z l b. h z (omega arith) (omega arith)))
 
+-- Refusals come one after the other, however they are grouped.
+or-grouped :
+    (x k : ℕ) (r s : Refusal)
+    → orElse x k (orElse (r .number) (r .place) s) ≡ orElse (orElse x k r .number) (orElse x k r .place) s
+unfolding orElse
+or-grouped zero k r s = refl
+or-grouped (suc n) k r s = refl
+
+-- One place more is looked at last.
+first-more :
+    (f : ℕ → ℕ) (m k : ℕ)
+    → firstRefused f (suc m) k
+    ≡ orElse (firstRefused f m k .number) (firstRefused f m k .place) (orElse (f (k + m)) (k + m) fine)
+unfolding firstRefused orElse
+first-more f zero k = let e : k + 0 ≡ k = omega arith in rw e refl
+first-more f (suc m) k =
+    let e : suc k + m ≡ k + suc m = omega arith in
+    ap (orElse (f k) k) (rw e at (first-more f m (suc k)))
+    ∙ or-grouped (f k) k (firstRefused f m (suc k)) (orElse (f (k + suc m)) (k + suc m) fine)
+
+-- A loop that goes on past what is refused, and keeps the first refusal of the n places before.
+module _ (f : ℕ → ℕ) (n : ℕ) where
+  abbrev so-far : Refusal
+  so-far = firstRefused f n 0
+
+  last-place : firstRefused f (n + 1) 0 ≡ orElse (so-far .number) (so-far .place) (orElse (f n) n fine)
+  last-place = let e : 0 + n ≡ n = omega arith in rw (add-one, first-more f n 0, e) refl
+
+  -- An earlier place is refused: it stays the first.
+  pub first-already : 0 < firstRefused f n 0 .number → firstRefused f (n + 1) 0 ≡ firstRefused f n 0
+  first-already h = last-place ∙ sym (refused-here (so-far .number) (so-far .place) _ h)
+
+  -- None was refused: place n decides.
+  none-before : firstRefused f n 0 .number ≤ 0 → firstRefused f (n + 1) 0 ≡ orElse (f n) n fine
+  none-before h = last-place ∙ sym (or-after (so-far .number) (so-far .place) _ h)
+
+  -- None was refused, and place n is: it is the first.
+  pub first-new : firstRefused f n 0 .number ≤ 0 → 0 < f n → firstRefused f (n + 1) 0 ≡ refused (f n) n
+  first-new h l = none-before h ∙ sym (refused-here (f n) n fine l)
+
+  -- Place n is not refused: the first is as it was.
+  pub first-passes : f n ≤ 0 → firstRefused f (n + 1) 0 ≡ firstRefused f n 0
+  first-passes l =
+      elim (decLe (so-far .number) 0) [
+        | yes h ↦
+            none-before h ∙ sym (or-after (f n) n fine l)
+            ∙ sym (first-fine f n 0 (λ z a b. none-refused f n 0 (omega arith) z a b))
+        | no h ↦ first-already (omega arith)
+      ]
+
 -- an answer that is a refusal or else v
 module _ {A : Type 0} (refuse : ℕ → ℕ → A) where
   -- a number above 0 refuses

@@ -2,8 +2,8 @@
 -- Assumes nothing.
 use mathlib.Core.Path.{_≡_, refl, sym, ap, _∙_}
 use mathlib.Core.Bool.{Bool, true, _&&_}
-use mathlib.Core.List.{List, [], append-nil}
-use Prim.Native.Nat.{ℕ, _+_, _-_, _≤_, _<_}
+use mathlib.Core.List.{List}
+use Prim.Native.Nat.{ℕ, _≤_, _<_}
 use native.Mathlib.Decide.{decLt}
 use native.Mathlib.Omega.{arith}
 use lib.ListN.{length}
@@ -12,29 +12,27 @@ use borrow.Author.Tests.{eq-eqb, lt-ltb, le-ltb}
 use Rattle.plan.specs.Ranges.{mostTasks, guestOk, tasksOk}
 use Rattle.plan.specs.Marks.{liveMarks}
 use Rattle.block.specs.Layout.{blockSize, blockWords, kindPlaceWord, lastPlace, idWord, capacityWord, periodWord, tasksChargeWord, marksServerWord, spareFrom, spareTo, runWord, everyWord, deadlineWord, unusedFrom, checkWord, highHalf, halves}
-use Rattle.words.specs.Word.{word}
-use Rattle.words.specs.Bytes.{bytesOf}
-use Rattle.block.specs.Reading.{placeIn, taskCount, column, guestOf, sumsToZero, kindOk, ownPlace, zeroBetween, zerosOk, blockNumber}
+use Rattle.words.specs.Word.{wordWrap, word}
+use Rattle.words.specs.Bytes.{Below}
+use Rattle.block.specs.Reading.{placeIn, taskCount, column, guestOf, sumsToZero, kindOk, ownPlace, zerosOk, blockNumber}
 use Rattle.lists.specs.All.{allTo}
 use Rattle.lists.specs.Choice.{pick}
 use Rattle.lists.specs.Places.{nth}
-use Rattle.lists.specs.Sum.{sumTo}
-use Rattle.words.specs.Wrap.{wrapped}
 use Rattle.plan.specs.declared.Guest.{Guest}
-use Rattle.blockwriter.specs.Writing.{serverFor, kindFor, wordsOf, withCheck, blockOf}
+use Rattle.blockparts.specs.Parts.{withCheck}
+use Rattle.blockwriter.specs.Writing.{serverFor, kindFor, wordsOf, blockOf}
 use Rattle.planfile_laws.specs.File.{firstTasks, clearedGuest}
 use Rattle.planfile_laws.specs.Fits.{GuestInTypes}
-use Rattle.lists.proofs.All.{and-left, and-right, and-true, all-by, all-ext}
-use Rattle.lists.proofs.Sum.{sum-last, sum-same}
+use Rattle.lists.proofs.All.{and-left, and-right, and-true, all-ext}
 use Rattle.lists.proofs.Table.{table-at, table-ext}
-use Rattle.words.proofs.Bytes.{word-bytesOf, length-bytesOf}
-use Rattle.words.proofs.Wrap.{complement-sum}
+use Rattle.words.proofs.Bytes.{length-bytesOf}
 use Rattle.plan.proofs.MarksLaws.{marks-same, marks-below}
 use Rattle.plan.proofs.RangesLaws.{head-says}
-use Rattle.block.proofs.Reading.{none}
+use Rattle.block.proofs.Reading.{none, zeros-pass}
+use Rattle.blockparts.proofs.Words.{word-back, sums-back}
 use Rattle.blockwriter.proofs.Writing.{words-length}
 use Rattle.planfile_laws.proofs.Marks.{server-most, kind-most, Opened, marks-there, server-there, kind-passes, marks-pass}
-use Rattle.planfile_laws.proofs.Words.{WordsAt, words-at, words-fit, check-other, check-at, check-fits}
+use Rattle.planfile_laws.proofs.Words.{WordsAt, words-at, words-fit}
 
 -- A block has 512 bytes.
 pub block-length : (g : Guest) (p : ℕ) → length (blockOf g p) ≡ blockSize
@@ -49,27 +47,17 @@ module _ (g : Guest) (p : ℕ) (fits : GuestInTypes g) (low : p ≤ lastPlace) (
   written : WordsAt g p
   written = words-at g p few
 
-  -- Each word of the bytes is the one meant.
-  full-at : (k : ℕ) → k < blockWords → word (blockOf g p) k ≡ nth (withCheck (wordsOf g p)) k
-  unfolding blockOf
-  full-at k l =
-      rw (← append-nil (bytesOf (nth (withCheck (wordsOf g p))) blockWords))
-      (word-bytesOf (nth (withCheck (wordsOf g p))) blockWords [] k l
-      (check-fits (wordsOf g p) (words-fit g p fits low few) k))
+  fit : Below wordWrap (wordsOf g p)
+  fit = words-fit g p fits low few
 
+  -- Each word of the bytes is the one meant.
   at : (k : ℕ) → k < checkWord → word (blockOf g p) k ≡ nth (wordsOf g p) k
-  at k l = full-at k (omega arith) ∙ check-other (wordsOf g p) k l
+  unfolding blockOf
+  at = word-back (wordsOf g p) (words-length g p) fit
 
   sums : sumsToZero (blockOf g p) ≡ true
-  sums =
-      eq-eqb (wrapped (word (blockOf g p)) blockWords) 0
-      (rw (
-        sum-last (word (blockOf g p)) checkWord,
-        sum-same (word (blockOf g p)) (nth (wordsOf g p)) checkWord at,
-        full-at checkWord (omega arith),
-        check-at (wordsOf g p) (words-length g p),
-      )
-      (complement-sum (sumTo (nth (wordsOf g p)) checkWord)))
+  unfolding blockOf
+  sums = sums-back (wordsOf g p) (words-length g p) fit
 
   -- The number of tasks, the kind, the marks and the server are the guest's.
   count-is : taskCount (blockOf g p) ≡ g .tasks
@@ -124,15 +112,15 @@ module _ (g : Guest) (p : ℕ) (fits : GuestInTypes g) (low : p ≤ lastPlace) (
       let r =
       column-is runWord (g .run)
       (λ i l. entry-is i (runWord i) (nth (g .run) i) (omega arith)
-      (λ m. written .entry i m .run) (λ m. omega arith)) in
+      (λ m. written .entry i m .one) (λ m. omega arith)) in
       let e =
       column-is everyWord (g .every)
       (λ i l. entry-is i (everyWord i) (nth (g .every) i) (omega arith)
-      (λ m. written .entry i m .every) (λ m. omega arith)) in
+      (λ m. written .entry i m .two) (λ m. omega arith)) in
       let d =
       column-is deadlineWord (g .deadline)
       (λ i l. entry-is i (deadlineWord i) (nth (g .deadline) i) (omega arith)
-      (λ m. written .entry i m .deadline) (λ m. omega arith)) in
+      (λ m. written .entry i m .three) (λ m. omega arith)) in
       λ k.
       record {
         id = e1 k;
@@ -165,18 +153,14 @@ module _ (g : Guest) (p : ℕ) (fits : GuestInTypes g) (low : p ≤ lastPlace) (
       (λ i l. rw (marks-same (g .marks) (g .tasks) i l, first-at (g .every) i l) refl)
       ∙ and-right (allTo _ (g .tasks)) _ tasks)
 
-  zero-between : (from to : ℕ) → ((k : ℕ) → from ≤ k → k < to → word (blockOf g p) k ≡ 0)
-      → zeroBetween (blockOf g p) from to ≡ true
-  unfolding zeroBetween
-  zero-between from to h = all-by _ (to - from) (λ k l. eq-eqb _ _ (h (from + k) (omega arith) (omega arith)))
-
   zeros : zerosOk (blockOf g p) ≡ true
   zeros =
       and-true
       (and-true (marks-pass (blockOf g p) (liveMarks g) (serverFor g) opened)
-      (zero-between spareFrom spareTo (λ k h l. at k (omega arith) ∙ written .spare k h l)))
+      (zeros-pass (blockOf g p) spareFrom spareTo (λ k h l. at k (omega arith) ∙ written .spare k h l)))
       (rw count-is
-      (zero-between (unusedFrom (g .tasks)) checkWord (λ k h l. at k l ∙ written .unused k h (omega arith))))
+      (zeros-pass (blockOf g p) (unusedFrom (g .tasks)) checkWord
+      (λ k h l. at k l ∙ written .unused k h (omega arith))))
 
   -- What the reader says of what the writer writes.
   pub number-back : (new : Bool) → new ≡ true → blockNumber (blockOf g p) (ownPlace (blockOf g p) p) new ≡ 0

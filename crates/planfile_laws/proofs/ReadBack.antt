@@ -27,7 +27,8 @@ use Rattle.lists.proofs.Table.{table-ext}
 use Rattle.plan.proofs.RangesLaws.{TaskIn, HeadIn, GuestIn}
 use Rattle.plan.proofs.First.{first-fine}
 use Rattle.plan.proofs.Order.{PlanIn, plan-in}
-use Rattle.blockwriter.proofs.Writing.{none, by-none}
+use Rattle.blockparts.proofs.Parts.{by-none}
+use Rattle.blockwriter.proofs.Writing.{none}
 use Rattle.blockfile.proofs.File.{sized}
 use Rattle.planfile.proofs.Records.{reading, read-fine}
 use Rattle.planfile_laws.proofs.BlockBack.{block-length, number-back, guest-back}

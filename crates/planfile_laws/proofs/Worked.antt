@@ -18,7 +18,8 @@ use Rattle.plan.specs.First.{refused, fine, orElse, firstRefused}
 use Rattle.plan.specs.Order.{newId}
 use Rattle.block.specs.Layout.{blockSize, blockWords, kindPlaceWord, extendedKind, marksServerWord, halves}
 use Rattle.block.specs.Reading.{column, zeroBetween, marksOk, blockNumber}
-use Rattle.blockwriter.specs.Writing.{withKind, withHead, withEntry, withEntries, wordsOf, withCheck, blockOf}
+use Rattle.blockparts.specs.Parts.{withEntry, withEntries, withCheck}
+use Rattle.blockwriter.specs.Writing.{withKind, withHead, wordsOf, blockOf}
 use Rattle.blockfile.specs.File.{numberAt, sizedBy, blocksRefusal}
 use Rattle.worked.specs.Plans.{anyGuest, planOf, nine, A}
 use Rattle.blockfile.specs.Records.{recordsOf}

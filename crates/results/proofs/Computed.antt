@@ -21,6 +21,7 @@ use Rattle.plan.specs.Order.{newId, numberOf, guestNumber, countedBy, planRefus
 use Rattle.plan.specs.Place.{placeOf, hasGuest, hasTask}
 use Rattle.plan.specs.Server.{isDeferrable}
 use Rattle.plan.specs.Ranges.{headOk, taskOk, startOk, tasksOk}
+use Rattle.margins.specs.Margin.{marginOf}
 use Rattle.response.specs.Interference.{jitter, interference}
 use Rattle.response.specs.Guest.{guestResponse, fitted, fittedTo}
 use Rattle.response.specs.Task.{gap, taskRight, responseTo, limit, taskResponse}
@@ -32,7 +33,7 @@ use Rattle.dispatcher.specs.Valid.{tasksIn, guestInRange, taskInRange, rowOk, s
 use Rattle.dispatcher.specs.Fresh.{idle, startedBy, fresh}
 use Rattle.dispatcher.specs.Release.{taken, releaseNumber, releasedBy, release}
 use Rattle.dispatcher.specs.Tick.{lessAt, refilled, firstTask, claims, holder, isHeld, leftAfter, worker, isWorked, restAfter, ageAfter, waitAfter, positionAfter, next}
-use Rattle.dispatcher.specs.Answer.{marginOf, answerBy, answer, finishes}
+use Rattle.dispatcher.specs.Answer.{answerBy, answer, finishes}
 use Rattle.dispatcher.specs.Run.{runFrom, runFor}
 use Rattle.dispatcher.specs.Entries.{tickedBy, tick, ranBy, run}
 use Rattle.sheet.specs.Sheet.{stateAfter, answerTo, sheetNumber, sheetBy, sheet, answeredBy, answered}
@@ -44,6 +45,7 @@ use Rattle.history.specs.Named.{guestBy, boundBy, everyBy}
 use Rattle.verdict_laws.specs.Guests.{There}
 use Rattle.worked.specs.Plans.{A, A35, planB, planD, planE}
 use Rattle.amendment_laws.proofs.Worked.{answers-7}
+use Rattle.statement_laws.proofs.Worked as logs
 use Rattle.amendment_laws.proofs.Worked as pairs
 use Rattle.history.proofs.Times.{early-again, due-again}
 
@@ -162,6 +164,10 @@ computed = record {
     deferrable-both-bound-second = refl;
     deferrable-passed-over = refl;
     deferrable-works = refl;
+    told-line = logs.told-line;
+    first-line = logs.first-line;
+    second-line = logs.second-line;
+    second-passed = logs.second-passed;
   };
   there-A = record { order = refl; place = omega arith; named = refl };
   there-A35 = record { order = refl; place = omega arith; named = refl };

@@ -12,11 +12,12 @@ use Rattle.plan.specs.Order.{newId, numberOf, guestNumber, countedBy, planRefus
 use Rattle.plan.specs.Marks.{marked, mayStart}
 use Rattle.plan.specs.Place.{placeOf, hasGuest, hasTask}
 use Rattle.plan.specs.Ranges.{headOk, taskOk, startOk, tasksOk}
+use Rattle.margins.specs.Margin.{marginOf}
 use Rattle.dispatcher.specs.Valid.{tasksIn, guestInRange, taskInRange, rowOk, stateOk}
 use Rattle.dispatcher.specs.Fresh.{idle, startedBy, fresh}
 use Rattle.dispatcher.specs.Release.{taken, releaseNumber, releasedBy, release}
 use Rattle.dispatcher.specs.Tick.{lessAt, refilled, firstTask, claims, holder, isHeld, leftAfter, worker, isWorked, restAfter, ageAfter, waitAfter, positionAfter, next}
-use Rattle.dispatcher.specs.Answer.{marginOf, answerBy, answer, finishes}
+use Rattle.dispatcher.specs.Answer.{answerBy, answer, finishes}
 use Rattle.dispatcher.specs.Run.{runFrom, runFor}
 use Rattle.dispatcher.specs.Entries.{tickedBy, tick, ranBy, run}
 use Rattle.sheet.specs.Sheet.{sheetNumber, sheetBy, sheet}

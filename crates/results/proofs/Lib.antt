@@ -1,5 +1,5 @@
 -- The theorems behind the promises, a file for each subject: statements, each with a line that cites its proof.
--- Numbers, Instances, PlanA, BoundTask and PlanAViews show them at the documents' plans, and Computed and ComputedViews
+-- Numbers, Instances, PlanA, BoundTask, PlanALog and PlanAViews show them at the documents' plans, and Computed and ComputedViews
 -- hold what is shown by computing there.
 pub mod Refusals
 pub mod Causes
@@ -10,10 +10,12 @@ pub mod Dispatcher
 pub mod Word
 pub mod Sheets
 pub mod Independence
+pub mod Statements
 pub mod Computed
 pub mod ComputedViews
 pub mod Numbers
 pub mod Instances
 pub mod PlanA
 pub mod BoundTask
+pub mod PlanALog
 pub mod PlanAViews

@@ -6,7 +6,7 @@ use mathlib.Core.List.{List, []}
 use Prim.Native.Nat.{ℕ, suc, _+_, _*_, _≤_, _<_}
 use native.Mathlib.Omega.{arith}
 use lib.IntN.{negsuc}
-use Rattle.dispatcher.specs.Answer.{marginOf}
+use Rattle.margins.specs.Margin.{marginOf}
 use Rattle.dispatcher.specs.Release.{release}
 use Rattle.dispatcher.specs.State.{restAt}
 use Rattle.lists.specs.Exactly.{_exactlyWhen_}

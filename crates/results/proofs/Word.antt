@@ -9,12 +9,12 @@ use lib.IntN.{ℤ, pos}
 use Rattle.plan.specs.declared.Plan.{Plan}
 use Rattle.plan.specs.Place.{placeOf}
 use Rattle.plan.specs.Server.{isDeferrable}
+use Rattle.margins.specs.Margin.{marginOf}
 use Rattle.verdict.specs.declared.GuestVerdict.the-variants.{Fitted}
 use Rattle.verdict.specs.declared.TaskVerdict.the-variants.{Met}
 use Rattle.verdict.specs.Verdict.{guestVerdict, taskVerdict}
 use Rattle.verdict.specs.Quoted.{Quoted}
 use Rattle.dispatcher.specs.declared.Answer.the-variants.{Finished}
-use Rattle.dispatcher.specs.Answer.{marginOf}
 use Rattle.dispatcher.specs.Release.{release}
 use Rattle.history.specs.Calls.{Call, start, play, released, ticksIn, answers, answerOf, NoneTaken}
 use Rattle.history.specs.Finished.{FinishedBy}

@@ -1,7 +1,7 @@
 -- Document 01's starred numbers and those of later requests, one list with a single statement.
 use mathlib.Core.Path.{_≡_}
 use mathlib.Core.List.{[], _∷_}
-use lib.IntN.{pos}
+use lib.IntN.{pos, negsuc}
 use Rattle.worked.specs.Plans.{planOf, top, nine, planA, A, A35, planB, planC, planD, planE, planF, planG}
 use Rattle.blockwriter.specs.Writing.{blockOf}
 use Rattle.planfile_laws.specs.File.{fileOf}
@@ -20,6 +20,10 @@ use Rattle.dispatcher.specs.declared.Answer.the-variants.{Nobody, Worked, Finis
 use Rattle.dispatcher.specs.Release.{release}
 use Rattle.dispatcher.specs.Entries.{tick, run}
 use Rattle.sheet.specs.Sheet.{answered}
+use Rattle.statement.specs.Lines.{empty}
+use Rattle.statement.specs.Call.{stated}
+use Rattle.statement_laws.specs.Taken.{statementAfter}
+use Rattle.statement_laws.specs.Worked.{logged, told, log, figures}
 use Rattle.history.specs.Calls.{running, start, play, released, times}
 
 -- The list, case by case.
@@ -114,3 +118,15 @@ pub record Numbers : Type 0 where
   -- the third, guest 9's first task has it.
   pub deferrable-passed-over : tick (start (planG 50 0)) .answer ≡ Nobody
   pub deferrable-works : tick (released (planG 50 0) 9 1 (times 2)) .answer ≡ Worked 9 1
+  -- P10: The two finishes of case 8, logged: 2 jobs, the longest age 30, none late, margins 26 and 20. Then five jobs of
+  -- guest 9, with a block of zeros behind them, which is passed over at position 1 by 3: of its first task one is late
+  -- by a tick, of its second one by 60.
+  pub told-line : figures (statementAfter (fileOf A) (logged told ∷ []) empty) 16 ≡ (2 ∷ 30 ∷ 0 ∷ [], pos 46)
+  pub first-line : figures (statementAfter (fileOf A) (log ∷ []) empty) 16 ≡ (3 ∷ 51 ∷ 1 ∷ [], pos 45)
+  pub second-line : figures (statementAfter (fileOf A) (log ∷ []) empty) 17 ≡ (2 ∷ 160 ∷ 1 ∷ [], negsuc 59)
+  pub second-passed :
+      stated empty (fileOf A) log .passed
+      ∷ stated empty (fileOf A) log .position
+      ∷ stated empty (fileOf A) log .number
+      ∷ []
+      ≡ 1 ∷ 1 ∷ 3 ∷ []

@@ -4,6 +4,7 @@
 mod amended;
 mod dispatcher;
 mod sheets;
+mod statements;
 
 use crate::inputs;
 use coreshare::exports as ours;
@@ -42,6 +43,7 @@ pub fn all() -> Vec<Case> {
     let mut all = judging();
     all.extend(amended::all());
     all.extend(dispatching());
+    all.extend(statements::all());
     all
 }
 
@@ -104,7 +106,7 @@ fn dispatching() -> Vec<Case> {
     ]
 }
 
-/// The aim for plan files, verdicts and capacities, and the one for the dispatcher.
+/// The aim for plan files, verdicts, capacities and statements, and the one for the dispatcher.
 const FILES: f64 = 1.2;
 const DISPATCHER: f64 = 1.5;
 

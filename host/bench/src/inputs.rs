@@ -1,5 +1,9 @@
 //! The plans that are measured, as blocks: each side reads them by its own reader. Beside them the sheets, of
-//! amendments and of releases.
+//! amendments and of releases, and the logs.
+
+mod logs;
+
+pub use logs::{jobs, log};
 
 use coreshare::pair;
 use plain::Guest;

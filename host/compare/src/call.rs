@@ -3,11 +3,13 @@
 use crate::side::Side;
 use reference::amendment::Located;
 use reference::dispatcher::{Dispatcher, Released, Run, Start, Ticked};
+use reference::log::LogEntries;
 use reference::plan::{Guest, Plan, Read, Refusal};
+use reference::statement::{Stated, Statement};
 use reference::verdict::Verdict;
 
 /// The exports' names, in the order of [`Call`].
-pub const EXPORTS: [&str; 18] = [
+pub const EXPORTS: [&str; 20] = [
     "cs_read",
     "cs_check",
     "cs_write",
@@ -26,6 +28,8 @@ pub const EXPORTS: [&str; 18] = [
     "cs_amended_task_verdict",
     "cs_amended_accept",
     "cs_amended_smallest_capacity",
+    "cs_statement",
+    "cs_write_log",
 ];
 
 #[derive(Clone, Debug, PartialEq)]
@@ -44,6 +48,15 @@ pub enum Call {
     Tick(Box<Dispatcher>),
     Run(Box<Dispatcher>, u32),
     Amended(Amended, Question),
+    State(Box<Statement>, Logged),
+    WriteLog(Box<LogEntries>, Vec<u8>),
+}
+
+/// A plan's blocks and a log.
+#[derive(Clone, Debug, PartialEq)]
+pub struct Logged {
+    pub plan: Vec<u8>,
+    pub log: Vec<u8>,
 }
 
 /// A standing plan's blocks and an amendment sheet.
@@ -76,6 +89,7 @@ pub enum Outcome {
     Ticked(Box<Ticked>),
     Run(Box<Run>),
     Located(Located),
+    Stated(Box<Stated>),
 }
 
 impl Call {
@@ -100,6 +114,8 @@ impl Call {
             Call::Amended(_, Question::Task(..)) => 15,
             Call::Amended(_, Question::Accept) => 16,
             Call::Amended(_, Question::Capacity(..)) => 17,
+            Call::State(..) => 18,
+            Call::WriteLog(..) => 19,
         }
     }
 
@@ -108,7 +124,9 @@ impl Call {
         match self {
             Call::Read(bytes) => Outcome::Read((side.read)(bytes).into()),
             Call::Check(plan) => Outcome::Refusal((side.check)(plan)),
-            Call::Write(guest, place, buffer) => written(side, guest, *place, buffer),
+            Call::Write(guest, place, buffer) => {
+                written(buffer, |lent| (side.write)(guest, *place, lent))
+            }
             Call::Find(bytes, id) => Outcome::Refusal((side.find)(bytes, *id)),
             Call::GuestVerdict(plan, id) => Outcome::Verdict((side.guest_verdict)(plan, *id)),
             Call::TaskVerdict(plan, id, task) => {
@@ -126,6 +144,10 @@ impl Call {
             Call::Tick(state) => Outcome::Ticked((side.tick)(state).into()),
             Call::Run(state, ticks) => Outcome::Run((side.run)(state, *ticks).into()),
             Call::Amended(of, question) => asked(side, of, *question),
+            Call::State(running, of) => {
+                Outcome::Stated((side.statement)(running, &of.plan, &of.log).into())
+            }
+            Call::WriteLog(jobs, buffer) => written(buffer, |lent| (side.write_log)(jobs, lent)),
         }
     }
 
@@ -142,9 +164,9 @@ impl Call {
     }
 }
 
-fn written(side: &Side, guest: &Guest, place: u32, buffer: &[u8]) -> Outcome {
+fn written(buffer: &[u8], write: impl Fn(&mut [u8]) -> Refusal) -> Outcome {
     let mut lent = buffer.to_vec();
-    let refusal = (side.write)(guest, place, &mut lent);
+    let refusal = write(&mut lent);
     Outcome::Written(refusal, lent)
 }
 
@@ -185,6 +207,7 @@ impl Outcome {
             Outcome::Ticked(outcome) => outcome.refusal.number,
             Outcome::Run(outcome) => outcome.refusal.number,
             Outcome::Located(located) => located.number,
+            Outcome::Stated(outcome) => outcome.refusal.number,
         }
     }
 

@@ -22,6 +22,7 @@ mod sheets;
 mod show;
 mod shrink;
 pub mod side;
+pub mod statements;
 mod states;
 mod tries;
 
@@ -30,15 +31,17 @@ use std::time::{Duration, Instant};
 
 /// Small inputs, all of them; then random ones until the time is used up.
 pub fn everything(session: &mut Session, budget: Duration) {
-    let end = Instant::now() + budget;
     exhaustive::compare(session);
     bound::compare(session);
     deferrable::compare(session);
     pairs::compare(session);
     amendments::compare(session);
+    statements::compare(session);
+    let end = Instant::now() + budget;
     while Instant::now() < end {
         random_calls::round(session);
         amendments::round(session);
+        statements::round(session);
         histories::history(session);
         promise::histories(session);
         independence::histories(session);

@@ -4,7 +4,9 @@ use compare::side::Side;
 use coreshare::exports;
 use reference::amendment::Located;
 use reference::dispatcher::{Answer, Dispatcher, Released, Run, Start, Ticked};
+use reference::log::LogEntries;
 use reference::plan::{Guest, Plan, Read, Refusal};
+use reference::statement::{Stated, Statement};
 use reference::verdict::Verdict;
 
 pub const PRODUCT: Side = Side {
@@ -32,6 +34,8 @@ pub const PRODUCT: Side = Side {
     amended_smallest_capacity: |plan, sheet, id| {
         verdict(exports::amended_smallest_capacity(plan, sheet, id))
     },
+    statement: |running, plan, log| stated(exports::statement(&statement_in(running), plan, log)),
+    write_log: |jobs, buffer| refusal(exports::write_log(&jobs_in(jobs), buffer)),
 };
 
 fn guest_in(guest: &Guest) -> coreshare::Guest {
@@ -65,6 +69,25 @@ fn state_in(state: &Dispatcher) -> coreshare::Dispatcher {
         wait: state.wait,
         age: state.age,
         usage: state.usage,
+    }
+}
+
+fn statement_in(statement: &Statement) -> coreshare::Statement {
+    coreshare::Statement {
+        blocks: statement.blocks,
+        margins: statement.margins,
+        jobs: statement.jobs,
+        longest: statement.longest,
+        late: statement.late,
+    }
+}
+
+fn jobs_in(jobs: &LogEntries) -> coreshare::LogEntries {
+    coreshare::LogEntries {
+        count: jobs.count,
+        entries: jobs
+            .entries
+            .map(|entry| coreshare::LogEntry::new(entry.guest, entry.task, entry.age)),
     }
 }
 
@@ -171,5 +194,22 @@ fn run(outcome: coreshare::Run) -> Run {
         done: outcome.done,
         answer: answer(outcome.answer),
         dispatcher: state(&outcome.dispatcher),
+    }
+}
+
+fn stated(outcome: coreshare::Stated) -> Stated {
+    let statement = outcome.statement;
+    Stated {
+        refusal: refusal(outcome.refusal),
+        statement: Statement {
+            blocks: statement.blocks,
+            margins: statement.margins,
+            jobs: statement.jobs,
+            longest: statement.longest,
+            late: statement.late,
+        },
+        passed: outcome.passed,
+        position: outcome.position,
+        number: outcome.number,
     }
 }

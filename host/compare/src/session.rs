@@ -1,5 +1,7 @@
 //! A session: what was compared, and what differed.
 
+mod seen;
+
 use crate::call::{Call, EXPORTS, Outcome};
 use crate::random::Random;
 use crate::show;
@@ -7,19 +9,7 @@ use crate::shrink::shrink;
 use crate::side::{REFERENCE, Side};
 
 /// The numbers of document 01's refusals and document 02's as far as it has landed, and 0 for none.
-const NUMBERS: usize = 18;
-
-/// The numbers that a pair of a sheet is answered by.
-const ANSWERS: [usize; 6] = [0, 7, 8, 9, 10, 17];
-
-/// The numbers that the companion answer gives of the plan, and of the sheet, of a plan with amendments.
-const LOCATED: [(&str, [usize; 8]); 2] = [
-    ("plan", [0, 1, 2, 3, 4, 5, 6, 7]),
-    ("sheet", [0, 1, 2, 3, 4, 5, 6, 16]),
-];
-
-/// The exports that judge a plan with amendments, and what each gives beside the refusals of the two.
-const AMENDED: [(usize, &[usize]); 4] = [(14, &[7]), (15, &[7, 8]), (16, &[]), (17, &[7, 11])];
+const NUMBERS: usize = 20;
 
 /// Verdicts, and kinds of answers, and 0 for none.
 const KINDS: usize = 5;
@@ -36,6 +26,8 @@ pub struct Session {
     answers: [u64; NUMBERS],
     /// How often a companion answer gave each number of the plan, and of the sheet.
     located: [[u64; NUMBERS]; 2],
+    /// How often the first block of a log that was passed over was so by each number, 0 where none was.
+    passed: [u64; NUMBERS],
     /// Checks that are not one call: their name, how often they held, how often not.
     others: Vec<(&'static str, u64, u64)>,
     /// What else is worth knowing; it is printed, and counts neither as passed nor as failed.
@@ -53,6 +45,7 @@ impl Session {
             different: [0; EXPORTS.len()],
             answers: [0; NUMBERS],
             located: [[0; NUMBERS]; 2],
+            passed: [0; NUMBERS],
             others: Vec::new(),
             facts: Vec::new(),
         }
@@ -63,14 +56,7 @@ impl Session {
         let expected = call.on(&REFERENCE);
         let export = call.export();
         if call.on(&self.subject) == expected {
-            self.seen[export][expected.number() as usize] += 1;
-            self.kinds[export][expected.kind() as usize] += 1;
-            for answer in call.answers(&expected) {
-                self.answers[*answer as usize] += 1;
-            }
-            if let Outcome::Located(located) = expected {
-                self.located[located.sheet as usize][located.number as usize] += 1;
-            }
+            self.count_outcome(&call, &expected);
         } else {
             self.different[export] += 1;
             if self.different[export] == 1 {
@@ -80,6 +66,25 @@ impl Session {
             }
         }
         expected
+    }
+
+    /// Counts the numbers of an outcome that both sides gave.
+    fn count_outcome(&mut self, call: &Call, outcome: &Outcome) {
+        let export = call.export();
+        self.seen[export][outcome.number() as usize] += 1;
+        self.kinds[export][outcome.kind() as usize] += 1;
+        for answer in call.answers(outcome) {
+            self.answers[*answer as usize] += 1;
+        }
+        match outcome {
+            Outcome::Located(located) => {
+                self.located[located.sheet as usize][located.number as usize] += 1;
+            }
+            Outcome::Stated(stated) if stated.refusal.number == 0 => {
+                self.passed[stated.number as usize] += 1;
+            }
+            _ => (),
+        }
     }
 
     /// Notes a check that is not one call; tells whether it is the first of its name to fail.
@@ -130,21 +135,7 @@ impl Session {
 
     /// Prints what was compared; tells whether all is well.
     pub fn report(&mut self) -> bool {
-        for number in 1..NUMBERS {
-            let seen = self.seen.iter().any(|numbers| numbers[number] > 0);
-            self.note("each refusal number seen", seen);
-            if !seen {
-                println!("refusal {number} was not seen");
-            }
-        }
-        for number in ANSWERS {
-            let seen = self.answers[number] > 0;
-            self.note("each pair's answer seen", seen);
-            if !seen {
-                println!("no pair of a sheet was answered by {number}");
-            }
-        }
-        self.each_amended_number_seen();
+        self.each_number_seen();
         self.print_calls();
         for (name, right, wrong) in &self.others {
             println!("{name:<28} {right:>10}{}", failures(*wrong));
@@ -157,27 +148,6 @@ impl Session {
         failed == 0
     }
 
-    fn each_amended_number_seen(&mut self) {
-        for (whose, (name, numbers)) in LOCATED.into_iter().enumerate() {
-            for number in numbers {
-                let seen = self.located[whose][number] > 0;
-                self.note("each number of both seen", seen);
-                if !seen {
-                    println!("no companion answer gave {number} of the {name}");
-                }
-            }
-        }
-        for (export, own) in AMENDED {
-            for number in LOCATED[1].1.iter().chain(own) {
-                let seen = self.seen[export][*number] > 0;
-                self.note("each number of both seen", seen);
-                if !seen {
-                    println!("{} did not give {number}", EXPORTS[export]);
-                }
-            }
-        }
-    }
-
     fn print_calls(&self) {
         println!("export                         compared  by refusal (0 is none)");
         for (export, name) in EXPORTS.iter().enumerate() {
@@ -188,12 +158,12 @@ impl Session {
         }
         let each = counts(&self.answers, 0);
         println!("{:<39}  {each}", "pairs of sheets by answer");
-        for ((name, _), numbers) in LOCATED.iter().zip(&self.located) {
-            println!(
-                "{:<39}  {}",
-                format!("companion of the {name}"),
-                counts(numbers, 0)
-            );
+        for (name, numbers) in [
+            ("companion of the plan", &self.located[0]),
+            ("companion of the sheet", &self.located[1]),
+            ("logs by first block passed over", &self.passed),
+        ] {
+            println!("{name:<39}  {}", counts(numbers, 0));
         }
         println!("export                                    by verdict, or kind of answer");
         for (export, name) in EXPORTS.iter().enumerate() {

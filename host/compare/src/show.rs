@@ -1,9 +1,13 @@
 //! Prints a call and its two outcomes, leaving out what is zero.
 
+mod statements;
+
 use crate::call::{Amended, Call, EXPORTS, Outcome, Question};
 use crate::side::{REFERENCE, Side};
 use reference::dispatcher::{Dispatcher, parts};
 use reference::plan::{Guest, MOST_TASKS, Plan};
+use statements::{jobs, statement};
+pub use statements::{logged, stated};
 use std::fmt::Display;
 
 /// Prints a call on which the two sides differ.
@@ -34,6 +38,8 @@ fn input(call: &Call) -> String {
         Call::Tick(of) => format!("{name} {}", state(of)),
         Call::Run(of, ticks) => format!("{name} ticks {ticks} {}", state(of)),
         Call::Amended(of, question) => format!("{name} {} {}", asked(*question), amended(of)),
+        Call::State(running, of) => format!("{name} {} {}", statement(running), logged(of)),
+        Call::WriteLog(of, buffer) => format!("{name} length {} {}", buffer.len(), jobs(of)),
     }
 }
 
@@ -57,6 +63,7 @@ fn outcome(outcome: &Outcome) -> String {
         Outcome::Written(refusal, bytes) => format!("{refusal:?} {}", blocks(bytes)),
         Outcome::Verdict(verdict) => format!("{verdict:?}"),
         Outcome::Located(located) => format!("{located:?}"),
+        Outcome::Stated(outcome) => stated(outcome),
         Outcome::Start(start) => format!("{:?} {}", start.refusal, state(&start.dispatcher)),
         Outcome::Released(next) => format!("{:?} {}", next.refusal, state(&next.dispatcher)),
         Outcome::Sheet(next, answers) => {
@@ -155,11 +162,11 @@ fn state(state: &Dispatcher) -> String {
 }
 
 /// Each number that is not zero, with its place.
-fn not_zero<T: Copy + Display + Into<u64>>(numbers: &[T]) -> String {
+fn not_zero<T: Default + Display + PartialEq>(numbers: &[T]) -> String {
     let set: Vec<String> = numbers
         .iter()
         .enumerate()
-        .filter(|(_, number)| (**number).into() != 0)
+        .filter(|(_, number)| **number != T::default())
         .map(|(at, number)| format!("{at}:{number}"))
         .collect();
     set.join(" ")

@@ -2,6 +2,7 @@
 
 mod amended;
 mod sheets;
+mod statements;
 mod states;
 
 use crate::call::Call;
@@ -46,6 +47,8 @@ fn smaller(call: &Call) -> Vec<Call> {
         Call::Amended(of, question) => {
             each(amended::smaller(of), |of| Call::Amended(of, *question))
         }
+        Call::State(running, of) => statements::smaller(running, of),
+        Call::WriteLog(jobs, buffer) => statements::smaller_writes(jobs, buffer),
     }
 }
 
@@ -144,6 +147,11 @@ fn fewer_bytes(bytes: &[u8]) -> Vec<Vec<u8>> {
         }
     }
     all
+}
+
+/// The blocks but for one.
+fn without_block(blocks: &[u8], gone: usize) -> Vec<u8> {
+    [&blocks[..BLOCK * gone], &blocks[BLOCK * (gone + 1)..]].concat()
 }
 
 fn smaller_plans(plan: &Plan) -> Vec<Plan> {

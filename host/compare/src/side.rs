@@ -2,7 +2,9 @@
 
 use reference::amendment::{self, Located};
 use reference::dispatcher::{self, Dispatcher, Released, Run, Start, Ticked};
+use reference::log::{self, LogEntries};
 use reference::plan::{self, Guest, Plan, Read, Refusal};
+use reference::statement::{self, Stated, Statement};
 use reference::verdict::{self, Verdict};
 
 /// One function for each export.
@@ -26,6 +28,8 @@ pub struct Side {
     pub amended_task_verdict: fn(&[u8], &[u8], u32, u32) -> Verdict,
     pub amended_accept: fn(&[u8], &[u8]) -> Verdict,
     pub amended_smallest_capacity: fn(&[u8], &[u8], u32) -> Verdict,
+    pub statement: fn(&Statement, &[u8], &[u8]) -> Stated,
+    pub write_log: fn(&LogEntries, &mut [u8]) -> Refusal,
 }
 
 /// The reference: the documents' sentences in plain Rust.
@@ -48,4 +52,6 @@ pub const REFERENCE: Side = Side {
     amended_task_verdict: amendment::task_verdict,
     amended_accept: amendment::accept,
     amended_smallest_capacity: amendment::smallest_capacity,
+    statement: statement::state,
+    write_log: log::write,
 };

@@ -1,5 +1,5 @@
 //! The comparison itself is tried: each wrong implementation that document 01 names must be found, two of
-//! its errors that look reasonable, and some of P1's, P2's and P5's to P9's.
+//! its errors that look reasonable, and some of P1's, P2's and P5's to P10's.
 
 #[path = "planted/amendments.rs"]
 mod amendments;
@@ -11,6 +11,8 @@ mod independence;
 mod marks;
 #[path = "planted/sheets.rs"]
 mod sheets;
+#[path = "planted/statements.rs"]
+mod statements;
 
 use compare::session::Session;
 use compare::side::{REFERENCE, Side};

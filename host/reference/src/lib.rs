@@ -8,7 +8,9 @@
 
 pub mod amendment;
 pub mod dispatcher;
+pub mod log;
 pub mod plan;
 pub mod samples;
 pub mod show;
+pub mod statement;
 pub mod verdict;

@@ -6,7 +6,9 @@ mod block;
 mod tests;
 
 pub use block::{BLOCK, LONGEST_PLAN, Read, blocks_of, find, found, read, seal, write};
-pub(crate) use block::{carried_place, length_in_range, read_block};
+pub(crate) use block::{
+    carried_place, length_in_range, put_short, put_word, read_block, short, sum_of_words, word,
+};
 
 /// The most guests in a plan.
 pub const MOST_GUESTS: usize = 8;

@@ -2,8 +2,8 @@
 //!
 //! On one core, up to 8 guests share the time, each with up to 16 tasks. The library reads and
 //! writes plan blocks, judges guests and tasks, searches the smallest capacity, does the same for a
-//! standing plan with amendments, and dispatches.
-//! Every rule stands in document 01, as the requests P1 to P9 of document 02 change it; a refusal carries
+//! standing plan with amendments, dispatches, and states the finished jobs of a log.
+//! Every rule stands in document 01, as the requests P1 to P10 of document 02 change it; a refusal carries
 //! document 01's number and place.
 //!
 //! The root of this crate has the calls as Rust has them, with `Result` and enums. [`exports`] has
@@ -28,6 +28,7 @@ mod dispatcher;
 pub mod exports;
 mod plan;
 mod records;
+mod statement;
 
 pub use amended::{
     Of, amended_accept, amended_block, amended_find, amended_guest_verdict,
@@ -36,5 +37,7 @@ pub use amended::{
 pub use dispatcher::{Progress, Tick, pair};
 pub use plan::{BLOCK, GuestVerdict, TaskVerdict, find, mark};
 pub use records::{
-    Answer, Dispatcher, Guest, Located, Plan, Read, Refusal, Released, Run, Start, Ticked, Verdict,
+    Answer, Dispatcher, Guest, Located, LogEntries, LogEntry, Plan, Read, Refusal, Released, Run,
+    Start, Stated, Statement, Ticked, Verdict,
 };
+pub use statement::{Line, MOST_JOBS, Passed, PassedOver, write_log};

@@ -1,5 +1,9 @@
 //! The structs that cross the C interface, field by field as `coreshare.h` has them.
 
+mod statement;
+
+pub use statement::{LogEntries, LogEntry, Stated, Statement};
+
 use core::fmt;
 
 /// One guest's record. Entries and marks past `tasks` are not looked at.
@@ -176,9 +180,9 @@ impl Refusal {
     pub fn meaning(self) -> &'static str {
         match self.number {
             0 => "not refused",
-            1 => "the length of the plan or sheet, or the guest count, is out of range",
+            1 => "the length of the plan, sheet or log, or the guest count, is out of range",
             2 => "the block's words don't sum to zero",
-            3 => "the kind is neither 1 nor 2 with marks or Deferrable, or the place is not its own",
+            3 => "the kind is neither 1 nor 2 with marks or Deferrable (a log's: not 3), or the place is not its own",
             4 => "id, capacity, period or number of tasks is out of range",
             5 => "a byte that must be zero, or a mark past the tasks, is not; or byte 22 is above 1",
             6 => "a task's run, period (if bound, a multiple) or deadline is out of range",
@@ -189,10 +193,12 @@ impl Refusal {
             11 => "no capacity works",
             12 => "a buffer shorter than 512, or fewer answer places than pairs",
             13 => "a run of more than 1,000,000 ticks",
-            14 => "a state outside its ranges",
+            14 => "a state or a running statement outside its ranges",
             15 => "a sheet of more than 256 pairs",
             16 => "an amendment whose id is not in the plan, or whose place is not its guest's",
             17 => "release of a bound task while its guest's position is not 0",
+            18 => "a log block's number of jobs, or an age, is out of range",
+            19 => "a log block past the millionth",
             _ => "no number of document 01 or 02",
         }
     }

@@ -7,8 +7,8 @@ use std::path::{Path, PathBuf};
 use std::process::Command;
 
 use coreshare::{
-    Answer, Dispatcher, Guest, Located, Plan, Read, Refusal, Released, Run, Start, Ticked, Verdict,
-    mark, pair,
+    Answer, Dispatcher, Guest, Located, LogEntries, LogEntry, Plan, Read, Refusal, Released, Run,
+    Start, Stated, Statement, Ticked, Verdict, mark, pair,
 };
 
 /// Compiles a C file of the folder `c` beside this crate, runs it and gives what it wrote.
@@ -70,6 +70,10 @@ fn layout() -> String {
     lines!(to, "CsAnswer", Answer, kind guest task age margin);
     lines!(to, "CsTicked", Ticked, dispatcher refusal answer);
     lines!(to, "CsRun", Run, refusal done answer dispatcher);
+    lines!(to, "CsLogEntry", LogEntry, guest task age);
+    lines!(to, "CsLogEntries", LogEntries, count entries);
+    lines!(to, "CsStatement", Statement, blocks margins jobs longest late);
+    lines!(to, "CsStated", Stated, refusal statement passed position number);
     for mark in [mark(1), mark(16)] {
         writeln!(to, "mark {mark}").unwrap();
     }
@@ -91,8 +95,10 @@ fn the_sizes_are_those_of_the_header() {
         size_of::<Plan>(),
         size_of::<Dispatcher>(),
         size_of::<Run>(),
+        size_of::<Statement>(),
+        size_of::<Stated>(),
     ];
-    assert_eq!(sizes, [216, 1_732, 3_472, 3_504]);
+    assert_eq!(sizes, [216, 1_732, 3_472, 3_504, 2_568, 2_600]);
 }
 
 #[test]
@@ -120,6 +126,8 @@ guest 7 had 10 ticks and idled 10 of them away
 guest 9 had 10 ticks and idled 0 of them away
 nobody had 4
 sheet answered 0 9 9 7
+1 block counted: 2 jobs, longest age 60, 1 late, margins 16
+1 passed over, the first at 1 by 3
 ";
     assert_eq!(output_of("example", &[archive]), text);
 }

@@ -5,7 +5,8 @@ use native.Mathlib.Omega.{arith}
 use lib.ListN.{length}
 use borrow.Author.Needs.{needs}
 use Rattle.blockwriter.specs.Writing.{withPlace, writeNumber, blockOf}
-use Rattle.blockwriter.proofs.Writing.{by-refused, by-none, WriteIn, write-in}
+use Rattle.blockparts.proofs.Parts.{by-refused, by-none}
+use Rattle.blockwriter.proofs.Writing.{WriteIn, write-in}
 use Rattle.plan.proofs.RangesLaws.{head-says}
 use Rattle.blockwriter.proofs.write.Statement.{statement}
 use Rattle.blockwriter.proofs.write.Tie as tie

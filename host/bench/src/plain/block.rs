@@ -126,25 +126,25 @@ fn encode(guest: &Guest, place: u32, block: &mut [u8; BLOCK]) {
     put_word(block, 508, sum(block).wrapping_neg());
 }
 
-fn sum(block: &[u8; BLOCK]) -> u32 {
+pub(crate) fn sum(block: &[u8; BLOCK]) -> u32 {
     let words = block.as_chunks::<4>().0;
     words
         .iter()
         .fold(0, |sum, word| sum.wrapping_add(u32::from_le_bytes(*word)))
 }
 
-fn short(block: &[u8; BLOCK], at: usize) -> u16 {
+pub(crate) fn short(block: &[u8; BLOCK], at: usize) -> u16 {
     u16::from_le_bytes([block[at], block[at + 1]])
 }
 
-fn word(block: &[u8; BLOCK], at: usize) -> u32 {
+pub(crate) fn word(block: &[u8; BLOCK], at: usize) -> u32 {
     u32::from_le_bytes([block[at], block[at + 1], block[at + 2], block[at + 3]])
 }
 
-fn put_short(block: &mut [u8; BLOCK], at: usize, value: u16) {
+pub(crate) fn put_short(block: &mut [u8; BLOCK], at: usize, value: u16) {
     block[at..at + 2].copy_from_slice(&value.to_le_bytes());
 }
 
-fn put_word(block: &mut [u8; BLOCK], at: usize, value: u32) {
+pub(crate) fn put_word(block: &mut [u8; BLOCK], at: usize, value: u32) {
     block[at..at + 4].copy_from_slice(&value.to_le_bytes());
 }

@@ -7,7 +7,9 @@ pub mod block;
 pub mod capacity;
 pub mod dispatcher;
 pub mod exports;
+pub mod log;
 pub mod records;
+pub mod statement;
 pub mod verdict;
 
 #[cfg(test)]
@@ -15,3 +17,4 @@ mod tests;
 
 pub use dispatcher::Dispatcher;
 pub use records::{Guest, Plan, Refusal};
+pub use statement::Statement;

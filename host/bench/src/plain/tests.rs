@@ -1,5 +1,7 @@
 //! Holds plain Rust to the reference, as the library is held: what is measured must be right.
 
+mod statement;
+
 use crate as plain;
 use crate::exports;
 use compare::session::Session;
@@ -35,6 +37,8 @@ const PLAIN: Side = Side {
     amended_smallest_capacity: |plan, sheet, id| {
         verdict(exports::amended_smallest_capacity(plan, sheet, id))
     },
+    statement: statement::statement,
+    write_log: statement::write_log,
 };
 
 #[test]

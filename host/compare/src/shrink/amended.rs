@@ -1,6 +1,6 @@
 //! Smaller plans with amendment sheets.
 
-use super::fewer_bytes;
+use super::{fewer_bytes, without_block};
 use crate::call::Amended;
 use reference::plan::BLOCK;
 
@@ -17,8 +17,4 @@ pub fn smaller(of: &Amended) -> Vec<Amended> {
     let with_plan = |plan| Amended { plan, ..of.clone() };
     let plans = fewer_bytes(&of.plan).into_iter().map(with_plan);
     sheets.into_iter().map(with_sheet).chain(plans).collect()
-}
-
-fn without_block(sheet: &[u8], gone: usize) -> Vec<u8> {
-    [&sheet[..BLOCK * gone], &sheet[BLOCK * (gone + 1)..]].concat()
 }

@@ -3,7 +3,7 @@
 mod bytes;
 
 use super::{Guest, MOST_GUESTS, MOST_TASKS, Plan, Refusal, head_in_range, seen, tasks_in_range};
-use bytes::{put_short, put_word, short, word};
+pub(crate) use bytes::{put_short, put_word, short, word};
 use std::ops::Range;
 
 /// The bytes of one block.
@@ -153,7 +153,7 @@ pub(crate) fn carried_place(block: &[u8]) -> u16 {
 }
 
 /// The sum of the block's 128 little-endian words, modulo 4,294,967,296.
-fn sum_of_words(block: &[u8]) -> u32 {
+pub(crate) fn sum_of_words(block: &[u8]) -> u32 {
     let sum: u64 = (0..128).map(|k| u64::from(word(block, 4 * k))).sum();
     (sum % 4_294_967_296) as u32
 }

@@ -5,16 +5,22 @@ use Prim.Native.Nat.{ℕ, _-_, _≤_}
 use native.Mathlib.Omega.{arith}
 use lib.ListN.{length, replicate, drop}
 use borrow.Author.Needs.{needs}
-use Rattle.block.specs.Layout.{blockSize, blockWords}
-use Rattle.blockwriter.specs.Writing.{withHead, withEntries, wordsOf}
-use Rattle.blockwriter.proofs.Writing.{laid, entries-laid, words-count}
+use Rattle.lists.specs.Places.{nth}
+use Rattle.block.specs.Layout.{blockSize, blockWords, firstTask}
+use Rattle.blockparts.specs.Parts.{withEntries}
+use Rattle.blockwriter.specs.Writing.{withHead, wordsOf}
+use Rattle.blockparts.proofs.Parts.{laid, entries-laid}
+use Rattle.blockwriter.proofs.Writing.{words-count}
 use Rattle.blockwriter.proofs.writer.put_entries.Statement.{statement}
 use Rattle.blockwriter.proofs.writer.put_entries.Tie as tie
 
 abbrev Inv-loop : tie.InvT-loop
 Inv-loop place buf₀ run every deadline n i₀ buf i =
     (i ≤ n) ×
-    (((x t : List ℕ) → length x ≡ blockWords → buf₀ ≡ laid x t → buf ≡ laid (withEntries run every deadline i x) t)
+    (((x t : List ℕ)
+    → length x ≡ blockWords
+    → buf₀ ≡ laid x t
+    → buf ≡ laid (withEntries firstTask (nth run) (nth every) (nth deadline) i x) t)
     × (length buf ≡ length buf₀))
 
 abbrev μ-loop : tie.MeasureT-loop
@@ -67,7 +73,7 @@ loop-again c =
       (
         λ x t n e.
             p .put-entry .ensures
-            ∙ entries-laid _ _ _ (l .i) x (l .buf) t (omega (arith, s .pre .1 .1)) n (l .inv .1 .0 x t n e),
+            ∙ entries-laid firstTask _ _ _ (l .i) x (l .buf) t (omega (arith, s .pre .1 .1)) n (l .inv .1 .0 x t n e),
         p .put-entry .kept .0 ∙ l .inv .1 .1,
       ),
     )

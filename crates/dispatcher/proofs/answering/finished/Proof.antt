@@ -1,6 +1,6 @@
 -- The plan is in order, so the places that were noted are small, and so are deadline and age.
 use native.Mathlib.Omega.{arith}
-use Rattle.dispatcher.proofs.Margin.{margin-kept}
+use Rattle.margins.proofs.Margin.{margin-kept}
 use Rattle.dispatcher.proofs.Answers.{fits, tell-finished}
 use Rattle.dispatcher.proofs.answering.finished.Statement.{statement}
 use Rattle.dispatcher.proofs.answering.finished.Tie as tie
@@ -29,19 +29,19 @@ add-t9 c = omega (arith, fits (c .before .before .pre .1) .task)
 cast-t18 : tie.Need-cast-t18
 cast-t18 c = omega (arith, fits (c .before .before .pre .1) .task)
 
-mul-margin : tie.Need-mul-margin
-mul-margin c = omega (arith, fits (c .before .before .pre .1) .task)
+mul-margin-of : tie.Need-mul-margin-of
+mul-margin-of c = omega (arith, fits (c .before .before .pre .1) .task)
 
-element-copy-out-margin : tie.Need-element-copy-out-margin
-element-copy-out-margin c = fits (c .before .before .pre .1) .task
+element-copy-out-margin-of : tie.Need-element-copy-out-margin-of
+element-copy-out-margin-of c = fits (c .before .before .pre .1) .task
 
-margin-requires : tie.Need-margin-requires
-margin-requires c κs = (fits (c .before .before .before .pre .1) .deadline, fits (c .before .before .before .pre .1) .ages)
+margin-of-requires : tie.Need-margin-of-requires
+margin-of-requires c κs = (fits (c .before .before .before .pre .1) .deadline, fits (c .before .before .before .pre .1) .ages)
 
 returns : tie.Need-returns
 returns c =
     let m = fits (c .before .before .before .before .pre .1) in
-    λ d s. tell-finished s _ (margin-kept _ _ _ (m .deadline) (m .ages) (c .margin .ensures))
+    λ d s. tell-finished s _ (margin-kept _ _ _ (m .deadline) (m .ages) (c .margin-of .ensures))
 
 pub finished-spec : {M : Type 1} → statement M
 finished-spec =
@@ -55,7 +55,7 @@ finished-spec =
     element-copy-out-grown
     add-t9
     cast-t18
-    mul-margin
-    element-copy-out-margin
-    margin-requires
+    mul-margin-of
+    element-copy-out-margin-of
+    margin-of-requires
     returns)

@@ -1,0 +1,7 @@
+pub mod Lines
+pub mod Counting
+pub mod Block
+pub mod Log
+pub mod Call
+pub mod Lent
+pub mod Promises
