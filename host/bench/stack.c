@@ -30,6 +30,7 @@ static uint8_t wide_amendments[GUESTS * CS_BLOCK]; /* the same of the wide plan 
 static CsLogEntries jobs;                          /* as many as a log block holds, of all guests */
 static uint8_t finished[GUESTS * CS_BLOCK];        /* a log of such blocks */
 static CsStatement running;                        /* the statement of that log */
+static uint8_t kept[GUESTS * CS_BLOCK];            /* what is salvaged of the amendments, none of them at its place */
 
 static _Alignas(4096) uint8_t stack[1 << 20];
 static uint8_t *at_call;   /* where the stack ends just before the call, arguments included */
@@ -77,6 +78,8 @@ EXPORT(cs_run, CsRun, (CsDispatcher d, uint32_t ticks), (states, 1000000))
 EXPORT(cs_write_log, CsRefusal, (CsLogEntries j, uint8_t *b, size_t n), (jobs, buffer, sizeof buffer))
 EXPORT(cs_statement, CsStated, (CsStatement s, const uint8_t *p, size_t n, const uint8_t *l, size_t m),
        (running, bytes, sizeof bytes, finished, sizeof finished))
+EXPORT(cs_salvage, CsSalvaged, (const uint8_t *f, size_t n, uint8_t *o, size_t m),
+       (amendments, sizeof amendments, kept, sizeof kept))
 
 static const struct {
     const char *name;
@@ -103,6 +106,7 @@ static const struct {
     {"cs_run", call_cs_run, sizeof(CsDispatcher)},
     {"cs_write_log", call_cs_write_log, sizeof(CsLogEntries)},
     {"cs_statement", call_cs_statement, sizeof(CsStatement)},
+    {"cs_salvage", call_cs_salvage, 0},
 };
 
 static void fail(const char *why) {

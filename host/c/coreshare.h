@@ -1,12 +1,12 @@
 /* The core-sharing library's C interface, for x86-64. Link libcoreshare.a, which `rt staticlib coreshare` writes.
  *
  * On one core, up to 8 guests share the time, each with up to 16 tasks. Every rule stands in document 01,
- * as the requests P1 to P10 of document 02 change it.
+ * as the requests P1 to P11 of document 02 change it.
  *
  * - Records and states cross by value, and bytes are lent for the call alone: the library keeps no pointer and
  *   no state of its own, so calls from several threads need no lock.
  * - No call asks anything of its input: any value of any field is taken, and what is out of range is
- *   refused by its number. Number 0 is no refusal; the place of a refusal 7 to 15, 17 or 18, is 0.
+ *   refused by its number. Number 0 is no refusal; the place of a refusal 7 to 15, 17, 18 or 20, is 0.
  * - A pointer must be good for its length, for the whole call, and not be NULL even where the length is 0. The library
  *   does not test that, and promises nothing where it does not hold.
  * - A CsGuest is 216 bytes, a CsPlan 1,732, a CsDispatcher 3,472 and a CsStatement 2,568, both aligned to 8. They cross
@@ -180,6 +180,19 @@ typedef struct CsStated {
     uint32_t number;       /* by which the first of them was passed over; 0 if none was */
 } CsStated;
 
+/* What became of a block of a damaged plan file. */
+typedef struct CsFate {
+    uint32_t number; /* 0 kept; else the first reason that it was dropped by: 2, 3, 4, 5 or 6 */
+    uint32_t place;  /* of a kept block the new one, else 0 */
+} CsFate;
+
+typedef struct CsSalvaged {
+    CsRefusal refusal;
+    uint32_t written; /* bytes written, 512 for each kept block; 0 on a refusal */
+    uint32_t blocks;  /* whole blocks of the file, 0 with refusal 1 */
+    CsFate fates[8];  /* of each of them, with refusals 12 and 20 too; zero past them */
+} CsSalvaged;
+
 /* Reads a plan's blocks.
  * Refusals: 1 for the length; then block by block 2 sum, 3 kind (neither 1, nor 2 with marks or a 1 in byte 22) or
  * place, 4 id, capacity, period or number of tasks, 5 a byte that must be zero, a mark past the tasks or another value
@@ -300,6 +313,18 @@ CsRefusal cs_write_log(CsLogEntries jobs, uint8_t *buffer, size_t length);
  * a log's length that is no multiple of 512, with place 0. */
 CsStated cs_statement(CsStatement running, const uint8_t *plan, size_t plan_length, const uint8_t *log,
                       size_t log_length);
+
+/* Salvages a damaged plan file of 0 to 4,096 bytes. A whole block that is right but for its place is kept, any other is
+ * dropped, and so is a tail, which is not listed. Kept blocks are written to the output in order, with their places and
+ * checks written anew and nothing else in them changed, byte 22 as it is found; past them the output stays as it was.
+ * What is written reads as a plan, and of a file with nothing wrong it is the file. The file and the output must not
+ * overlap.
+ * A block is dropped by the first of these: 2 sum; 3 kind alone; 4 id (0, or that of an earlier block that is kept),
+ * capacity, period or number of tasks; 5 a byte that must be zero, a mark past the tasks or another value of byte 22;
+ * 6 a task.
+ * Refusals, with nothing written and place 0: 1 a file above 4,096 bytes, with no block listed; 12 an output shorter
+ * than the kept blocks; 20 nothing kept. */
+CsSalvaged cs_salvage(const uint8_t *file, size_t file_len, uint8_t *out, size_t out_len);
 
 #ifdef __cplusplus
 }

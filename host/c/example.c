@@ -1,11 +1,12 @@
 /* Plan A of document 01 from C: its blocks written, read and judged, an amendment to it tried, a task bound, its guests
- * made Deferrable, and its dispatcher run until a job finishes; then where the ticks went, a sheet of releases, and
- * last a statement of finished jobs.
+ * made Deferrable, and its dispatcher run until a job finishes; then where the ticks went, a sheet of releases, a
+ * statement of finished jobs, and last what is left of the plan when its first block is damaged.
  * From this folder: cc -O2 example.c ../../target/staticlib/libcoreshare.a -o example */
 #include "coreshare.h"
 
 #include <inttypes.h>
 #include <stdio.h>
+#include <string.h>
 
 /* A record with one task; more are added by hand. */
 static CsGuest guest(uint32_t id, uint32_t capacity, uint32_t period, uint32_t run, uint32_t every) {
@@ -185,6 +186,31 @@ static int state_finished_jobs(const uint8_t *plan, size_t length) {
     return 0;
 }
 
+/* The first block's check is damaged, so its guest 7 is lost; guest 9 comes back at place 0. */
+static int salvage_the_rest(const uint8_t *plan, size_t length) {
+    uint8_t file[2 * CS_BLOCK], rest[2 * CS_BLOCK];
+    memcpy(file, plan, length);
+    file[CS_BLOCK - 1] ^= 1;
+    CsSalvaged salvaged = cs_salvage(file, length, rest, sizeof rest);
+    if (refused("salvage", salvaged.refusal)) {
+        return 1;
+    }
+    for (uint32_t at = 0; at < salvaged.blocks; at++) {
+        CsFate fate = salvaged.fates[at];
+        if (fate.number == 0) {
+            printf("block %u is kept at place %u\n", at, fate.place);
+        } else {
+            printf("block %u is dropped by %u\n", at, fate.number);
+        }
+    }
+    CsRead read = cs_read(rest, salvaged.written);
+    if (refused("read", read.refusal)) {
+        return 1;
+    }
+    printf("%u bytes are salvaged, the first guest is %u\n", salvaged.written, read.plan.guests[0].id);
+    return 0;
+}
+
 int main(void) {
     uint8_t bytes[2 * CS_BLOCK];
     if (write_plan_a(bytes)) {
@@ -203,5 +229,6 @@ int main(void) {
     if (try_an_amendment(bytes, sizeof bytes) || bind_a_task(read.plan) || make_deferrable(read.plan)) {
         return 1;
     }
-    return run_until_finished(&read.plan) || state_finished_jobs(bytes, sizeof bytes);
+    return run_until_finished(&read.plan) || state_finished_jobs(bytes, sizeof bytes) ||
+           salvage_the_rest(bytes, sizeof bytes);
 }

@@ -95,6 +95,17 @@ static void statement(void) {
     FIELD(CsStated, number);
 }
 
+static void salvage(void) {
+    STRUCT(CsFate);
+    FIELD(CsFate, number);
+    FIELD(CsFate, place);
+    STRUCT(CsSalvaged);
+    FIELD(CsSalvaged, refusal);
+    FIELD(CsSalvaged, written);
+    FIELD(CsSalvaged, blocks);
+    FIELD(CsSalvaged, fates);
+}
+
 static void marks(void) {
     printf("mark %u\n", (unsigned)CS_MARK(1));
     printf("mark %u\n", (unsigned)CS_MARK(16));
@@ -109,6 +120,7 @@ int main(void) {
     records();
     dispatcher();
     statement();
+    salvage();
     marks();
     pairs();
     return 0;

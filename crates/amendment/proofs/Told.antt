@@ -1,25 +1,21 @@
 -- Each promise fixes the number and values that the answer's case sets out. Assumes nothing.
-use mathlib.Core.Path.{_≡_, refl, ap, _∙_}
+use mathlib.Core.Path.{refl, ap, _∙_}
 use mathlib.Core.List.{List}
 use Prim.Native.Nat.{ℕ}
-use Rattle.plan.specs.Told.{Told, refusing}
-use Rattle.plan.specs.declared.Plan.{Plan}
 use Rattle.verdict.specs.declared.GuestVerdict.{GuestVerdict}
 use Rattle.verdict.specs.declared.TaskVerdict.{TaskVerdict}
 use Rattle.verdict.specs.declared.Acceptance.{Acceptance}
-use Rattle.verdict.specs.declared.GuestVerdict.the-variants as guest
-use Rattle.verdict.specs.declared.TaskVerdict.the-variants as task
-use Rattle.verdict.specs.declared.Acceptance.the-variants as plans
-use Rattle.verdict.specs.Verdict.{guestVerdict, taskVerdict, acceptance}
 use Rattle.verdict.specs.Told.{guestTold, taskTold, planTold}
 use Rattle.capacity.specs.declared.CapacityAnswer.{CapacityAnswer}
-use Rattle.capacity.specs.declared.CapacityAnswer.the-variants as capacity
-use Rattle.capacity.specs.Answer.{smallestCapacity}
 use Rattle.capacity.specs.Told.{capacityTold}
 use Rattle.amendment.specs.Verdict.{pairOr}
 use Rattle.amendment.specs.Promises.{GuestJudgedIn, TaskJudgedIn, AcceptsPair, SizedIn}
 use Rattle.amendment.specs.Told.{GuestTellsIn, TaskTellsIn, PairTells, CapacityTellsIn}
 use Rattle.plan.proofs.First.{refused-told}
+use Rattle.verdict.specs.declared.GuestVerdict.the-variants as guest
+use Rattle.verdict.specs.declared.TaskVerdict.the-variants as task
+use Rattle.verdict.specs.declared.Acceptance.the-variants as plans
+use Rattle.capacity.specs.declared.CapacityAnswer.the-variants as capacity
 
 module _ (plan sheet : List ℕ) where
   -- What `guest_verdict` tells.

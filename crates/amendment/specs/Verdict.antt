@@ -6,15 +6,15 @@ use Rattle.plan.specs.First.{refusedBy}
 use Rattle.verdict.specs.declared.GuestVerdict.{GuestVerdict}
 use Rattle.verdict.specs.declared.TaskVerdict.{TaskVerdict}
 use Rattle.verdict.specs.declared.Acceptance.{Acceptance}
-use Rattle.verdict.specs.declared.GuestVerdict.the-variants as guest
-use Rattle.verdict.specs.declared.TaskVerdict.the-variants as task
-use Rattle.verdict.specs.declared.Acceptance.the-variants as plans
 use Rattle.verdict.specs.Verdict.{guestVerdict, taskVerdict, acceptance}
 use Rattle.capacity.specs.declared.CapacityAnswer.{CapacityAnswer}
-use Rattle.capacity.specs.declared.CapacityAnswer.the-variants as capacity
 use Rattle.capacity.specs.Answer.{smallestCapacity}
 use Rattle.amendment.specs.Pair.{pairRefusal}
 use Rattle.amendment.specs.Amended.{amended}
+use Rattle.verdict.specs.declared.GuestVerdict.the-variants as guest
+use Rattle.verdict.specs.declared.TaskVerdict.the-variants as task
+use Rattle.verdict.specs.declared.Acceptance.the-variants as plans
+use Rattle.capacity.specs.declared.CapacityAnswer.the-variants as capacity
 
 -- The pair's refusal, or the answer about the amended plan.
 unfoldable pub pairOr : {A : Type 0} → (ℕ → ℕ → A) → (plan sheet : List ℕ) → (Plan → A) → A

@@ -9,17 +9,17 @@ use Rattle.plan.specs.Order.{planRefusal}
 use Rattle.blockfile.specs.File.{fileRefusal}
 use Rattle.planfile.specs.declared.Reading.{Reading}
 use Rattle.planfile.specs.Records.{readOf}
-use Rattle.verdict.specs.declared.GuestVerdict.the-variants as guest
-use Rattle.verdict.specs.declared.TaskVerdict.the-variants as task
-use Rattle.verdict.specs.declared.Acceptance.the-variants as plans
 use Rattle.verdict.specs.Verdict.{guestVerdict, taskVerdict, acceptance}
-use Rattle.capacity.specs.declared.CapacityAnswer.the-variants as capacity
 use Rattle.capacity.specs.Answer.{smallestCapacity}
 use Rattle.amendment.specs.Pair.{pairRefusal}
 use Rattle.amendment.specs.Amended.{amended}
+use Rattle.amendment_laws.specs.Replaced.{Fine, replaced, AnsweredAs}
 use Rattle.amendment.proofs.Pair.{PairIn, pair-in, plan-fine}
 use Rattle.amendment.proofs.Verdict.{pair-answers}
-use Rattle.amendment_laws.specs.Replaced.{Fine, replaced, AnsweredAs}
+use Rattle.verdict.specs.declared.GuestVerdict.the-variants as guest
+use Rattle.verdict.specs.declared.TaskVerdict.the-variants as task
+use Rattle.verdict.specs.declared.Acceptance.the-variants as plans
+use Rattle.capacity.specs.declared.CapacityAnswer.the-variants as capacity
 use Rattle.amendment_laws.proofs.Replaced as bytes
 
 module _ (plan sheet : List ℕ) (ok : Fine plan sheet) where

@@ -1,9 +1,9 @@
 -- When each refusal of a pair is given, and when a block is found in the sheet or in the plan. Assumes nothing.
 use mathlib.Core.Path.{_≡_, refl, sym, ap, _∙_}
-use mathlib.Core.Logic.{_⊎_, inl, inr, ⊎-elim}
-use mathlib.Core.Bool.{Bool, true, false, false≢true}
+use mathlib.Core.Logic.{inl, inr, ⊎-elim}
+use mathlib.Core.Bool.{true, false, false≢true}
 use mathlib.Core.List.{List, [], _∷_}
-use Prim.Native.Nat.{ℕ, zero, suc, _≤_, _<_}
+use Prim.Native.Nat.{ℕ, zero, suc, _≤_}
 use native.Mathlib.Omega.{arith}
 use lib.Dec.{eqb}
 use borrow.Author.Tests.{eq-eqb, ne-eqb, eqb-false}
@@ -11,20 +11,19 @@ use Rattle.lists.specs.Exactly.{_exactlyWhen_}
 use Rattle.lists.specs.Refusals.{_orRefuse_}
 use Rattle.lists.specs.declared.Found.{Found}
 use Rattle.lists.specs.declared.Found.the-variants.{At, Nothing}
-use Rattle.plan.specs.declared.Refusal.{Refusal}
 use Rattle.plan.specs.First.{refused, orElse, firstRefused, refusedBy}
 use Rattle.block.specs.Reading.{placeIn}
 use Rattle.blockfile.specs.File.{blockAt, idAt, blocksIn, blocksRefusal, fileRefusal, firstWith}
 use Rattle.planfile_laws.specs.Exact.{FirstAt}
 use Rattle.amendment.specs.declared.Located.{Located}
 use Rattle.amendment.specs.Pair.{inPlan, inSheet, isFoundAt, knownAt, foreignNumber, sheetRefusal, pairRefusal}
+use Rattle.amendment_laws.specs.Causes.{Foreign}
 use Rattle.lists.proofs.Exactly.{among, not-given, given-first}
 use Rattle.lists.proofs.Search.{least-says, Nowhere}
 use Rattle.plan.proofs.First.{or-after}
 use Rattle.blockfile.proofs.File.{found-at}
 use Rattle.planfile_laws.proofs.Exact.{most, past-file}
 use Rattle.planfile_laws.proofs.Order.{first-is, is-first}
-use Rattle.amendment_laws.specs.Causes.{HasId, Foreign}
 use Rattle.amendment_laws.proofs.Ids.{one-place}
 
 module _ (plan sheet : List ℕ) (k : ℕ) (ok : fileRefusal plan .number ≡ 0) where

@@ -1,8 +1,8 @@
 -- What the pair's finder hands back is the block in the replaced bytes. Assumes nothing.
 use mathlib.Core.Path.{_≡_, refl, sym, ap, _∙_}
 use mathlib.Core.Bool.{true, false, false≢true}
-use mathlib.Core.List.{List, []}
-use Prim.Native.Nat.{ℕ, suc, _≤_, _<_}
+use mathlib.Core.List.{List}
+use Prim.Native.Nat.{ℕ, _≤_, _<_}
 use native.Mathlib.Omega.{arith}
 use lib.Dec.{eqb}
 use borrow.Author.Tests.{eq-eqb, ne-eqb}
@@ -14,19 +14,19 @@ use Rattle.plan.specs.declared.Refusal.{Refusal}
 use Rattle.plan.specs.First.{fine}
 use Rattle.block.specs.Reading.{placeIn}
 use Rattle.blockfile.specs.File.{blockAt, idAt, blocksIn, blocksRefusal, fileRefusal, firstWith}
-use Rattle.planfile.specs.Finder.{placeOrSeven, foundPlace, partBy, found}
+use Rattle.planfile.specs.Finder.{placeOrSeven, partBy, found}
 use Rattle.amendment.specs.declared.Located.{Located}
 use Rattle.amendment.specs.Pair.{inPlan, inSheet, pairRefusal}
-use Rattle.amendment.specs.Amended.{blockOr, amendedBlock}
+use Rattle.amendment.specs.Amended.{blockOr}
 use Rattle.amendment.specs.Finder.{standing, pairPlace, partIn, pairFound}
+use Rattle.amendment_laws.specs.Replaced.{Fine, replaced}
+use Rattle.amendment_laws.specs.Causes.{HasId}
 use Rattle.lists.proofs.Search.{least-ext, least-says, Nowhere, count-at, count-none}
 use Rattle.blockfile.proofs.File.{found-at}
-use Rattle.planfile.proofs.Finder.{place-found, found-there, found-none}
+use Rattle.planfile.proofs.Finder.{place-found}
 use Rattle.planfile_laws.proofs.Exact.{apart}
 use Rattle.amendment.proofs.Pair.{PairIn, blocks-fine}
 use Rattle.amendment.proofs.Finder.{place-stands}
-use Rattle.amendment_laws.specs.Replaced.{Fine, replaced}
-use Rattle.amendment_laws.specs.Causes.{HasId}
 use Rattle.amendment_laws.proofs.Ids.{its-place}
 use Rattle.amendment_laws.proofs.Answers.{inside, well}
 use Rattle.amendment_laws.proofs.Replaced.{count, block-at, id-at, nothing-refused}

@@ -1,26 +1,25 @@
 -- A pair that is not refused: the sheet's ids and places are those of guests of the plan, and the blocks that count
 -- have the plan's ids. Assumes nothing.
 use mathlib.Core.Path.{_≡_, refl, sym, ap, _∙_}
-use mathlib.Core.Logic.{⊎-elim}
 use mathlib.Core.Bool.{Bool, true, false, false≢true}
 use mathlib.Core.List.{List}
-use Prim.Native.Nat.{ℕ, _≤_, _<_}
+use Prim.Native.Nat.{ℕ, _<_}
 use native.Mathlib.Decide.{decLt}
 use native.Mathlib.Omega.{arith}
 use lib.Dec.{eqb}
-use borrow.Author.Tests.{eq-eqb, ne-eqb, eqb-true}
+use borrow.Author.Tests.{eq-eqb, eqb-true}
 use Rattle.lists.specs.declared.Found.{Found}
 use Rattle.lists.specs.declared.Found.the-variants.{At, Nothing}
 use Rattle.plan.specs.Order.{newId}
 use Rattle.block.specs.Reading.{idIn, placeIn, ownPlace}
 use Rattle.blockfile.specs.File.{blockAt, idAt, blocksIn, numberAt, fileRefusal, firstWith}
-use Rattle.amendment.specs.Pair.{isFoundAt, knownAt, pairRefusal}
+use Rattle.amendment.specs.Pair.{isFoundAt, knownAt}
 use Rattle.amendment.specs.Amended.{blockOr, amendedBlock}
+use Rattle.amendment_laws.specs.Replaced.{putAt}
 use Rattle.lists.proofs.Search.{least-ext}
 use Rattle.block.proofs.Reading.{BlockIn, block-in}
 use Rattle.blockfile.proofs.File.{FileIn, found-at}
 use Rattle.planfile_laws.proofs.Exact.{apart}
-use Rattle.amendment_laws.specs.Replaced.{firstAt, putAt}
 
 -- A search that found a place found that one.
 found-there : (f : Found) (place : ℕ) → isFoundAt f place ≡ true → f ≡ At place

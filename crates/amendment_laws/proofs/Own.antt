@@ -2,7 +2,7 @@
 use mathlib.Core.Path.{_≡_, refl, sym, ap, _∙_}
 use mathlib.Core.Bool.{true, false}
 use mathlib.Core.List.{List, _++_}
-use Prim.Native.Nat.{ℕ, _*_, _≤_, _<_}
+use Prim.Native.Nat.{ℕ, _*_, _<_}
 use native.Mathlib.Omega.{arith}
 use lib.ListN.{length, drop, replicate}
 use lib.Seq.{take-all}
@@ -19,20 +19,19 @@ use Rattle.block.specs.Reading.{idIn, placeIn, guestOf, kindOk, ownPlace}
 use Rattle.blockfile.specs.File.{blockAt, idAt, blocksIn, sizeOk, numberAt, blocksRefusal, fileRefusal, firstWith}
 use Rattle.blockfile.specs.Records.{recordsOf}
 use Rattle.planfile.specs.Records.{readOf}
-use Rattle.planfile_laws.specs.File.{joined}
 use Rattle.amendment.specs.declared.Located.{Located}
 use Rattle.amendment.specs.Pair.{isFoundAt, knownAt, foreignNumber}
 use Rattle.amendment.specs.Amended.{blockOr, amendedBlock, amended}
+use Rattle.amendment_laws.specs.Replaced.{Fine, putAt, replaced, AnsweredAs, OwnBlocks}
 use Rattle.lists.proofs.All.{and-right, all-by}
 use Rattle.lists.proofs.Search.{count-at}
 use Rattle.lists.proofs.Table.{table-ext}
 use Rattle.plan.proofs.First.{first-fine}
 use Rattle.block.proofs.Reading.{BlockIn, passes-too}
 use Rattle.blockfile.proofs.File.{file-in, found-at, sized}
-use Rattle.planfile_laws.proofs.Joined.{joined-ext, blocks-joined}
+use Rattle.blockfile.proofs.Joined.{joined-ext, blocks-joined}
 use Rattle.planfile_laws.proofs.OnlyOurs.{plan-is}
 use Rattle.amendment.proofs.Pair.{known, blocks-passed, pair-fine}
-use Rattle.amendment_laws.specs.Replaced.{Fine, putAt, replaced, AnsweredAs, OwnBlocks}
 use Rattle.amendment_laws.proofs.Ids.{one-place, plan-block, same-block}
 use Rattle.amendment_laws.proofs.Answers.{inside, as-same}
 

@@ -1,16 +1,14 @@
 -- The plan's bytes with the sheet's blocks at their places read as the amended plan. Assumes nothing.
 use mathlib.Core.Path.{_≡_, refl, sym, ap, _∙_}
-use mathlib.Core.Bool.{Bool, true, false, not, _||_}
+use mathlib.Core.Bool.{Bool, true}
 use mathlib.Core.List.{List, _++_}
-use Prim.Native.Nat.{ℕ, _*_, _%_, _/_, _≤_, _<_}
+use Prim.Native.Nat.{ℕ, _*_, _%_, _<_}
 use native.Mathlib.Omega.{arith}
 use lib.ListN.{length, drop, replicate}
-use lib.Dec.{eqb}
 use borrow.Author.Tests.{eq-eqb, le-leb}
 use Rattle.lists.specs.declared.Found.{Found}
 use Rattle.lists.specs.declared.Found.the-variants.{At, Nothing}
 use Rattle.plan.specs.declared.Guest.{Guest}
-use Rattle.plan.specs.declared.Plan.{Plan}
 use Rattle.plan.specs.Records.{blank}
 use Rattle.plan.specs.Ranges.{mostGuests, guestOk}
 use Rattle.plan.specs.First.{fine}
@@ -21,18 +19,17 @@ use Rattle.blockfile.specs.File.{blockAt, idAt, blocksIn, mostBytes, sizeOk, nu
 use Rattle.blockfile.specs.Records.{recordsOf}
 use Rattle.planfile.specs.declared.Reading.{Reading}
 use Rattle.planfile.specs.Records.{readOf}
-use Rattle.planfile_laws.specs.File.{joined}
 use Rattle.amendment.specs.Amended.{blockOr, amendedBlock, amended}
+use Rattle.amendment_laws.specs.Replaced.{putAt, replaced}
 use Rattle.lists.proofs.All.{and-true, and-right, all-ext}
 use Rattle.lists.proofs.Table.{table-ext}
 use Rattle.plan.proofs.First.{first-fine}
 use Rattle.block.proofs.Reading.{BlockIn, block-in, passes-too}
 use Rattle.blockfile.proofs.File.{sized, part-long, found-at}
 use Rattle.planfile.proofs.Records.{reading, read-fine}
-use Rattle.planfile_laws.proofs.Joined.{joined-length, joined-at}
+use Rattle.blockfile.proofs.Joined.{joined-length, joined-at}
 use Rattle.planfile_laws.proofs.OnlyOurs.{read-passes}
 use Rattle.amendment.proofs.Pair.{PairIn}
-use Rattle.amendment_laws.specs.Replaced.{putAt, replaced}
 use Rattle.amendment_laws.proofs.Ids.{one-place, plan-block, same-id, its-place, same-block}
 
 module _ (plan sheet : List ℕ) (ok : fileRefusal plan .number ≡ 0) (i : PairIn plan sheet) where

@@ -1,7 +1,7 @@
 -- Plan A with a sheet of one block that gives guest 9 capacity 7, by computation. Assumes nothing.
 use mathlib.Core.Path.{_≡_, refl, ap, _∙_}
 use mathlib.Core.Bool.{true}
-use mathlib.Core.List.{List, [], _∷_}
+use mathlib.Core.List.{List}
 use Prim.Native.Nat.{ℕ}
 use lib.ListN.{length}
 use Rattle.lists.specs.All.{allTo}
@@ -22,16 +22,17 @@ use Rattle.blockfile.specs.File.{sizeOk, numberAt, sizedBy, blocksRefusal, file
 use Rattle.blockfile.specs.Records.{recordsOf}
 use Rattle.planfile.specs.declared.Reading.{Reading}
 use Rattle.planfile.specs.Records.{readOf}
-use Rattle.planfile_laws.specs.File.{joined, fileOf}
+use Rattle.blockfile.specs.Joined.{joined}
+use Rattle.planfile_laws.specs.File.{fileOf}
 use Rattle.worked.specs.Plans.{A, nine}
 use Rattle.capacity.specs.Capacity.{withCapacity}
 use Rattle.amendment.specs.declared.Located.{Located}
 use Rattle.amendment.specs.Pair.{inPlan, inSheet, isFoundAt, foreignNumber, sheetRefusal, pairRefusal}
 use Rattle.amendment.specs.Amended.{blockOr, amended}
 use Rattle.amendment.specs.Finder.{standing, locatedOr, pairPlace}
+use Rattle.amendment_laws.specs.Replaced.{Fine, AnsweredAs, OwnBlocks}
 use Rattle.planfile_laws.proofs.Exact.{apart}
 use Rattle.planfile_laws.proofs.Worked.{plan-a-length, plan-a-back}
-use Rattle.amendment_laws.specs.Replaced.{Fine, AnsweredAs, OwnBlocks}
 use Rattle.amendment_laws.proofs.Answers.{as-same}
 use Rattle.amendment_laws.proofs.Own.{own-plan, own-fine}
 

@@ -10,7 +10,7 @@ use Rattle.block.specs.Reading.{placeIn}
 use Rattle.blockfile.specs.File.{blockAt, blocksIn}
 use Rattle.verdict.specs.Verdict.{guestVerdict, taskVerdict, acceptance}
 use Rattle.capacity.specs.Answer.{smallestCapacity}
-use Rattle.planfile_laws.specs.File.{joined}
+use Rattle.blockfile.specs.Joined.{joined}
 use Rattle.amendment.specs.Pair.{pairRefusal}
 use Rattle.amendment.specs.Amended.{blockOr}
 use Rattle.amendment.specs.Verdict.{pairGuestVerdict, pairTaskVerdict, pairAcceptance, pairSmallest}

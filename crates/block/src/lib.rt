@@ -5,5 +5,6 @@ mod reader;
 pub use reader::block_number;
 pub use reader::decode;
 pub use reader::id_of;
+pub use reader::kind_of;
 pub use reader::place_of;
 pub use reader::zero_between;

@@ -9,8 +9,8 @@ ghost use Rattle.block.specs.Reading.{kindIn, placeIn, idIn, taskCount, 
 use crate::layout;
 use plan::Guest;
 
-// The kind.
-fn kind_of(b: &[u8]) -> u32
+// The kind alone.
+pub fn kind_of(b: &[u8]) -> u32
     requires { ⌜ length (now b) ≡ blockSize ⌝ }
     ensures { λ r. ⌜ r ≡ kindIn (now (b .entry)) ⌝ }
 {

@@ -12,7 +12,7 @@ use lists::Found;
 use plan::Refusal;
 
 // The length of 8 blocks.
-const MOST_BYTES: usize = 8 * layout::SIZE;
+pub const MOST_BYTES: usize = 8 * layout::SIZE;
 
 // Refusal 1's test.
 pub fn size_ok(n: usize) -> bool

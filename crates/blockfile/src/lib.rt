@@ -3,6 +3,7 @@
 mod files;
 mod guests;
 
+pub use files::MOST_BYTES;
 pub use files::block_at;
 pub use files::first_with;
 pub use files::id_at;

@@ -7,6 +7,7 @@ mod amending;
 mod blocks;
 mod dispatching;
 mod judging;
+mod salvaging;
 mod stating;
 
 // A verdict with its ticks under number 0, or a refusal's number and place with both 0.

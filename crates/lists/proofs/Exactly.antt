@@ -53,3 +53,10 @@ given-later true n m ts d p q = (
   λ h. q .1 (h .1),
 )
 given-later false n m ts d p q = (λ e. absurd (d e), λ h. absurd (h .0 (p .0 refl)))
+
+-- Of one test, no number is given exactly when its cause does not hold.
+pub given-none : (b : Bool) (n : ℕ) {A : Type 0} → 0 < n → (b ≡ false) exactlyWhen A
+    → (refusal (b orRefuse n ∷ []) ≡ 0) exactlyWhen (A → ⊥)
+unfolding refusal unless
+given-none true n h p = (λ e x. false≢true (sym (p .1 x)), λ d. refl)
+given-none false n h p = (λ e. absurd (omega arith), λ d. absurd (d (p .0 refl)))

@@ -16,14 +16,6 @@ use mir.Val.{Fits, SFits, toZ, ofZ}
 use mir.Facts.{toZ-pos, toZ-ofZ, sfits-widen}
 
 -- ---- late or not
--- The margin of a job that is not late is what the deadline has left.
-pub margin-left : (deadline age : ℕ) → age ≤ deadline → marginOf deadline age ≡ pos (deadline - age)
-unfolding marginOf
-margin-left deadline zero h = ap pos (let e : deadline + 0 ≡ deadline - 0 = omega arith in e)
-margin-left deadline (suc age) h =
-    ap (λ (b : Bool). cond b (negsuc (suc age - suc deadline)) (pos (deadline - suc age)))
-    (le-ltb deadline (suc age) h)
-
 -- The margin of a late job is negative.
 margin-late : (deadline age : ℕ) → deadline < age → marginOf deadline age ≡ negsuc (age - suc deadline)
 unfolding marginOf
@@ -31,6 +23,14 @@ margin-late deadline zero h = absurd (omega arith)
 margin-late deadline (suc age) h =
     ap (λ (b : Bool). cond b (negsuc (suc age - suc deadline)) (pos (deadline - suc age)))
     (lt-ltb deadline (suc age) h)
+
+-- The margin of a job that is not late is what the deadline has left.
+pub margin-left : (deadline age : ℕ) → age ≤ deadline → marginOf deadline age ≡ pos (deadline - age)
+unfolding marginOf
+margin-left deadline zero h = ap pos (let e : deadline + 0 ≡ deadline - 0 = omega arith in e)
+margin-left deadline (suc age) h =
+    ap (λ (b : Bool). cond b (negsuc (suc age - suc deadline)) (pos (deadline - suc age)))
+    (le-ltb deadline (suc age) h)
 
 -- A job of at most R ticks has no less margin than one of R ticks.
 pub margin-falls : (deadline age R : ℕ) → age ≤ R → marginOf deadline R ≤ℤ marginOf deadline age

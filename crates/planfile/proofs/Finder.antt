@@ -8,7 +8,7 @@ use lib.Dec.{eqb}
 use Rattle.lists.specs.declared.Found.{Found}
 use Rattle.lists.specs.declared.Found.the-variants.{At, Nothing}
 use Rattle.plan.specs.declared.Refusal.{Refusal}
-use Rattle.plan.specs.First.{refused, orElse}
+use Rattle.plan.specs.First.{orElse}
 use Rattle.blockfile.specs.File.{blockAt, idAt, blocksIn, fileRefusal, firstWith}
 use Rattle.planfile.specs.Finder.{placeOrSeven, foundPlace, partBy, found}
 use Rattle.lists.proofs.Search.{Says, least-says}

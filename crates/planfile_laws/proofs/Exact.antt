@@ -15,9 +15,9 @@ use Rattle.lists.specs.Refusals.{refusal, unless, _orRefuse_}
 use Rattle.plan.specs.declared.Refusal.{Refusal}
 use Rattle.plan.specs.First.{refused, orElse}
 use Rattle.plan.specs.Order.{newId}
-use Rattle.plan.specs.Ranges.{guestOk, tasksOk}
+use Rattle.plan.specs.Ranges.{guestOk}
 use Rattle.lists.specs.Exactly.{_exactlyWhen_, _notBut_}
-use Rattle.block.specs.Reading.{guestOf, sumsToZero, kindOk, ownPlace, zerosOk, blockNumber}
+use Rattle.block.specs.Reading.{guestOf, kindOk, ownPlace, blockNumber}
 use Rattle.planfile.specs.Finder.{placeOrSeven, foundPlace, found}
 use Rattle.blockfile.specs.File.{blockAt, idAt, blocksIn, sizeOk, numberAt, sizedBy, blocksRefusal, fileRefusal, firstWith}
 use Rattle.planfile_laws.specs.Exact.{FirstAt}
@@ -28,10 +28,10 @@ use Rattle.plan.proofs.First.{or-after}
 use Rattle.block.proofs.Reading.{block-in}
 use Rattle.blockfile.proofs.File.{sized, unsized, blocks-in}
 use Rattle.planfile.proofs.Finder.{found-none, found-there}
-use Rattle.planfile_laws.proofs.Causes.{length-fails, sum-fails, opening-fails, guest-fails, tasks-fail}
-use Rattle.planfile_laws.proofs.Zeros.{zeros-fail}
-use Rattle.lists.proofs.Exactly.{among, not-given, given-first, given-later}
+use Rattle.planfile_laws.proofs.Causes.{length-fails, opening-fails, guest-fails}
+use Rattle.lists.proofs.Exactly.{among, not-given}
 use Rattle.planfile_laws.proofs.Order.{first-most, one-first, place-first}
+use Rattle.planfile_laws.proofs.BlockExact.{block-two, block-three, block-four, block-five, block-six}
 
 -- A block is refused by no number above 6.
 most-six : (t2 t3 t4 t5 t6 : Bool)
@@ -46,20 +46,25 @@ most-six true true true true true = omega arith
 
 -- The numbers of block k: each is given exactly when its cause holds and none of those before it does.
 module _ (placed : Bool) (s : List ℕ) (k : ℕ) where
+  opening : ((kindOk (blockAt s k) && (not placed || ownPlace (blockAt s k) k)) ≡ false)
+      exactlyWhen WrongOpening placed (blockAt s k) k
+  opening = opening-fails placed (blockAt s k) k
+
+  guest : ((guestOk (guestOf (blockAt s k)) && newId (idAt s) k) ≡ false)
+      exactlyWhen WrongGuest (guestOf (blockAt s k)) (idAt s) k
+  guest = guest-fails (guestOf (blockAt s k)) (idAt s) k
+
   -- 2: the block's words do not sum to zero.
   pub two-exactly : (numberAt placed s k ≡ 2) exactlyWhen WrongSum (blockAt s k)
-  unfolding numberAt blockNumber among
-  two-exactly = given-first (sumsToZero (blockAt s k)) 2 _ (omega arith) refl (sum-fails (blockAt s k))
+  unfolding numberAt
+  two-exactly = block-two (blockAt s k) _ _ opening guest
 
   -- 3: the kind is neither 1 nor 2, or 2 without marks and without a Deferrable Server, or, where places count, the
   -- place is not the block's own.
   pub three-exactly :
       (numberAt placed s k ≡ 3) exactlyWhen (WrongSum (blockAt s k) notBut WrongOpening placed (blockAt s k) k)
-  unfolding numberAt blockNumber among
-  three-exactly =
-      given-later (sumsToZero (blockAt s k)) 2 3 _ (λ q. omega arith) (sum-fails (blockAt s k))
-      (given-first (kindOk (blockAt s k) && (not placed || ownPlace (blockAt s k) k)) 3 _ (omega arith) refl
-      (opening-fails placed (blockAt s k) k))
+  unfolding numberAt
+  three-exactly = block-three (blockAt s k) _ _ opening guest
 
   -- 4: the id is 0 or already seen in an earlier block, or capacity, period or number of tasks is outside its range.
   pub four-exactly :
@@ -67,13 +72,8 @@ module _ (placed : Bool) (s : List ℕ) (k : ℕ) where
       exactlyWhen
       (WrongSum (blockAt s k) notBut WrongOpening placed (blockAt s k) k
       notBut WrongGuest (guestOf (blockAt s k)) (idAt s) k)
-  unfolding numberAt blockNumber among
-  four-exactly =
-      given-later (sumsToZero (blockAt s k)) 2 4 _ (λ q. omega arith) (sum-fails (blockAt s k))
-      (given-later (kindOk (blockAt s k) && (not placed || ownPlace (blockAt s k) k)) 3 4 _ (λ q. omega arith)
-      (opening-fails placed (blockAt s k) k)
-      (given-first (guestOk (guestOf (blockAt s k)) && newId (idAt s) k) 4 _ (omega arith) refl
-      (guest-fails (guestOf (blockAt s k)) (idAt s) k)))
+  unfolding numberAt
+  four-exactly = block-four (blockAt s k) _ _ opening guest
 
   -- 5: a byte that must be zero is not, a mark is past the tasks, or the server is neither Periodic nor Deferrable.
   pub five-exactly :
@@ -83,14 +83,8 @@ module _ (placed : Bool) (s : List ℕ) (k : ℕ) where
       notBut WrongOpening placed (blockAt s k) k
       notBut WrongGuest (guestOf (blockAt s k)) (idAt s) k
       notBut WrongZero (blockAt s k))
-  unfolding numberAt blockNumber among
-  five-exactly =
-      given-later (sumsToZero (blockAt s k)) 2 5 _ (λ q. omega arith) (sum-fails (blockAt s k))
-      (given-later (kindOk (blockAt s k) && (not placed || ownPlace (blockAt s k) k)) 3 5 _ (λ q. omega arith)
-      (opening-fails placed (blockAt s k) k)
-      (given-later (guestOk (guestOf (blockAt s k)) && newId (idAt s) k) 4 5 _ (λ q. omega arith)
-      (guest-fails (guestOf (blockAt s k)) (idAt s) k)
-      (given-first (zerosOk (blockAt s k)) 5 _ (omega arith) refl (zeros-fail (blockAt s k)))))
+  unfolding numberAt
+  five-exactly = block-five (blockAt s k) _ _ opening guest
 
   -- 6: a task's run, period or deadline is outside its range, or a bound task's period is no multiple of its guest's.
   pub six-exactly :
@@ -101,15 +95,8 @@ module _ (placed : Bool) (s : List ℕ) (k : ℕ) where
       notBut WrongGuest (guestOf (blockAt s k)) (idAt s) k
       notBut WrongZero (blockAt s k)
       notBut WrongTask (guestOf (blockAt s k)))
-  unfolding numberAt blockNumber among
-  six-exactly =
-      given-later (sumsToZero (blockAt s k)) 2 6 _ (λ q. omega arith) (sum-fails (blockAt s k))
-      (given-later (kindOk (blockAt s k) && (not placed || ownPlace (blockAt s k) k)) 3 6 _ (λ q. omega arith)
-      (opening-fails placed (blockAt s k) k)
-      (given-later (guestOk (guestOf (blockAt s k)) && newId (idAt s) k) 4 6 _ (λ q. omega arith)
-      (guest-fails (guestOf (blockAt s k)) (idAt s) k)
-      (given-later (zerosOk (blockAt s k)) 5 6 _ (λ q. omega arith) (zeros-fail (blockAt s k))
-      (given-first (tasksOk (guestOf (blockAt s k))) 6 [] (omega arith) refl (tasks-fail (guestOf (blockAt s k)))))))
+  unfolding numberAt
+  six-exactly = block-six (blockAt s k) _ _ opening guest
 
   never-one : numberAt placed s k ≡ 1 → ⊥
   unfolding numberAt blockNumber among

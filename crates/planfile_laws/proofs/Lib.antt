@@ -3,12 +3,12 @@ pub mod Marks
 pub mod Words
 pub mod BlockBack
 pub mod BlockOnly
-pub mod Joined
 pub mod ReadBack
 pub mod OnlyOurs
 pub mod Causes
 pub mod Zeros
 pub mod Order
+pub mod BlockExact
 pub mod Exact
 pub mod ExactRecords
 pub mod Worked

@@ -26,28 +26,29 @@ use Rattle.block.proofs.Reading.{block-in}
 use Rattle.plan.proofs.First.{first-fine}
 use Rattle.lists.proofs.Table.{table-before}
 use Rattle.blockfile.proofs.File.{FileIn, file-in, part-long}
+use Rattle.blockfile.proofs.Joined.{joined-ext, blocks-joined}
 use Rattle.planfile_laws.proofs.BlockOnly.{written-again}
-use Rattle.planfile_laws.proofs.Joined.{joined-ext, blocks-joined}
+
+-- The bytes of a block are bytes of the whole.
+pub block-bytes : (s : List ℕ) → Bytes s → (k : ℕ) → Bytes (blockAt s k)
+block-bytes s bytes k i =
+    elim (decLt i blockSize) [
+      | yes h ↦ rw (getD-take blockSize (drop (blockSize * k) s) i 0 h, getD-drop (blockSize * k) s i 0)
+          (bytes (blockSize * k + i))
+      | no h ↦ rw
+          (List·getD-eq-default {A = ℕ} (blockAt s k) 0 {n = i}
+          (rw (length-take blockSize (drop (blockSize * k) s)) (omega arith)))
+          (omega arith)
+    ]
 
 module _ (s : List ℕ) (ok : fileRefusal s .number ≡ 0) where
   inside : FileIn s
   inside = file-in s ok
 
-  block-bytes : Bytes s → (k : ℕ) → Bytes (blockAt s k)
-  block-bytes bytes k i =
-      elim (decLt i blockSize) [
-        | yes h ↦ rw (getD-take blockSize (drop (blockSize * k) s) i 0 h, getD-drop (blockSize * k) s i 0)
-            (bytes (blockSize * k + i))
-        | no h ↦ rw
-            (List·getD-eq-default {A = ℕ} (blockAt s k) 0 {n = i}
-            (rw (length-take blockSize (drop (blockSize * k) s)) (omega arith)))
-            (omega arith)
-      ]
-
   block-again : Bytes s → (k : ℕ) → k < blocksIn s → blockOf (guestOf (blockAt s k)) k ≡ blockAt s k
   unfolding numberAt
   block-again bytes k l =
-      written-again (blockAt s k) k (newId (idAt s) k) (part-long s (blockAt s k) k refl l) (block-bytes bytes k)
+      written-again (blockAt s k) k (newId (idAt s) k) (part-long s (blockAt s k) k refl l) (block-bytes s bytes k)
       (inside .blocks k l)
 
   guest-at : (k : ℕ) → k < blocksIn s → guestAt (recordsOf (blockAt s) (blocksIn s)) k ≡ guestOf (blockAt s k)

@@ -30,9 +30,9 @@ use Rattle.plan.proofs.Order.{PlanIn, plan-in}
 use Rattle.blockparts.proofs.Parts.{by-none}
 use Rattle.blockwriter.proofs.Writing.{none}
 use Rattle.blockfile.proofs.File.{sized}
+use Rattle.blockfile.proofs.Joined.{joined-length, joined-at}
 use Rattle.planfile.proofs.Records.{reading, read-fine}
 use Rattle.planfile_laws.proofs.BlockBack.{block-length, number-back, guest-back}
-use Rattle.planfile_laws.proofs.Joined.{joined-length, joined-at}
 
 -- A guest in its ranges passes the tests.
 head-passes : {id capacity period tasks : ℕ} → HeadIn id capacity period tasks → headOk id capacity period tasks ≡ true

@@ -23,8 +23,9 @@ use Rattle.blockwriter.specs.Writing.{withKind, withHead, wordsOf, blockOf}
 use Rattle.blockfile.specs.File.{numberAt, sizedBy, blocksRefusal}
 use Rattle.worked.specs.Plans.{anyGuest, planOf, nine, A}
 use Rattle.blockfile.specs.Records.{recordsOf}
+use Rattle.blockfile.specs.Joined.{joined}
 use Rattle.planfile.specs.Records.{planBy, readOf}
-use Rattle.planfile_laws.specs.File.{joined, fileOf}
+use Rattle.planfile_laws.specs.File.{fileOf}
 
 -- A block of zero bytes: refusal 3, place 0.
 pub zeros-refused : readOf (replicate blockSize 0) ≡ record { refusal = refused 3 0; plan = blankPlan }

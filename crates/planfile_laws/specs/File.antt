@@ -1,6 +1,6 @@
 -- A plan as a file, and as it is read back.
-use mathlib.Core.List.{List, [], _++_}
-use Prim.Native.Nat.{ℕ, zero, suc}
+use mathlib.Core.List.{List, _++_}
+use Prim.Native.Nat.{ℕ}
 use lib.ListN.{drop, replicate}
 use lib.Dec.{ltb}
 use Rattle.lists.specs.Choice.{pick}
@@ -12,11 +12,7 @@ use Rattle.plan.specs.Records.{guestAt, blank}
 use Rattle.plan.specs.Marks.{liveMarks}
 use Rattle.plan.specs.Ranges.{mostGuests, mostTasks}
 use Rattle.blockwriter.specs.Writing.{serverFor, blockOf}
-
--- The parts f 0, f 1, … and f (n - 1) one after the other.
-unfoldable pub joined : (ℕ → List ℕ) → ℕ → List ℕ
-joined f zero = []
-joined f (suc n) = joined f n ++ f n
+use Rattle.blockfile.specs.Joined.{joined}
 
 -- A plan's file: the blocks that the writer writes for its guests at places 0, 1, … and count - 1.
 unfoldable pub fileOf : Plan → List ℕ

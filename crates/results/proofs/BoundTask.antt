@@ -6,7 +6,7 @@ use Prim.Native.Nat.{_≤_}
 use native.Mathlib.Omega.{arith}
 use Rattle.dispatcher.specs.Release.{release}
 use Rattle.verdict.specs.Quoted.{Quoted}
-use Rattle.history.specs.Calls.{Call, start, play, released, ticksIn, NoneTaken}
+use Rattle.history.specs.Calls.{Call, play, released, ticksIn, NoneTaken}
 use Rattle.history.specs.Finished.{FinishedBy}
 use Rattle.history.specs.Named.{positionBy}
 use Rattle.worked.specs.Plans.{planE}

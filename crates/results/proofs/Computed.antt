@@ -45,9 +45,9 @@ use Rattle.history.specs.Named.{guestBy, boundBy, everyBy}
 use Rattle.verdict_laws.specs.Guests.{There}
 use Rattle.worked.specs.Plans.{A, A35, planB, planD, planE}
 use Rattle.amendment_laws.proofs.Worked.{answers-7}
+use Rattle.history.proofs.Times.{early-again, due-again}
 use Rattle.statement_laws.proofs.Worked as logs
 use Rattle.amendment_laws.proofs.Worked as pairs
-use Rattle.history.proofs.Times.{early-again, due-again}
 
 -- The list of starred numbers, where guests stand in document 01's plans, their first releases, and a margin.
 pub record Computed : Type 0 where

@@ -11,6 +11,7 @@ pub mod Word
 pub mod Sheets
 pub mod Independence
 pub mod Statements
+pub mod Salvaging
 pub mod Computed
 pub mod ComputedViews
 pub mod Numbers

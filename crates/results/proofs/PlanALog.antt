@@ -6,9 +6,6 @@ use lib.IntN.{pos}
 use Rattle.lists.specs.Places.{nth}
 use Rattle.planfile.specs.Records.{readOf}
 use Rattle.planfile_laws.specs.File.{fileOf}
-use Rattle.verdict.specs.Quoted.{Quoted}
-use Rattle.verdict.specs.declared.TaskVerdict.the-variants.{Met}
-use Rattle.verdict.specs.Verdict.{taskVerdict}
 use Rattle.history.specs.Calls.{releasing, running, play, answerOf}
 use Rattle.statement.specs.Lines.{empty}
 use Rattle.statement_laws.specs.LineSays.{taskLine}

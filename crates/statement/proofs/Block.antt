@@ -14,9 +14,8 @@ use Rattle.plan.specs.declared.Plan.{Plan}
 use Rattle.plan.specs.Order.{planRefusal}
 use Rattle.plan.specs.Place.{hasGuest, hasTask}
 use Rattle.block.specs.Layout.{blockSize}
-use Rattle.block.specs.Reading.{sumsToZero}
 use Rattle.logblock.specs.Layout.{mostJobs}
-use Rattle.logblock.specs.Reading.{jobsIn, entryIn, isLog, jobsPass, restZero, ownTests, ownNumber}
+use Rattle.logblock.specs.Reading.{jobsIn, entryIn, ownTests, ownNumber}
 use Rattle.statement.specs.declared.Statement.{Statement}
 use Rattle.statement.specs.declared.counting.Targets.{Targets}
 use Rattle.statement.specs.Lines.{mostBlocks}

@@ -1,12 +1,9 @@
 -- A worked example, by computation: a log against plan A, whose guest 9 has two tasks with deadlines 50 and 100.
 -- Assumes nothing.
 use mathlib.Core.Path.{_≡_, refl, ap, _∙_}
-use mathlib.Core.List.{List, [], _∷_, _++_}
-use Prim.Native.Nat.{ℕ}
-use lib.IntN.{ℤ, pos, negsuc}
-use lib.ListN.{length, take, replicate}
+use mathlib.Core.List.{[], _∷_}
+use lib.IntN.{pos, negsuc}
 use Rattle.lists.specs.All.{allTo}
-use Rattle.lists.specs.Places.{nth}
 use Rattle.lists.specs.Search.{firstFrom}
 use Rattle.lists.specs.Sum.{sumTo}
 use Rattle.lists.specs.Table.{table}
@@ -15,17 +12,15 @@ use Rattle.words.specs.Word.{word}
 use Rattle.words.specs.Bytes.{bytesOf}
 use Rattle.plan.specs.Place.{placeOf, hasGuest, hasTask}
 use Rattle.plan.specs.First.{orElse, firstRefused}
-use Rattle.block.specs.Layout.{blockSize, blockWords, halves}
 use Rattle.block.specs.Reading.{zeroBetween}
 use Rattle.blockparts.specs.Parts.{withEntry, withEntries, withCheck}
 use Rattle.logblock.specs.Writing.{logWords, logOf}
 use Rattle.logblock.specs.Entries.{jobsOk}
-use Rattle.logblock.specs.declared.Entry.{Entry}
 use Rattle.logblock.specs.Reading.{entryIn}
 use Rattle.margins.specs.Margin.{marginOf}
 use Rattle.worked.specs.Plans.{A}
 use Rattle.statement.specs.declared.Statement.{Statement}
-use Rattle.statement.specs.Lines.{empty, marginsAt}
+use Rattle.statement.specs.Lines.{empty}
 use Rattle.statement.specs.Counting.{countedAt, entriesCounted, blockCounted}
 use Rattle.statement.specs.Block.{blockNumber}
 use Rattle.statement.specs.Log.{takenBy, afterBlocks, passedBy}

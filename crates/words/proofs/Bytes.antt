@@ -44,7 +44,7 @@ digits4 w r0 r1 r2 r3 q1 q2 q3 q4 h0 h1 h2 h3 l0 l1 l2 l3 = omega arith
 byte : (x : ℕ) → x % 256 < 256
 byte x = omega arith
 
-join4-mod : (w : ℕ)
+pub join4-mod : (w : ℕ)
     → w % 256 + 256 * (w / 256 % 256) + 65536 * (w / 65536 % 256) + 16777216 * (w / 16777216 % 256) ≡ w % wordWrap
 join4-mod w =
     digits4 w (w % 256) (w / 256 % 256) (w / 65536 % 256) (w / 16777216 % 256) (w / 256) (w / 65536) (w / 16777216)
@@ -61,7 +61,7 @@ low a y h = omega arith
 high : (a y : ℕ) → a < 256 → (a + 256 * y) / 256 ≡ y
 high a y h = omega arith
 
-split4 : (a b c d : ℕ) → a < 256 → b < 256 → c < 256 → d < 256 →
+pub split4 : (a b c d : ℕ) → a < 256 → b < 256 → c < 256 → d < 256 →
     bytes4 (a + 256 * b + 65536 * c + 16777216 * d) ≡ a ∷ b ∷ c ∷ d ∷ []
 split4 a b c d ha hb hc hd =
     let w : ℕ = a + 256 * (b + 256 * (c + 256 * d)) in

@@ -3,6 +3,7 @@
 
 mod amended;
 mod dispatcher;
+mod salvage;
 mod sheets;
 mod statements;
 
@@ -44,6 +45,7 @@ pub fn all() -> Vec<Case> {
     all.extend(amended::all());
     all.extend(dispatching());
     all.extend(statements::all());
+    all.extend(salvage::all());
     all
 }
 
@@ -106,7 +108,7 @@ fn dispatching() -> Vec<Case> {
     ]
 }
 
-/// The aim for plan files, verdicts, capacities and statements, and the one for the dispatcher.
+/// The aim for plan files, verdicts, capacities, statements and salvages, and the one for the dispatcher.
 const FILES: f64 = 1.2;
 const DISPATCHER: f64 = 1.5;
 

@@ -1,8 +1,10 @@
 //! The plans that are measured, as blocks: each side reads them by its own reader. Beside them the sheets, of
-//! amendments and of releases, and the logs.
+//! amendments and of releases, the logs, and the damaged files.
 
+mod damaged;
 mod logs;
 
+pub use damaged::half_damaged;
 pub use logs::{jobs, log};
 
 use coreshare::pair;

@@ -5,11 +5,12 @@ use reference::amendment::Located;
 use reference::dispatcher::{Dispatcher, Released, Run, Start, Ticked};
 use reference::log::LogEntries;
 use reference::plan::{Guest, Plan, Read, Refusal};
+use reference::salvage::Salvaged;
 use reference::statement::{Stated, Statement};
 use reference::verdict::Verdict;
 
 /// The exports' names, in the order of [`Call`].
-pub const EXPORTS: [&str; 20] = [
+pub const EXPORTS: [&str; 21] = [
     "cs_read",
     "cs_check",
     "cs_write",
@@ -30,6 +31,7 @@ pub const EXPORTS: [&str; 20] = [
     "cs_amended_smallest_capacity",
     "cs_statement",
     "cs_write_log",
+    "cs_salvage",
 ];
 
 #[derive(Clone, Debug, PartialEq)]
@@ -50,6 +52,7 @@ pub enum Call {
     Amended(Amended, Question),
     State(Box<Statement>, Logged),
     WriteLog(Box<LogEntries>, Vec<u8>),
+    Salvage(Vec<u8>, Vec<u8>),
 }
 
 /// A plan's blocks and a log.
@@ -90,6 +93,7 @@ pub enum Outcome {
     Run(Box<Run>),
     Located(Located),
     Stated(Box<Stated>),
+    Salvaged(Box<Salvaged>, Vec<u8>),
 }
 
 impl Call {
@@ -116,6 +120,7 @@ impl Call {
             Call::Amended(_, Question::Capacity(..)) => 17,
             Call::State(..) => 18,
             Call::WriteLog(..) => 19,
+            Call::Salvage(..) => 20,
         }
     }
 
@@ -148,6 +153,7 @@ impl Call {
                 Outcome::Stated((side.statement)(running, &of.plan, &of.log).into())
             }
             Call::WriteLog(jobs, buffer) => written(buffer, |lent| (side.write_log)(jobs, lent)),
+            Call::Salvage(file, out) => salvaged(side, file, out),
         }
     }
 
@@ -195,6 +201,13 @@ fn answered(side: &Side, state: &Dispatcher, pairs: &[u64], answers: &[u32]) -> 
     Outcome::Sheet(outcome.into(), kept)
 }
 
+/// The output is a part of a longer list of bytes, and the whole list is kept.
+fn salvaged(side: &Side, file: &[u8], out: &[u8]) -> Outcome {
+    let mut kept = [out, &[0xA5; 16]].concat();
+    let outcome = (side.salvage)(file, &mut kept[..out.len()]);
+    Outcome::Salvaged(outcome.into(), kept)
+}
+
 impl Outcome {
     /// The refusal's number, 0 for none.
     pub fn number(&self) -> u32 {
@@ -208,6 +221,7 @@ impl Outcome {
             Outcome::Run(outcome) => outcome.refusal.number,
             Outcome::Located(located) => located.number,
             Outcome::Stated(outcome) => outcome.refusal.number,
+            Outcome::Salvaged(outcome, _) => outcome.refusal.number,
         }
     }
 

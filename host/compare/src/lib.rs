@@ -17,6 +17,7 @@ pub mod planview;
 mod promise;
 mod random;
 mod random_calls;
+pub mod salvage;
 pub mod session;
 mod sheets;
 mod show;
@@ -37,11 +38,13 @@ pub fn everything(session: &mut Session, budget: Duration) {
     pairs::compare(session);
     amendments::compare(session);
     statements::compare(session);
+    salvage::compare(session);
     let end = Instant::now() + budget;
     while Instant::now() < end {
         random_calls::round(session);
         amendments::round(session);
         statements::round(session);
+        salvage::round(session);
         histories::history(session);
         promise::histories(session);
         independence::histories(session);

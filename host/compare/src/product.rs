@@ -6,6 +6,7 @@ use reference::amendment::Located;
 use reference::dispatcher::{Answer, Dispatcher, Released, Run, Start, Ticked};
 use reference::log::LogEntries;
 use reference::plan::{Guest, Plan, Read, Refusal};
+use reference::salvage::{Fate, Salvaged};
 use reference::statement::{Stated, Statement};
 use reference::verdict::Verdict;
 
@@ -36,6 +37,7 @@ pub const PRODUCT: Side = Side {
     },
     statement: |running, plan, log| stated(exports::statement(&statement_in(running), plan, log)),
     write_log: |jobs, buffer| refusal(exports::write_log(&jobs_in(jobs), buffer)),
+    salvage: |file, out| salvaged(exports::salvage(file, out)),
 };
 
 fn guest_in(guest: &Guest) -> coreshare::Guest {
@@ -211,5 +213,17 @@ fn stated(outcome: coreshare::Stated) -> Stated {
         passed: outcome.passed,
         position: outcome.position,
         number: outcome.number,
+    }
+}
+
+fn salvaged(outcome: coreshare::Salvaged) -> Salvaged {
+    Salvaged {
+        refusal: refusal(outcome.refusal),
+        written: outcome.written,
+        blocks: outcome.blocks,
+        fates: outcome.fates.map(|fate| Fate {
+            number: fate.number,
+            place: fate.place,
+        }),
     }
 }

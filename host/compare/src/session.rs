@@ -9,7 +9,7 @@ use crate::shrink::shrink;
 use crate::side::{REFERENCE, Side};
 
 /// The numbers of document 01's refusals and document 02's as far as it has landed, and 0 for none.
-const NUMBERS: usize = 20;
+const NUMBERS: usize = 21;
 
 /// Verdicts, and kinds of answers, and 0 for none.
 const KINDS: usize = 5;
@@ -28,6 +28,8 @@ pub struct Session {
     located: [[u64; NUMBERS]; 2],
     /// How often the first block of a log that was passed over was so by each number, 0 where none was.
     passed: [u64; NUMBERS],
+    /// How often a block of a damaged plan file was dropped by each number, 0 where it was kept.
+    fates: [u64; NUMBERS],
     /// Checks that are not one call: their name, how often they held, how often not.
     others: Vec<(&'static str, u64, u64)>,
     /// What else is worth knowing; it is printed, and counts neither as passed nor as failed.
@@ -46,6 +48,7 @@ impl Session {
             answers: [0; NUMBERS],
             located: [[0; NUMBERS]; 2],
             passed: [0; NUMBERS],
+            fates: [0; NUMBERS],
             others: Vec::new(),
             facts: Vec::new(),
         }
@@ -82,6 +85,11 @@ impl Session {
             }
             Outcome::Stated(stated) if stated.refusal.number == 0 => {
                 self.passed[stated.number as usize] += 1;
+            }
+            Outcome::Salvaged(salvaged, _) => {
+                for fate in salvaged.list() {
+                    self.fates[fate.number as usize] += 1;
+                }
             }
             _ => (),
         }
@@ -162,6 +170,7 @@ impl Session {
             ("companion of the plan", &self.located[0]),
             ("companion of the sheet", &self.located[1]),
             ("logs by first block passed over", &self.passed),
+            ("blocks of files by fate", &self.fates),
         ] {
             println!("{name:<39}  {}", counts(numbers, 0));
         }

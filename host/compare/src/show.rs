@@ -1,11 +1,13 @@
 //! Prints a call and its two outcomes, leaving out what is zero.
 
+mod salvage;
 mod statements;
 
 use crate::call::{Amended, Call, EXPORTS, Outcome, Question};
 use crate::side::{REFERENCE, Side};
 use reference::dispatcher::{Dispatcher, parts};
 use reference::plan::{Guest, MOST_TASKS, Plan};
+pub use salvage::salvaged;
 use statements::{jobs, statement};
 pub use statements::{logged, stated};
 use std::fmt::Display;
@@ -40,6 +42,7 @@ fn input(call: &Call) -> String {
         Call::Amended(of, question) => format!("{name} {} {}", asked(*question), amended(of)),
         Call::State(running, of) => format!("{name} {} {}", statement(running), logged(of)),
         Call::WriteLog(of, buffer) => format!("{name} length {} {}", buffer.len(), jobs(of)),
+        Call::Salvage(file, out) => format!("{name} room {} {}", out.len(), blocks(file)),
     }
 }
 
@@ -64,6 +67,7 @@ fn outcome(outcome: &Outcome) -> String {
         Outcome::Verdict(verdict) => format!("{verdict:?}"),
         Outcome::Located(located) => format!("{located:?}"),
         Outcome::Stated(outcome) => stated(outcome),
+        Outcome::Salvaged(outcome, out) => salvaged(outcome, out),
         Outcome::Start(start) => format!("{:?} {}", start.refusal, state(&start.dispatcher)),
         Outcome::Released(next) => format!("{:?} {}", next.refusal, state(&next.dispatcher)),
         Outcome::Sheet(next, answers) => {
@@ -100,7 +104,7 @@ pub fn pairs(of: &[u64]) -> String {
 }
 
 /// The length and each byte that is not zero, with its place.
-fn blocks(bytes: &[u8]) -> String {
+pub fn blocks(bytes: &[u8]) -> String {
     format!("{} bytes [{}]", bytes.len(), not_zero(bytes))
 }
 

@@ -1,6 +1,7 @@
 //! Makes an input smaller as long as the two sides still differ.
 
 mod amended;
+mod salvage;
 mod sheets;
 mod statements;
 mod states;
@@ -49,6 +50,7 @@ fn smaller(call: &Call) -> Vec<Call> {
         }
         Call::State(running, of) => statements::smaller(running, of),
         Call::WriteLog(jobs, buffer) => statements::smaller_writes(jobs, buffer),
+        Call::Salvage(file, out) => salvage::smaller(file, out),
     }
 }
 

@@ -4,6 +4,7 @@ use reference::amendment::{self, Located};
 use reference::dispatcher::{self, Dispatcher, Released, Run, Start, Ticked};
 use reference::log::{self, LogEntries};
 use reference::plan::{self, Guest, Plan, Read, Refusal};
+use reference::salvage::{self, Salvaged};
 use reference::statement::{self, Stated, Statement};
 use reference::verdict::{self, Verdict};
 
@@ -30,6 +31,7 @@ pub struct Side {
     pub amended_smallest_capacity: fn(&[u8], &[u8], u32) -> Verdict,
     pub statement: fn(&Statement, &[u8], &[u8]) -> Stated,
     pub write_log: fn(&LogEntries, &mut [u8]) -> Refusal,
+    pub salvage: fn(&[u8], &mut [u8]) -> Salvaged,
 }
 
 /// The reference: the documents' sentences in plain Rust.
@@ -54,4 +56,5 @@ pub const REFERENCE: Side = Side {
     amended_smallest_capacity: amendment::smallest_capacity,
     statement: statement::state,
     write_log: log::write,
+    salvage: salvage::salvage,
 };

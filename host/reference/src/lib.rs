@@ -10,6 +10,7 @@ pub mod amendment;
 pub mod dispatcher;
 pub mod log;
 pub mod plan;
+pub mod salvage;
 pub mod samples;
 pub mod show;
 pub mod statement;

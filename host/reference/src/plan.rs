@@ -7,7 +7,8 @@ mod tests;
 
 pub use block::{BLOCK, LONGEST_PLAN, Read, blocks_of, find, found, read, seal, write};
 pub(crate) use block::{
-    carried_place, length_in_range, put_short, put_word, read_block, short, sum_of_words, word,
+    PLACE, carried_place, length_in_range, put_short, put_word, read_block, short, sum_of_words,
+    word,
 };
 
 /// The most guests in a plan.

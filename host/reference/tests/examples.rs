@@ -1,6 +1,7 @@
 //! The plan files of the folder `examples`: each is made of the text beside it, and prints what the folder's page says.
 
 use reference::plan::{Guest, Plan, blocks_of};
+use reference::salvage::{Fate, salvage};
 use reference::show::text;
 use std::fs;
 use std::path::PathBuf;
@@ -59,9 +60,13 @@ fn plan_of(name: &str) -> Plan {
 
 /// What the page says that a plan file prints: the first lines after its name that are set off.
 fn printed(name: &str) -> String {
+    set_off_after(&format!("**`{name}.plan`**"))
+}
+
+/// The first lines of the page that are set off after one that starts so.
+fn set_off_after(start: &str) -> String {
     let page = lines_of("README.md");
-    let named = format!("**`{name}.plan`**");
-    let after = page.iter().skip_while(|line| !line.starts_with(&named));
+    let after = page.iter().skip_while(|line| !line.starts_with(start));
     let set_off = after.skip_while(|line| !line.starts_with("    "));
     let lines = set_off.take_while(|line| line.starts_with("    "));
     lines.map(|line| line[4..].to_string() + "\n").collect()
@@ -79,4 +84,16 @@ fn each_plan_file_prints_what_the_page_says() {
     for name in NAMES {
         assert_eq!(text(&plan_file(name)), printed(name), "{name}");
     }
+}
+
+#[test]
+fn the_damaged_plan_file_is_salvaged_as_the_page_says() {
+    let mut file = blocks_of(&plan_of("plan-a"));
+    file[508] ^= 1;
+    assert_eq!(plan_file("damaged"), file);
+    assert_eq!(text(&file), printed("damaged"));
+    let mut out = [0; 512];
+    let salvaged = salvage(&file, &mut out);
+    assert_eq!(salvaged.list(), [Fate::dropped(2), Fate::kept(0)]);
+    assert_eq!(text(&out), set_off_after("Salvage"));
 }

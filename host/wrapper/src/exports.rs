@@ -1,17 +1,19 @@
 //! One safe function for each export, with its outcome whole.
 
 mod amended;
+mod salvage;
 mod statement;
 
 pub use amended::{
     amended_accept, amended_find, amended_guest_verdict, amended_smallest_capacity,
     amended_task_verdict,
 };
+pub use salvage::salvage;
 pub use statement::{statement, write_log};
 
 use crate::{Dispatcher, Guest, Plan, Read, Refusal, Released, Run, Start, Ticked, Verdict};
 
-/// The library's declarations: all that is unsafe is here, in `amended` and in `statement`.
+/// The library's declarations: all that is unsafe is here, in `amended`, in `statement` and in `salvage`.
 #[allow(unsafe_code)]
 mod library {
     use super::*;

@@ -1,7 +1,9 @@
 //! The structs that cross the C interface, field by field as `coreshare.h` has them.
 
+mod salvage;
 mod statement;
 
+pub use salvage::{Fate, Salvaged};
 pub use statement::{LogEntries, LogEntry, Stated, Statement};
 
 use core::fmt;
@@ -180,7 +182,7 @@ impl Refusal {
     pub fn meaning(self) -> &'static str {
         match self.number {
             0 => "not refused",
-            1 => "the length of the plan, sheet or log, or the guest count, is out of range",
+            1 => "the length of the plan, sheet, log or file, or the guest count, is out of range",
             2 => "the block's words don't sum to zero",
             3 => "the kind is neither 1 nor 2 with marks or Deferrable (a log's: not 3), or the place is not its own",
             4 => "id, capacity, period or number of tasks is out of range",
@@ -191,7 +193,7 @@ impl Refusal {
             9 => "release before the task's period has passed",
             10 => "release while the task's last job is unfinished",
             11 => "no capacity works",
-            12 => "a buffer shorter than 512, or fewer answer places than pairs",
+            12 => "a buffer shorter than 512 or than the kept blocks, or fewer answer places than pairs",
             13 => "a run of more than 1,000,000 ticks",
             14 => "a state or a running statement outside its ranges",
             15 => "a sheet of more than 256 pairs",
@@ -199,6 +201,7 @@ impl Refusal {
             17 => "release of a bound task while its guest's position is not 0",
             18 => "a log block's number of jobs, or an age, is out of range",
             19 => "a log block past the millionth",
+            20 => "no block of the file is kept",
             _ => "no number of document 01 or 02",
         }
     }

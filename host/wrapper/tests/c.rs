@@ -7,8 +7,8 @@ use std::path::{Path, PathBuf};
 use std::process::Command;
 
 use coreshare::{
-    Answer, Dispatcher, Guest, Located, LogEntries, LogEntry, Plan, Read, Refusal, Released, Run,
-    Start, Stated, Statement, Ticked, Verdict, mark, pair,
+    Answer, Dispatcher, Fate, Guest, Located, LogEntries, LogEntry, Plan, Read, Refusal, Released,
+    Run, Salvaged, Start, Stated, Statement, Ticked, Verdict, mark, pair,
 };
 
 /// Compiles a C file of the folder `c` beside this crate, runs it and gives what it wrote.
@@ -74,6 +74,8 @@ fn layout() -> String {
     lines!(to, "CsLogEntries", LogEntries, count entries);
     lines!(to, "CsStatement", Statement, blocks margins jobs longest late);
     lines!(to, "CsStated", Stated, refusal statement passed position number);
+    lines!(to, "CsFate", Fate, number place);
+    lines!(to, "CsSalvaged", Salvaged, refusal written blocks fates);
     for mark in [mark(1), mark(16)] {
         writeln!(to, "mark {mark}").unwrap();
     }
@@ -128,6 +130,9 @@ nobody had 4
 sheet answered 0 9 9 7
 1 block counted: 2 jobs, longest age 60, 1 late, margins 16
 1 passed over, the first at 1 by 3
+block 0 is dropped by 2
+block 1 is kept at place 0
+512 bytes are salvaged, the first guest is 9
 ";
     assert_eq!(output_of("example", &[archive]), text);
 }

@@ -1,10 +1,10 @@
 -- `amendment::accept` meets its contract: the pair's refusal, or the amended plan's answer. Assumes nothing.
 use mathlib.Core.Path.{_∙_}
-use Rattle.verdict.specs.declared.Acceptance.the-variants as plans
+use borrow.Author.Needs.{needs}
 use Rattle.verdict.specs.Verdict.{acceptance}
 use Rattle.amendment.proofs.Verdict.{pair-refuses, read-answers}
-use borrow.Author.Needs.{needs}
 use Rattle.amendment.proofs.accept.Statement.{statement}
+use Rattle.verdict.specs.declared.Acceptance.the-variants as plans
 use Rattle.amendment.proofs.accept.Tie as tie
 
 read-requires : tie.Need-read-requires

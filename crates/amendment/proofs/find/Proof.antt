@@ -1,10 +1,8 @@
 -- `amendment::find` meets its contract: the block at the place that was found, in the sheet or in the plan. Assumes
 -- nothing.
-use mathlib.Core.Path.{ap, _∙_}
-use native.Mathlib.Omega.{arith}
-use Rattle.amendment.specs.declared.Located.{Located}
-use Rattle.amendment.proofs.Finder.{found-none, found-in-sheet, found-in-plan, found-within}
+use mathlib.Core.Path.{_∙_}
 use borrow.Author.Needs.{needs}
+use Rattle.amendment.proofs.Finder.{found-none, found-in-sheet, found-in-plan, found-within}
 use Rattle.amendment.proofs.find.Statement.{statement}
 use Rattle.amendment.proofs.find.Tie as tie
 

@@ -1,12 +1,12 @@
 -- `amendment::find_place` meets its contract: the pair's refusal, or what the searches found. Assumes nothing.
 use mathlib.Core.Path.{ap, _∙_}
 use native.Mathlib.Omega.{arith}
+use borrow.Author.Needs.{needs}
 use Rattle.lists.specs.declared.Found.{Found}
 use Rattle.blockfile.specs.File.{firstWith}
 use Rattle.amendment.specs.Finder.{standing}
 use Rattle.amendment.proofs.Pair.{PairIn, pair-in}
 use Rattle.amendment.proofs.Finder.{place-refused, place-stands}
-use borrow.Author.Needs.{needs}
 use Rattle.amendment.proofs.find_place.Statement.{statement}
 use Rattle.amendment.proofs.find_place.Tie as tie
 

@@ -1,10 +1,10 @@
 -- `amendment::guest_verdict` meets its contract: the pair's refusal, or the amended plan's answer. Assumes nothing.
 use mathlib.Core.Path.{_∙_}
-use Rattle.verdict.specs.declared.GuestVerdict.the-variants as guest
+use borrow.Author.Needs.{needs}
 use Rattle.verdict.specs.Verdict.{guestVerdict}
 use Rattle.amendment.proofs.Verdict.{pair-refuses, read-answers}
-use borrow.Author.Needs.{needs}
 use Rattle.amendment.proofs.guest_verdict.Statement.{statement}
+use Rattle.verdict.specs.declared.GuestVerdict.the-variants as guest
 use Rattle.amendment.proofs.guest_verdict.Tie as tie
 
 read-requires : tie.Need-read-requires

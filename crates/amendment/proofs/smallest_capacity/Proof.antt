@@ -1,10 +1,10 @@
 -- `amendment::smallest_capacity` meets its contract: the pair's refusal, or the amended plan's answer. Assumes nothing.
 use mathlib.Core.Path.{_∙_}
-use Rattle.capacity.specs.declared.CapacityAnswer.the-variants as capacity
+use borrow.Author.Needs.{needs}
 use Rattle.capacity.specs.Answer.{smallestCapacity}
 use Rattle.amendment.proofs.Verdict.{pair-refuses, read-answers}
-use borrow.Author.Needs.{needs}
 use Rattle.amendment.proofs.smallest_capacity.Statement.{statement}
+use Rattle.capacity.specs.declared.CapacityAnswer.the-variants as capacity
 use Rattle.amendment.proofs.smallest_capacity.Tie as tie
 
 read-requires : tie.Need-read-requires

@@ -1,10 +1,10 @@
 -- `amendment::task_verdict` meets its contract: the pair's refusal, or the amended plan's answer. Assumes nothing.
 use mathlib.Core.Path.{_∙_}
-use Rattle.verdict.specs.declared.TaskVerdict.the-variants as task
+use borrow.Author.Needs.{needs}
 use Rattle.verdict.specs.Verdict.{taskVerdict}
 use Rattle.amendment.proofs.Verdict.{pair-refuses, read-answers}
-use borrow.Author.Needs.{needs}
 use Rattle.amendment.proofs.task_verdict.Statement.{statement}
+use Rattle.verdict.specs.declared.TaskVerdict.the-variants as task
 use Rattle.amendment.proofs.task_verdict.Tie as tie
 
 read-requires : tie.Need-read-requires

@@ -3,12 +3,14 @@
 #![allow(improper_ctypes_definitions)] // slices, as the library takes them: a pointer and a length
 
 mod amended;
+mod salvage;
 mod statement;
 
 pub use amended::{
     Located, amended_accept, amended_find, amended_guest_verdict, amended_smallest_capacity,
     amended_task_verdict,
 };
+pub use salvage::{Salvaged, salvage};
 pub use statement::{Stated, statement, write_log};
 
 use crate::dispatcher::Tick;

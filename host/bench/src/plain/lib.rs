@@ -9,6 +9,7 @@ pub mod dispatcher;
 pub mod exports;
 pub mod log;
 pub mod records;
+pub mod salvage;
 pub mod statement;
 pub mod verdict;
 

@@ -1,5 +1,6 @@
 //! Holds plain Rust to the reference, as the library is held: what is measured must be right.
 
+mod salvage;
 mod statement;
 
 use crate as plain;
@@ -39,6 +40,7 @@ const PLAIN: Side = Side {
     },
     statement: statement::statement,
     write_log: statement::write_log,
+    salvage: salvage::salvage,
 };
 
 #[test]

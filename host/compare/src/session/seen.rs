@@ -5,7 +5,7 @@ use crate::call::EXPORTS;
 use std::ops::RangeInclusive;
 
 /// The numbers that whole calls are refused by; 19 is given of a log's block alone.
-const REFUSALS: RangeInclusive<usize> = 1..=18;
+const REFUSALS: [RangeInclusive<usize>; 2] = [1..=18, 20..=20];
 
 /// The numbers that a pair of a sheet is answered by.
 const ANSWERS: [usize; 6] = [0, 7, 8, 9, 10, 17];
@@ -25,10 +25,15 @@ const LOGGED: [(usize, &[usize]); 2] = [(18, &[0, 1, 2, 3, 4, 5, 6, 14]), (19, &
 /// The numbers that a log's first block passed over has, and 0 where none is.
 const PASSED: [usize; 8] = [0, 2, 3, 5, 7, 8, 18, 19];
 
+/// The export that salvages, what it gives, and the numbers that a block of the file has, 0 where it is kept.
+const SALVAGE: usize = 20;
+const SALVAGED: [usize; 4] = [0, 1, 12, 20];
+const FATES: [usize; 6] = [0, 2, 3, 4, 5, 6];
+
 impl Session {
     /// Notes for each number whether it was seen, and prints those that were not.
     pub(super) fn each_number_seen(&mut self) {
-        for number in REFUSALS {
+        for number in REFUSALS.into_iter().flatten() {
             let seen = self.seen.iter().any(|numbers| numbers[number] > 0);
             self.demand("each refusal number seen", seen, || {
                 format!("refusal {number} was not seen")
@@ -42,6 +47,7 @@ impl Session {
         }
         self.each_amended_number_seen();
         self.each_number_of_logs_seen();
+        self.each_number_of_files_seen();
     }
 
     fn each_amended_number_seen(&mut self) {
@@ -70,6 +76,18 @@ impl Session {
             let seen = self.passed[number] > 0;
             self.demand("each number of logs seen", seen, || {
                 format!("no log had {number} as its first block's passed over")
+            });
+        }
+    }
+
+    fn each_number_of_files_seen(&mut self) {
+        for number in SALVAGED {
+            self.demand_of(SALVAGE, number, "each number of files seen");
+        }
+        for number in FATES {
+            let seen = self.fates[number] > 0;
+            self.demand("each number of files seen", seen, || {
+                format!("no block of a file had {number} as its fate")
             });
         }
     }

@@ -13,7 +13,7 @@ pub const BLOCK: usize = 512;
 pub const LONGEST_PLAN: usize = BLOCK * MOST_GUESTS;
 
 const KIND: usize = 0;
-const PLACE: usize = 2;
+pub(crate) const PLACE: usize = 2;
 const ID: usize = 4;
 const CAPACITY: usize = 8;
 const PERIOD: usize = 12;

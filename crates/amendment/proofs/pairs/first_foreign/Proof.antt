@@ -3,11 +3,11 @@ use mathlib.Core.Path.{_≡_, refl, sym, _∙_}
 use Prim.Native.Nat.{_-_, _≤_}
 use native.Mathlib.Omega.{arith}
 use borrow.Author.Tests.{not-true, not-false}
+use borrow.Author.Needs.{needs}
 use Rattle.plan.specs.First.{firstRefused}
 use Rattle.amendment.specs.Pair.{foreignNumber}
 use Rattle.plan.proofs.First.{first-here, first-next, first-end}
 use Rattle.amendment.proofs.Pair.{foreign, known}
-use borrow.Author.Needs.{needs}
 use Rattle.amendment.proofs.pairs.first_foreign.Statement.{statement}
 use Rattle.amendment.proofs.pairs.first_foreign.Tie as tie
 

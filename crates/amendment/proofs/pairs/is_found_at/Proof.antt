@@ -1,7 +1,6 @@
 -- `amendment::pairs::is_found_at` meets its contract, by what was found. Assumes nothing.
-use mathlib.Core.Path.{refl}
-use Rattle.amendment.specs.Pair.{isFoundAt}
 use borrow.Author.Needs.{needs}
+use Rattle.amendment.specs.Pair.{isFoundAt}
 use Rattle.amendment.proofs.pairs.is_found_at.Statement.{statement}
 use Rattle.amendment.proofs.pairs.is_found_at.Tie as tie
 

@@ -1,13 +1,11 @@
 -- `amendment::pairs::known_at` meets its contract: the part is the sheet's block k. Assumes nothing.
 use mathlib.Core.Path.{ap, _∙_}
-use mathlib.Core.List.{List}
-use Prim.Native.Nat.{ℕ}
+use borrow.Author.Needs.{needs}
 use Rattle.lists.specs.declared.Found.{Found}
 use Rattle.block.specs.Reading.{placeIn}
 use Rattle.blockfile.specs.File.{idAt, firstWith}
 use Rattle.amendment.specs.Pair.{isFoundAt}
 use Rattle.blockfile.proofs.File.{part-long}
-use borrow.Author.Needs.{needs}
 use Rattle.amendment.proofs.pairs.known_at.Statement.{statement}
 use Rattle.amendment.proofs.pairs.known_at.Tie as tie
 

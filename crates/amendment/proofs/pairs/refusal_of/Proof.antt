@@ -1,10 +1,10 @@
 -- `amendment::pairs::refusal_of` meets its contract: the plan's refusal, the sheet's, or none. Assumes nothing.
 use mathlib.Core.Path.{ap}
 use native.Mathlib.Omega.{arith}
+use borrow.Author.Needs.{needs}
 use Rattle.plan.specs.declared.Refusal.{Refusal}
 use Rattle.blockfile.proofs.File.{file-in}
 use Rattle.amendment.proofs.Pair.{plan-refused, sheet-refused, pair-fine}
-use borrow.Author.Needs.{needs}
 use Rattle.amendment.proofs.pairs.refusal_of.Statement.{statement}
 use Rattle.amendment.proofs.pairs.refusal_of.Tie as tie
 

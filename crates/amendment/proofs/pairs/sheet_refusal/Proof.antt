@@ -1,12 +1,12 @@
 -- `amendment::pairs::sheet_refusal` meets its contract: the blocks' refusal, or else that of the second pass. Assumes
 -- nothing.
 use mathlib.Core.Path.{ap}
+use mathlib.Core.Bool.{false}
 use native.Mathlib.Omega.{arith}
+use borrow.Author.Needs.{needs}
 use Rattle.plan.specs.declared.Refusal.{Refusal}
 use Rattle.blockfile.proofs.File.{blocks-in}
 use Rattle.amendment.proofs.Pair.{blocks-refused, blocks-passed}
-use mathlib.Core.Bool.{false}
-use borrow.Author.Needs.{needs}
 use Rattle.amendment.proofs.pairs.sheet_refusal.Statement.{statement}
 use Rattle.amendment.proofs.pairs.sheet_refusal.Tie as tie
 

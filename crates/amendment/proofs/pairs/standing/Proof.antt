@@ -1,6 +1,6 @@
 -- `amendment::pairs::standing` meets its contract, by what was found. Assumes nothing.
-use Rattle.amendment.specs.Finder.{standing}
 use borrow.Author.Needs.{needs}
+use Rattle.amendment.specs.Finder.{standing}
 use Rattle.amendment.proofs.pairs.standing.Statement.{statement}
 use Rattle.amendment.proofs.pairs.standing.Tie as tie
 

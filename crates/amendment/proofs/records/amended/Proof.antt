@@ -1,10 +1,10 @@
 -- `amendment::records::amended` meets its contract: the plan's number of guests, and their records. Assumes nothing.
 use mathlib.Core.Path.{ap}
 use mathlib.Core.List.{List}
+use borrow.Author.Needs.{needs}
 use Rattle.plan.specs.declared.Guest.{Guest}
 use Rattle.blockfile.specs.File.{blocksIn}
 use Rattle.amendment.specs.Amended.{amended}
-use borrow.Author.Needs.{needs}
 use Rattle.amendment.proofs.records.amended.Statement.{statement}
 use Rattle.amendment.proofs.records.amended.Tie as tie
 

@@ -1,14 +1,10 @@
 -- `amendment::records::guest_at` meets its contract, by whether the sheet has a block for the guest. Assumes nothing.
-use mathlib.Core.Path.{_≡_, sym, ap, _∙_}
-use mathlib.Core.List.{List}
-use Prim.Native.Nat.{ℕ}
-use Rattle.lists.specs.declared.Found.{Found}
+use mathlib.Core.Path.{sym, ap, _∙_}
+use borrow.Author.Needs.{needs}
 use Rattle.block.specs.Reading.{guestOf}
-use Rattle.blockfile.specs.File.{blockAt, idAt, firstWith}
-use Rattle.amendment.specs.Amended.{blockOr}
+use Rattle.blockfile.specs.File.{idAt, firstWith}
 use Rattle.blockfile.proofs.File.{found-at}
 use Rattle.amendment.proofs.Amended.{from-sheet, from-plan}
-use borrow.Author.Needs.{needs}
 use Rattle.amendment.proofs.records.guest_at.Statement.{statement}
 use Rattle.amendment.proofs.records.guest_at.Tie as tie
 

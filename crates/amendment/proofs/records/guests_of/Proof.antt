@@ -3,11 +3,11 @@ use mathlib.Core.Path.{_≡_, refl, ap, _∙_}
 use Prim.Native.Nat.{_-_, _≤_}
 use native.Mathlib.Omega.{arith}
 use lib.ListN.{length, replicate, length-set}
+use borrow.Author.Needs.{needs}
 use Rattle.plan.specs.Ranges.{mostGuests}
 use Rattle.blockfile.specs.Records.{recordsOf}
 use Rattle.amendment.specs.Amended.{amendedBlock}
 use Rattle.blockfile.proofs.Records.{no-records, records-next}
-use borrow.Author.Needs.{needs}
 use Rattle.amendment.proofs.records.guests_of.Statement.{statement}
 use Rattle.amendment.proofs.records.guests_of.Tie as tie
 

@@ -1,7 +1,7 @@
 -- `amendment::records::read` meets its contract, by whether the pair is refused. Assumes nothing.
 use native.Mathlib.Omega.{arith}
-use Rattle.amendment.proofs.Pair.{pair-in}
 use borrow.Author.Needs.{needs}
+use Rattle.amendment.proofs.Pair.{pair-in}
 use Rattle.amendment.proofs.records.read.Statement.{statement}
 use Rattle.amendment.proofs.records.read.Tie as tie
 

@@ -5,13 +5,13 @@ use Prim.Native.Nat.{ℕ, _-_, _<_}
 use native.Mathlib.Omega.{arith}
 use borrow.Fn.Kinds.{In}
 use borrow.Fn.PlainCycle.{Measures, is, falls, and}
+use Rattle.capacity.proofs.Halving.{empty-span}
+use Rattle.capacity.proofs.search.+smallest_in.{statement}
+use Rattle.capacity.proofs.search.+smallest_in.Tie.{close}
 use Rattle.capacity.proofs.search.smallest_in.Reads as smallest-in
 use Rattle.capacity.proofs.search.smallest_in.Kinds as smallest-in-kinds
 use Rattle.capacity.proofs.search.+smallest_in.Lts-smallest_in as smallest-in-lts
 use Rattle.capacity.proofs.search.halved.Reads as halved-reads
-use Rattle.capacity.proofs.Halving.{empty-span}
-use Rattle.capacity.proofs.search.+smallest_in.{statement}
-use Rattle.capacity.proofs.search.+smallest_in.Tie.{close}
 
 abbrev μ-smallest-in : Measures 6 smallest-in-kinds.ps ℕ
 μ-smallest-in κs a = a .1 .1 .1 .1 .1 .1 .1 .1 .1 .1 .1 .0 - a .1 .1 .1 .1 .1 .1 .1 .1 .1 .1 .0

@@ -1,9 +1,9 @@
 -- `coreshare::amending::cs_amended_accept` meets its contract: the refusal, or the plan's export. Assumes nothing.
 use mathlib.Core.Path.{_∙_}
+use borrow.Author.Needs.{needs}
 use Rattle.verdict.specs.Verdict.{acceptance}
 use Rattle.coreshare.specs.Told.{refusing, planTold}
 use Rattle.amendment.proofs.Verdict.{pair-refuses, read-answers}
-use borrow.Author.Needs.{needs}
 use Rattle.coreshare.proofs.amending.cs_amended_accept.Statement.{statement}
 use Rattle.coreshare.proofs.amending.cs_amended_accept.Tie as tie
 

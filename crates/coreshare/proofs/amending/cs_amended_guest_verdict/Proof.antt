@@ -1,9 +1,9 @@
 -- `coreshare::amending::cs_amended_guest_verdict` meets its contract: the refusal, or the plan's export. Assumes nothing.
 use mathlib.Core.Path.{_∙_}
+use borrow.Author.Needs.{needs}
 use Rattle.verdict.specs.Verdict.{guestVerdict}
 use Rattle.coreshare.specs.Told.{refusing, guestTold}
 use Rattle.amendment.proofs.Verdict.{pair-refuses, read-answers}
-use borrow.Author.Needs.{needs}
 use Rattle.coreshare.proofs.amending.cs_amended_guest_verdict.Statement.{statement}
 use Rattle.coreshare.proofs.amending.cs_amended_guest_verdict.Tie as tie
 

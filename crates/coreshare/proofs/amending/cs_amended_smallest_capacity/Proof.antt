@@ -1,9 +1,9 @@
 -- `coreshare::amending::cs_amended_smallest_capacity` meets its contract: the refusal, or the plan's export. Assumes nothing.
 use mathlib.Core.Path.{_∙_}
+use borrow.Author.Needs.{needs}
 use Rattle.capacity.specs.Answer.{smallestCapacity}
 use Rattle.coreshare.specs.Told.{refusing, capacityTold}
 use Rattle.amendment.proofs.Verdict.{pair-refuses, read-answers}
-use borrow.Author.Needs.{needs}
 use Rattle.coreshare.proofs.amending.cs_amended_smallest_capacity.Statement.{statement}
 use Rattle.coreshare.proofs.amending.cs_amended_smallest_capacity.Tie as tie
 

@@ -1,14 +1,13 @@
 -- Each number is written where it is read, and there is room for one more job.
-use mathlib.Core.Path.{_≡_, refl, _∙_}
+use mathlib.Core.Path.{refl, _∙_}
 use native.Mathlib.Omega.{arith}
 use lib.Dec.{ltb}
-use lib.IntN.{pos, _+ℤ_}
+use lib.IntN.{pos}
 use lib.ListN.{getD}
 use borrow.Author.Needs.{needs}
-use Rattle.margins.specs.Margin.{marginOf}
 use Rattle.statement.specs.Lent.{statementOf}
 use mir.Syntax.{w64}
-use mir.Val.{SFits, toZ, ofZ}
+use mir.Val.{SFits}
 use mir.Facts.{toZ-ofZ}
 use Rattle.margins.proofs.Margin.{margin-kept}
 use Rattle.statement.proofs.CountingLaws.{late-once, counted-is}

@@ -8,8 +8,8 @@ use native.Mathlib.Omega.{arith}
 use lib.ListN.{length, take, length-append}
 use lib.Seq.{take-at, drop-at, take-add}
 use Rattle.block.specs.Layout.{blockSize}
 use Rattle.blockfile.specs.File.{blockAt}
-use Rattle.planfile_laws.specs.File.{joined}
+use Rattle.blockfile.specs.Joined.{joined}
 
 -- Parts that agree join to the same.
 pub joined-ext : (f g : ℕ → List ℕ) (n : ℕ) → ((k : ℕ) → k < n → f k ≡ g k) → joined f n ≡ joined g n
