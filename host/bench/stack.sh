@@ -5,5 +5,5 @@ set -eu
 cd "$(dirname "$0")"
 made=../../target/host
 mkdir -p "$made"
-${CC:-cc} -O2 -Wall -pthread stack.c ../../target/staticlib/libcoreshare.a -o "$made/stack"
-"$made/stack" "$@"
+../x86-64 sh -c '${CC:-cc} -O2 -Wall -pthread stack.c ../../target/staticlib/libcoreshare.a -o "$0"' "$made/stack"
+../x86-64 --program "$made/stack" "$@"
