@@ -22,6 +22,7 @@ static uint8_t bytes[GUESTS * CS_BLOCK];
 static uint8_t buffer[CS_BLOCK];
 static CsPlan plan;         /* full, all guests fitted, all tasks met */
 static CsPlan wide;         /* the last guest's period is the longest, so that the search for its capacity is deepest */
+static CsPlan unordered;    /* the last guest is Periodic with unbound tasks, every second one with a late deadline */
 static CsDispatcher states; /* of the full plan, with a job of every task released */
 static uint64_t pairs[CS_MOST_PAIRS]; /* each task of the full plan, and once more */
 static uint32_t answers[CS_MOST_PAIRS];
@@ -58,6 +59,7 @@ EXPORT(cs_guest_verdict, CsVerdict, (CsPlan p, uint32_t id), (plan, GUESTS))
 EXPORT(cs_task_verdict, CsVerdict, (CsPlan p, uint32_t id, uint32_t task), (plan, GUESTS, TASKS))
 EXPORT(cs_accept, CsVerdict, (CsPlan p), (plan))
 EXPORT(cs_smallest_capacity, CsVerdict, (CsPlan p, uint32_t id), (wide, GUESTS))
+EXPORT(cs_order, CsOrdered, (CsPlan p, uint32_t id), (unordered, GUESTS))
 EXPORT(cs_fresh, CsStart, (CsPlan p), (plan))
 EXPORT(cs_release, CsReleased, (CsDispatcher d, uint32_t id, uint32_t task), (states, GUESTS, TASKS))
 EXPORT(cs_tick, CsTicked, (CsDispatcher d), (states))
@@ -94,6 +96,7 @@ static const struct {
     {"cs_task_verdict", call_cs_task_verdict, sizeof(CsPlan)},
     {"cs_accept", call_cs_accept, sizeof(CsPlan)},
     {"cs_smallest_capacity", call_cs_smallest_capacity, sizeof(CsPlan)},
+    {"cs_order", call_cs_order, sizeof(CsPlan)},
     {"cs_amended_find", call_cs_amended_find, 0},
     {"cs_amended_guest_verdict", call_cs_amended_guest_verdict, 0},
     {"cs_amended_task_verdict", call_cs_amended_task_verdict, 0},
@@ -142,6 +145,15 @@ static void make_plan(void) {
     bind_tasks(&wide.guests[GUESTS - 1], 1000000);
     if (cs_accept(plan).verdict != 1 || cs_smallest_capacity(wide, GUESTS).verdict != 1) {
         fail("the full plan is not accepted");
+    }
+}
+
+static void make_unordered(void) {
+    unordered = plan;
+    unordered.guests[GUESTS - 1].marks = 0;
+    unordered.guests[GUESTS - 1].deferrable = 0;
+    if (cs_order(unordered, GUESTS).refusal.number != 0) {
+        fail("the full plan has no order");
     }
 }
 
@@ -238,6 +250,7 @@ int main(int count, char **words) {
     size_t most = count > 1 ? strtoull(words[1], NULL, 10) : SIZE_MAX;
     int failed = 0;
     make_plan();
+    make_unordered();
     make_amendments();
     make_state();
     make_sheet();

@@ -1,12 +1,12 @@
 /* The core-sharing library's C interface, for x86-64. Link libcoreshare.a, which `rt staticlib coreshare` writes.
  *
  * On one core, up to 8 guests share the time, each with up to 16 tasks. Every rule stands in document 01,
- * as the requests P1 to P11 of document 02 change it.
+ * as the requests P1 to P12 of document 02 change it.
  *
  * - Records and states cross by value, and bytes are lent for the call alone: the library keeps no pointer and
  *   no state of its own, so calls from several threads need no lock.
  * - No call asks anything of its input: any value of any field is taken, and what is out of range is
- *   refused by its number. Number 0 is no refusal; the place of a refusal 7 to 15, 17, 18 or 20, is 0.
+ *   refused by its number. Number 0 is no refusal; the place of a refusal 7 to 15, 17, 18 or 20 to 22, is 0.
  * - A pointer must be good for its length, for the whole call, and not be NULL even where the length is 0. The library
  *   does not test that, and promises nothing where it does not hold.
  * - A CsGuest is 216 bytes, a CsPlan 1,732, a CsDispatcher 3,472 and a CsStatement 2,568, both aligned to 8. They cross
@@ -71,6 +71,11 @@ typedef struct CsRead {
     CsRefusal refusal;
     CsPlan plan; /* zero throughout on a refusal */
 } CsRead;
+
+typedef struct CsOrdered {
+    CsRefusal refusal;
+    CsPlan plan; /* unchanged on a refusal */
+} CsOrdered;
 
 /* A verdict with its ticks, both 0 on a refusal. */
 typedef struct CsVerdict {
@@ -229,6 +234,13 @@ CsVerdict cs_accept(CsPlan plan);
 /* The smallest capacity at which the guest is fitted and all its tasks are met: verdict 1, ticks is the capacity.
  * Refusals: those of cs_check, then 7 no such guest, 11 no capacity works. */
 CsVerdict cs_smallest_capacity(CsPlan plan, uint32_t id);
+
+/* Proposes an order in which every task of the guest is met, the guests above it being as given: its tasks sorted by
+ * deadline, equals as handed in. Each takes its run, period and deadline along; entries past its tasks, its marks, all
+ * other guests and those past the count come back as handed in. Guests below are not judged.
+ * Refusals: those of cs_check, then 7 no such guest, 21 the guest is Deferrable or has a mark among its tasks', 22 no
+ * order works: the guest or one above is unfit, or in every order some task is not met. */
+CsOrdered cs_order(CsPlan plan, uint32_t id);
 
 /* The next five take a standing plan's blocks and an amendment sheet: 1 to 8 blocks of guests of that plan, in any
  * order, each with its guest's place in the plan. They answer for the plan with those blocks replaced; neither the plan

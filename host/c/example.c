@@ -1,6 +1,6 @@
-/* Plan A of document 01 from C: its blocks written, read and judged, an amendment to it tried, a task bound, its guests
- * made Deferrable, and its dispatcher run until a job finishes; then where the ticks went, a sheet of releases, a
- * statement of finished jobs, and last what is left of the plan when its first block is damaged.
+/* Plan A of document 01 from C: its blocks written, read and judged, an amendment to it tried, its tasks put in order,
+ * a task bound, its guests made Deferrable, and its dispatcher run until a job finishes; then where the ticks went, a
+ * sheet of releases, a statement of finished jobs, and last what is left of the plan when its first block is damaged.
  * From this folder: cc -O2 example.c ../../target/staticlib/libcoreshare.a -o example */
 #include "coreshare.h"
 
@@ -90,6 +90,26 @@ static int try_an_amendment(const uint8_t *plan, size_t length) {
     CsVerdict whole = cs_amended_accept(plan, length, sheet, sizeof sheet);
     CsVerdict least = cs_amended_smallest_capacity(plan, length, sheet, sizeof sheet, 9);
     printf("so the plan is %s, and needs %u\n", whole.verdict == 1 ? "accepted" : "not accepted", least.ticks);
+    return 0;
+}
+
+/* Guest 9's tasks come the other way about: in that order one is unmet, and the order that is proposed is plan A's. */
+static int order_tasks(const CsPlan *plan) {
+    CsPlan exchanged = *plan;
+    CsGuest *own = &exchanged.guests[1];
+    *own = guest(9, 8, 20, 8, 100);
+    own->tasks = 2;
+    own->run[1] = 10;
+    own->every[1] = own->deadline[1] = 50;
+    printf("exchanged, task 1 of guest 9 is met %u, and task 2 is %s\n", cs_task_verdict(exchanged, 9, 1).ticks,
+           cs_task_verdict(exchanged, 9, 2).verdict == 1 ? "met" : "unmet");
+    CsOrdered ordered = cs_order(exchanged, 9);
+    if (refused("order", ordered.refusal)) {
+        return 1;
+    }
+    printf("in the order proposed they are met %u and %u, which is %s\n", cs_task_verdict(ordered.plan, 9, 1).ticks,
+           cs_task_verdict(ordered.plan, 9, 2).ticks,
+           memcmp(&ordered.plan, plan, sizeof *plan) == 0 ? "plan A" : "another plan");
     return 0;
 }
 
@@ -226,7 +246,8 @@ int main(void) {
         return 1;
     }
     print_verdicts(&read.plan);
-    if (try_an_amendment(bytes, sizeof bytes) || bind_a_task(read.plan) || make_deferrable(read.plan)) {
+    if (try_an_amendment(bytes, sizeof bytes) || order_tasks(&read.plan) || bind_a_task(read.plan) ||
+        make_deferrable(read.plan)) {
         return 1;
     }
     return run_until_finished(&read.plan) || state_finished_jobs(bytes, sizeof bytes) ||

@@ -30,6 +30,9 @@ static void records(void) {
     STRUCT(CsRead);
     FIELD(CsRead, refusal);
     FIELD(CsRead, plan);
+    STRUCT(CsOrdered);
+    FIELD(CsOrdered, refusal);
+    FIELD(CsOrdered, plan);
     STRUCT(CsVerdict);
     FIELD(CsVerdict, number);
     FIELD(CsVerdict, place);

@@ -15,6 +15,7 @@ use Rattle.plan.specs.Marks.{marked, marksOf}
 use Rattle.plan.specs.Ranges.{headOk, taskOk, startOk, tasksOk}
 use Rattle.plan.specs.First.{orElse, firstRefused, refusedBy}
 use Rattle.plan.specs.Order.{newId}
+use Rattle.plan.specs.Placed.{withGuest}
 use Rattle.block.specs.Reading.{column, zeroBetween, marksOk, blockNumber}
 use Rattle.blockparts.specs.Parts.{withEntry, withEntries, withCheck}
 use Rattle.blockwriter.specs.Writing.{withKind, withHead, wordsOf, blockOf}
@@ -56,7 +57,7 @@ pub computed : Computed
 unfolding pairRefusal sheetRefusal isFoundAt foreignNumber refusedBy least blocksRefusal sizedBy firstRefused orElse numberAt
     blockNumber refusal unless word sumTo newId column table zeroBetween allTo marksOk headOk taskOk startOk tasksOk
     marked marksOf fileOf joined blockOf bytesOf withCheck wordsOf withEntries withEntry withHead withKind
-    pairPlace locatedOr standing amended blockOr recordsOf withCapacity
+    pairPlace locatedOr standing amended blockOr recordsOf withGuest
 computed = record {
   fine = refl;
   plan = refl;

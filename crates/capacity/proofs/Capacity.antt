@@ -4,10 +4,8 @@ use mathlib.Core.Path.{_≡_, refl, sym, _∙_, ap, fun-ext}
 use mathlib.Core.Bool.{Bool, true, _&&_}
 use mathlib.Core.List.{List}
 use Prim.Native.Nat.{ℕ, _≤_, _<_}
-use native.Mathlib.Decide.{decLt}
 use native.Mathlib.Omega.{arith}
-use lib.ListN.{length, List·getD-eq-default}
-use lib.Seq.{getD-set-same, getD-set-other, set-getD}
+use lib.ListN.{length}
 use Rattle.lists.specs.All.{allTo}
 use Rattle.lists.specs.Search.{least}
 use Rattle.lists.specs.declared.Found.the-variants.{At}
@@ -16,62 +14,35 @@ use Rattle.plan.specs.Charge.{charged}
 use Rattle.plan.specs.Filled.{ColumnsOf}
 use Rattle.plan.specs.Order.{planRefusal}
 use Rattle.plan.specs.Ranges.{mostGuests}
-use Rattle.plan.specs.Records.{absent, guestAt, runOf, everyOf}
+use Rattle.plan.specs.Records.{guestAt, runOf, everyOf}
 use Rattle.plan.specs.declared.Columns.{Columns}
-use Rattle.plan.specs.declared.Guest.{Guest}
 use Rattle.plan.specs.declared.Plan.{Plan}
-use Rattle.response.specs.Interference.{jitter, interference}
-use Rattle.response.specs.Guest.{guestResponse, fitted, fittedTo}
+use Rattle.response.specs.Interference.{interference}
+use Rattle.response.specs.Guest.{guestResponse, fitted}
 use Rattle.response.specs.Task.{gap, systemOf, responseTo}
-use Rattle.response.specs.Met.{allMet}
 use Rattle.response.specs.Columns.{guestsTake, fittedAt, acceptedUnder}
 use Rattle.capacity.specs.Capacity.{atCapacity, withCapacity, works, smallest}
 use Rattle.capacity.specs.Search.{fitsAt}
-use Rattle.lists.proofs.All.{and-assoc, all-ext}
-use Rattle.rounding.proofs.Asked.{asked-same}
 use Rattle.plan.proofs.Charge.{charged-least}
 use Rattle.plan.proofs.Order.{PlanIn, plan-in}
-use Rattle.response.proofs.ColumnsLaws.{interference-grows, accepted-is, columns-take, columns-fit}
+use Rattle.plan.proofs.Placed.{in-list, placed-own, placed-there}
+use Rattle.response.proofs.ColumnsLaws.{interference-grows, columns-take, columns-fit}
 use Rattle.response.proofs.JittersLaws.{JittersOf}
+use Rattle.response.proofs.PlacedLaws.{placed-take, placed-works}
 use Rattle.capacity.proofs.SearchLaws.{fits-down, met-up}
-
--- a place that holds a guest in its ranges is a place of the list: no other has an id
-pub in-list : (p : Plan) → PlanIn p → (k : ℕ) → k < p .count → k < length (p .guests)
-in-list p o k h =
-    elim (decLt k (length (p .guests))) [
-      | yes l ↦ l
-      | no n ↦
-          let e : guestAt (p .guests) k .id ≡ 0 = ap (λ (g : Guest). g .id) (List·getD-eq-default (p .guests) absent {n = k} (omega arith)) in
-          absurd (omega (arith, o .guests k h .head .named))
-    ]
 
 -- a plan whose guest is given the capacity that it has is the plan: nothing else of the record is altered
 pub own-capacity : (p : Plan) (k : ℕ) → withCapacity p k (guestAt (p .guests) k .capacity) ≡ p
-unfolding withCapacity
-own-capacity p k = ap (λ (gs : List Guest). record { count = p .count; guests = gs }) (set-getD (p .guests) k absent)
+own-capacity p k = placed-own p k
 
 module _ (p : Plan) (k : ℕ) (here : k < length (p .guests)) (c : ℕ) where
   -- the guest at the place has the capacity
   pub guest-there : guestAt (withCapacity p k c .guests) k ≡ atCapacity (guestAt (p .guests) k) c
-  unfolding withCapacity
-  guest-there = getD-set-same (p .guests) k (atCapacity (guestAt (p .guests) k) c) absent here
+  guest-there = placed-there p k (atCapacity (guestAt (p .guests) k) c) here
 
-  -- those above are as they were
-  guest-above : (j : ℕ) → j < k → guestAt (withCapacity p k c .guests) j ≡ guestAt (p .guests) j
-  unfolding withCapacity
-  guest-above j l = getD-set-other (p .guests) k j (atCapacity (guestAt (p .guests) k) c) absent (λ e. omega arith)
-
-  -- they take what they took
+  -- those above take what they took
   pub same-above : (j : ℕ) → j ≤ k → interference (withCapacity p k c) j ≡ interference p j
-  unfolding interference
-  same-above j l =
-      fun-ext (λ v. asked-same _ _ _ _ _ _ j v (λ i m. ap (λ (g : Guest). g .capacity) (guest-above i (omega arith)))
-      (λ i m. ap (λ (g : Guest). g .period) (guest-above i (omega arith))) (λ i m. ap jitter (guest-above i (omega arith))))
-
-  -- The guests above are fitted where they were.
-  fitted-above : (j : ℕ) → j < k → fitted (withCapacity p k c) j ≡ fitted p j
-  unfolding fitted guestResponse
-  fitted-above j l = rw (same-above j (omega arith), guest-above j l) refl
+  same-above j l = placed-take p k (atCapacity (guestAt (p .guests) k) c) j l
 
   -- the guest is fitted by its equation at the capacity
   pub fitted-there : fitted (withCapacity p k c) k ≡ fitsAt (interference p k) (guestAt (p .guests) k .period) c
@@ -85,11 +56,8 @@ module _ (p : Plan) (k : ℕ) (here : k < length (p .guests)) (c : ℕ) where
 
   -- it works where those above are fitted and the guest with it is accepted
   pub works-split : works p k c ≡ (allTo (fitted p) k && acceptedUnder (interference p k) (atCapacity (guestAt (p .guests) k) c))
-  unfolding works fittedTo allTo
-  works-split =
-      and-assoc (allTo (fitted (withCapacity p k c)) k) (fitted (withCapacity p k c) k) (allMet (withCapacity p k c) k)
-      ∙ ap (λ (b : Bool). b && (fitted (withCapacity p k c) k && allMet (withCapacity p k c) k)) (all-ext _ _ k fitted-above)
-      ∙ ap (λ (b : Bool). allTo (fitted p) k && b) (sym (accepted-is (withCapacity p k c) k) ∙ rw (same-above k (omega arith), guest-there) refl)
+  unfolding works
+  works-split = placed-works p k (atCapacity (guestAt (p .guests) k) c) here
 
 -- the search off columns is the definition's
 pub smallest-is : (p : Plan) → PlanIn p → (c : Columns) → ColumnsOf (p .guests) mostGuests c → {jitters : List ℕ}

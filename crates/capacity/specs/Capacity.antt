@@ -1,9 +1,9 @@
 -- The smallest capacity of a guest in a plan, all else unchanged.
 use mathlib.Core.Bool.{Bool, _&&_}
 use Prim.Native.Nat.{ℕ}
-use lib.ListN.{set}
 use Rattle.lists.specs.Search.{least}
 use Rattle.lists.specs.declared.Found.{Found}
+use Rattle.plan.specs.Placed.{withGuest}
 use Rattle.plan.specs.Records.{guestAt}
 use Rattle.plan.specs.declared.Guest.{Guest}
 use Rattle.plan.specs.declared.Plan.{Plan}
@@ -26,8 +26,8 @@ atCapacity g c = record {
 }
 
 -- the plan whose guest at place k has capacity c
-unfoldable pub withCapacity : Plan → ℕ → ℕ → Plan
-withCapacity p k c = record { count = p .count; guests = set (p .guests) k (atCapacity (guestAt (p .guests) k) c) }
+abbrev pub withCapacity : Plan → ℕ → ℕ → Plan
+withCapacity p k c = withGuest p k (atCapacity (guestAt (p .guests) k) c)
 
 -- c works: there the guest at place k and all above are fitted, and all its tasks are met
 unfoldable pub works : Plan → ℕ → ℕ → Bool

@@ -1,4 +1,4 @@
-// The plan's records handed over: verdicts, acceptance and the smallest capacity.
+// The plan's records handed over: verdicts, acceptance, the smallest capacity and the order of a guest's tasks.
 use capacity::CapacityAnswer;
 use casework::say;
 use draft::text::Row;
@@ -32,6 +32,19 @@ fn smallest(p: Plan, id: u32) {
             say::text(b"\n");
         }
     }
+}
+
+// `order` of the tasks of a guest: the plan that comes back is the one in hand from here on.
+pub fn ordered(p: Plan, id: u32) -> Plan {
+    let r = order::propose(p, id);
+    let refusal = r.refusal;
+    if 0 < refusal.number {
+        say::text(b": ");
+        show::print(Line::Refused(refusal.number, refusal.place));
+    } else {
+        say::text(b": by deadline\n");
+    }
+    r.plan
 }
 
 // `verdict` of a guest or a task; `accept`; `smallest` capacity of a guest.

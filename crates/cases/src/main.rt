@@ -28,7 +28,8 @@ fn with_marks(p: Plan, place: u32, marks: u32) -> Plan {
     Plan { count, guests }
 }
 
-// The plan after a line: `new` empties it, `count` says how many of its guests count, `marks` sets those of a guest.
+// The plan after a line: `new` empties it, `count` says how many of its guests count, `marks` sets those of a guest,
+// `order` has a guest's tasks reordered.
 fn planned(p: Plan, row: Row) -> Plan {
     let x = row.numbers;
     if row.first == b'n' {
@@ -43,6 +44,9 @@ fn planned(p: Plan, row: Row) -> Plan {
     }
     if row.first == b'm' {
         return with_marks(p, x[0], x[1]);
+    }
+    if row.first == b'o' {
+        return judging::ordered(p, x[0]);
     }
     text::with_line(p, row)
 }

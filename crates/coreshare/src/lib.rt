@@ -7,6 +7,7 @@ mod amending;
 mod blocks;
 mod dispatching;
 mod judging;
+mod ordering;
 mod salvaging;
 mod stating;
 

@@ -5,6 +5,7 @@ pub mod First
 pub mod MarksLaws
 pub mod RangesLaws
 pub mod Order
+pub mod Placed
 pub mod Place
 pub mod LookUp
 pub mod Promises

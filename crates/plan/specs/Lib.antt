@@ -1,4 +1,5 @@
 pub mod Records
+pub mod Placed
 pub mod Marks
 pub mod Server
 pub mod Ranges

@@ -7,3 +7,4 @@ pub mod JittersLaws
 pub mod ColumnsLaws
 pub mod ReadyLaws
 pub mod TrialLaws
+pub mod PlacedLaws

@@ -18,6 +18,7 @@ use Rattle.plan.specs.Charge.{chargedRun}
 use Rattle.plan.specs.Marks.{marked, mayStart}
 use Rattle.plan.specs.First.{orElse, firstRefused, refusedBy}
 use Rattle.plan.specs.Order.{newId, numberOf, guestNumber, countedBy, planRefusal, recordsThen}
+use Rattle.plan.specs.Placed.{withGuest}
 use Rattle.plan.specs.Place.{placeOf, hasGuest, hasTask}
 use Rattle.plan.specs.Server.{isDeferrable}
 use Rattle.plan.specs.Ranges.{headOk, taskOk, startOk, tasksOk}
@@ -27,7 +28,7 @@ use Rattle.response.specs.Guest.{guestResponse, fitted, fittedTo}
 use Rattle.response.specs.Task.{gap, taskRight, responseTo, limit, taskResponse}
 use Rattle.response.specs.Met.{met, allMet, accepted}
 use Rattle.verdict.specs.Verdict.{guestVerdict, quotedBy, taskSays, taskVerdict, acceptSays, acceptance}
-use Rattle.capacity.specs.Capacity.{withCapacity, works, smallest}
+use Rattle.capacity.specs.Capacity.{works, smallest}
 use Rattle.capacity.specs.Answer.{smallestCapacity}
 use Rattle.dispatcher.specs.Valid.{tasksIn, guestInRange, taskInRange, rowOk, stateOk}
 use Rattle.dispatcher.specs.Fresh.{idle, startedBy, fresh}
@@ -46,6 +47,7 @@ use Rattle.verdict_laws.specs.Guests.{There}
 use Rattle.worked.specs.Plans.{A, A35, planB, planD, planE}
 use Rattle.amendment_laws.proofs.Worked.{answers-7}
 use Rattle.history.proofs.Times.{early-again, due-again}
+use Rattle.order_laws.proofs.Worked as orders
 use Rattle.statement_laws.proofs.Worked as logs
 use Rattle.amendment_laws.proofs.Worked as pairs
 
@@ -92,7 +94,7 @@ unfolding marked mayStart startOk gapFor allTo unless refusal least firstFrom su
     responseOf taskUnder chargedRun orElse firstRefused newId numberOf guestNumber countedBy planRefusal placeOf
     headOk taskOk tasksOk jitter interference guestResponse fitted fittedTo gap taskRight responseTo limit
     taskResponse hasGuest hasTask recordsThen refusedBy guestVerdict quotedBy taskSays taskVerdict met allMet
-    accepted acceptSays acceptance withCapacity works smallest smallestCapacity upTo tasksIn guestInRange
+    accepted acceptSays acceptance withGuest works smallest smallestCapacity upTo tasksIn guestInRange
     taskInRange rowOk stateOk idle startedBy fresh taken releaseNumber releasedBy release lessAt refilled firstTask claims holder
     isHeld leftAfter worker isWorked restAfter ageAfter waitAfter positionAfter next marginOf answerBy answer
     finishes runFrom runFor ranBy run tickedBy tick after play times table stateAfter answerTo sheetNumber
@@ -168,6 +170,7 @@ computed = record {
     first-line = logs.first-line;
     second-line = logs.second-line;
     second-passed = logs.second-passed;
+    orders = orders.worked;
   };
   there-A = record { order = refl; place = omega arith; named = refl };
   there-A35 = record { order = refl; place = omega arith; named = refl };

@@ -6,6 +6,7 @@ pub mod Causes
 pub mod PlanFiles
 pub mod Verdicts
 pub mod Amendments
+pub mod Ordering
 pub mod Dispatcher
 pub mod Word
 pub mod Sheets

@@ -23,6 +23,7 @@ use Rattle.sheet.specs.Sheet.{answered}
 use Rattle.statement.specs.Lines.{empty}
 use Rattle.statement.specs.Call.{stated}
 use Rattle.statement_laws.specs.Taken.{statementAfter}
+use Rattle.order_laws.specs.Worked.{WorkedOrders}
 use Rattle.statement_laws.specs.Worked.{logged, told, log, figures}
 use Rattle.history.specs.Calls.{running, start, play, released, times}
 
@@ -130,3 +131,5 @@ pub record Numbers : Type 0 where
       ∷ stated empty (fileOf A) log .number
       ∷ []
       ≡ 1 ∷ 1 ∷ 3 ∷ []
+  -- P12: What is proposed: plan A with guest 9's tasks exchanged, equal deadlines, and what is refused.
+  pub orders : WorkedOrders

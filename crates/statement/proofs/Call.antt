@@ -12,8 +12,10 @@ use Rattle.plan.specs.declared.Plan.{Plan}
 use Rattle.plan.specs.declared.Refusal.{Refusal}
 use Rattle.plan.specs.First.{refused, fine}
 use Rattle.plan.specs.Order.{planRefusal}
+use Rattle.plan.specs.Ranges.{mostGuests}
 use Rattle.block.specs.Layout.{blockSize}
-use Rattle.blockfile.specs.File.{blocksIn, fileRefusal}
+use Rattle.blockfile.specs.File.{blockAt, blocksIn, fileRefusal}
+use Rattle.blockfile.specs.Records.{recordsOf}
 use Rattle.planfile.specs.declared.Reading.{Reading}
 use Rattle.planfile.specs.Records.{readOf}
 use Rattle.statement.specs.declared.Statement.{Statement}
@@ -22,19 +24,32 @@ use Rattle.statement.specs.Lent.{LogTaken}
 use Rattle.statement.specs.Call.{callRefusal, statedOver, unstated, statedBy, stated}
 use Rattle.lists.proofs.Refusals.{none-left, go-on, stop}
 use Rattle.plan.proofs.First.{refused-here, or-after}
+use Rattle.blockfile.proofs.File.{file-in}
+use Rattle.planfile.proofs.Records.{read-fine}
 use Rattle.planfile_laws.proofs.OnlyOurs.{read-passes}
 
--- The refusal of reading is the file's.
-refusal-read : (plan : List ℕ) {r : Reading} → r ≡ readOf plan → r .refusal ≡ fileRefusal plan
-unfolding readOf
-refusal-read plan e = ap (λ (x : Reading). x .refusal) e
+-- The records of a plan's blocks.
+abbrev pub recordsIn : List ℕ → Plan
+recordsIn plan = record { count = blocksIn plan; guests = recordsOf (blockAt plan) (blocksIn plan) }
 
--- A plan that is read without a refusal is in order.
-pub plan-passes :
-    (plan : List ℕ) {r : Reading} → r ≡ readOf plan → r .refusal .number ≤ 0 → planRefusal (r .plan) .number ≡ 0
-plan-passes plan {r} e h =
-    let z : r .refusal .number ≡ 0 = omega arith in
-    rw e (ap (λ (x : Refusal). x .number) (read-passes plan (rw e at z)))
+module _ (plan : List ℕ) {r : Refusal} (e : r ≡ fileRefusal plan) (h : r .number ≤ 0) where
+  -- Where nothing is refused, they are the plan as it is read.
+  records-read : recordsIn plan ≡ readOf plan .plan
+  records-read = ap (λ (x : Reading). x .plan) (read-fine plan r e h)
+
+  -- They are in order.
+  pub plan-passes : planRefusal (recordsIn plan) .number ≡ 0
+  unfolding readOf
+  plan-passes =
+      let z : r .number ≡ 0 = omega arith in
+      rw records-read (ap (λ (x : Refusal). x .number) (read-passes plan (rw e at z)))
+
+  -- There are at most 8 of them.
+  pub few-blocks : blocksIn plan ≤ mostGuests
+  few-blocks =
+      let z : r .number ≡ 0 = omega arith in
+      let s = file-in plan (rw e at z) .size in
+      omega arith
 
 -- What the loop over a log's blocks comes to is the outcome of a call that is not refused.
 pub over-is :
@@ -58,25 +73,18 @@ module _ (s : Statement) (plan log : List ℕ) where
   abbrev tests : List Test
   tests = statementOk s orRefuse 14 ∷ eqb (length log % blockSize) 0 orRefuse 1 ∷ []
 
-  module _ {r : Reading} (e : r ≡ readOf plan) where
+  module _ {r : Refusal} (e : r ≡ fileRefusal plan) where
     -- The plan is refused.
-    pub plan-refused :
-        0 < r .refusal .number → unstated (refused (r .refusal .number) (r .refusal .place)) s ≡ stated s plan log
+    pub plan-refused : 0 < r .number → unstated (refused (r .number) (r .place)) s ≡ stated s plan log
     unfolding callRefusal
     plan-refused h =
-        refused-so
-        (refused-here (r .refusal .number) (r .refusal .place) (refused (refusal tests) 0) h
-        ∙ rw (refusal-read plan e) refl)
-        h
+        refused-so (refused-here (r .number) (r .place) (refused (refusal tests) 0) h ∙ rw e refl) h
 
-    module _ (h : r .refusal .number ≤ 0) where
+    module _ (h : r .number ≤ 0) where
       -- The plan is not: the tests after it decide.
       then-tests : {x : ℕ} → refusal tests ≡ x → refused x 0 ≡ callRefusal s plan log
       unfolding callRefusal
-      then-tests q =
-          rw (← q)
-          (or-after (r .refusal .number) (r .refusal .place) (refused (refusal tests) 0) h
-          ∙ rw (refusal-read plan e) refl)
+      then-tests q = rw (← q) (or-after (r .number) (r .place) (refused (refusal tests) 0) h ∙ rw e refl)
 
       -- The running statement is not in its ranges.
       pub state-refused : statementOk s ≡ false → unstated (refused 14 0) s ≡ stated s plan log
@@ -89,8 +97,8 @@ module _ (s : Statement) (plan log : List ℕ) where
             refused-so (then-tests (go-on 14 _ ok ∙ stop 1 [] (ne-eqb (length log % blockSize) 0 n))) (omega arith)
 
         -- Nothing is refused.
-        pub log-stated : length log % blockSize ≡ 0 → statedOver (r .plan) log (blocksIn log) s ≡ stated s plan log
+        pub log-stated : length log % blockSize ≡ 0 → statedOver (recordsIn plan) log (blocksIn log) s ≡ stated s plan log
         unfolding stated statedBy
         log-stated z =
             let none = then-tests (go-on 14 _ ok ∙ go-on 1 [] (eq-eqb (length log % blockSize) 0 z) ∙ none-left) in
-            rw (← none, e) refl
+            rw (← none, records-read plan e h) refl

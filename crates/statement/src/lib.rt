@@ -3,6 +3,7 @@ ghost use mathlib.Core.Path.{_≡_};
 ghost use Rattle.statement.specs.Call.{unstated};
 ghost use Rattle.statement.specs.Promises.{Extends};
 use block::layout;
+use plan::Plan;
 use plan::Refusal;
 
 mod columns;
@@ -53,8 +54,7 @@ fn refuse(number: u32, place: u32, statement: Statement) -> Stated
 pub fn extend(running: Statement, plan: &[u8], log: &[u8]) -> Stated
     ensures { λ r. ⌜ Extends running (now (plan .entry)) (now (log .entry)) r ⌝ }
 {
-    let read = planfile::read(plan);
-    let refusal = read.refusal;
+    let refusal = blockfile::refusal_of(plan, true);
     if 0 < refusal.number {
         return refuse(refusal.number, refusal.place, running);
     }
@@ -64,5 +64,11 @@ pub fn extend(running: Statement, plan: &[u8], log: &[u8]) -> Stated
     if log.len() % layout::SIZE != 0 {
         return refuse(1, 0, running);
     }
-    taking::stated(running, read.plan, log)
+    let n = plan.len() / layout::SIZE;
+    let guests = blockfile::records_of(plan, n);
+    let records = Plan {
+        count: n as u32,
+        guests,
+    };
+    taking::stated(running, records, log)
 }

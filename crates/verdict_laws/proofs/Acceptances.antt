@@ -73,7 +73,7 @@ there-at : (p : Plan) → planRefusal p .number ≡ 0 → (k : ℕ) → k < p .c
 there-at p ok k h = record { order = ok; place = h; named = refl }
 
 -- a task that is in time is said to be met: a response at most the deadline is at most the period
-said-met : (p : Plan) → planRefusal p .number ≡ 0 → (k : ℕ) → k < p .count → AllFit p k → AllInTime p k → (i : ℕ)
+pub said-met : (p : Plan) → planRefusal p .number ≡ 0 → (k : ℕ) → k < p .count → AllFit p k → AllInTime p k → (i : ℕ)
     → i < guestAt (p .guests) k .tasks
     → (r : ℕ) × (taskVerdict p (guestAt (p .guests) k .id) (suc i) ≡ Met r)
 said-met p ok k h all a i l =

@@ -2,15 +2,14 @@
 -- the same plan. Assumes nothing.
 use mathlib.Core.Path.{_≡_, refl, sym, _∙_, ap, fun-ext}
 use mathlib.Core.Bool.{true, _&&_}
-use mathlib.Core.List.{List, []}
+use mathlib.Core.List.{[]}
 use Prim.Native.Nat.{ℕ, _≤_, _<_}
-use native.Mathlib.Decide.{ℕ-discrete}
 use native.Mathlib.Omega.{arith}
-use lib.ListN.{length, set}
-use lib.Seq.{getD-set-other, set-set}
+use lib.ListN.{length}
 use Rattle.plan.specs.Order.{newId, numberOf, guestNumber}
+use Rattle.plan.specs.Placed.{withGuest}
 use Rattle.plan.specs.Ranges.{guestOk, tasksOk}
-use Rattle.plan.specs.Records.{absent, guestAt}
+use Rattle.plan.specs.Records.{guestAt}
 use Rattle.plan.specs.declared.Guest.{Guest}
 use Rattle.plan.specs.declared.Plan.{Plan}
 use Rattle.plan.specs.declared.Refusal.{Refusal}
@@ -20,9 +19,10 @@ use Rattle.capacity.specs.Capacity.{atCapacity, withCapacity, works, smallest}
 use Rattle.capacity.specs.Answer.{capacitySays, smallestCapacity}
 use Rattle.verdict_laws.specs.Guests.{There}
 use Rattle.lists.proofs.Refusals.{passed}
-use Rattle.plan.proofs.Order.{PlanIn, plan-in, none, numbers-none, numbers-fine}
+use Rattle.plan.proofs.Order.{PlanIn, plan-in, numbers-none}
 use Rattle.plan.proofs.RangesLaws.{head-right}
-use Rattle.capacity.proofs.Capacity.{in-list, guest-there}
+use Rattle.plan.proofs.Placed.{in-list, placed-again, placed-fine}
+use Rattle.capacity.proofs.Capacity.{guest-there}
 use Rattle.verdict_laws.proofs.Capacities.{capacity-answer-is}
 
 module _ (p : Plan) (id k c : ℕ) (t : There p id k) (low : 1 ≤ c) (high : c ≤ guestAt (p .guests) k .period) where
@@ -38,19 +38,6 @@ module _ (p : Plan) (id k c : ℕ) (t : There p id k) (low : 1 ≤ c) (high : c 
   here : k < length (p .guests)
   here = in-list p order k (t .place)
 
-  -- the other guests are as they were
-  other : (j : ℕ) → (j ≡ k → ⊥) → guestAt (q .guests) j ≡ guestAt (p .guests) j
-  unfolding withCapacity
-  other j n = getD-set-other (p .guests) k j (atCapacity (guestAt (p .guests) k) c) absent n
-
-  -- the ids are as they were
-  same-id : (j : ℕ) → guestAt (q .guests) j .id ≡ guestAt (p .guests) j .id
-  same-id j =
-      elim (ℕ-discrete j k) [
-        | yes e ↦ rw (e, guest-there p k here c) refl
-        | no n ↦ ap (λ (g : Guest). g .id) (other j n)
-      ]
-
   -- the guest's tasks are in their ranges
   tasks-in : tasksOk (guestAt (p .guests) k) ≡ true
   unfolding guestNumber numberOf
@@ -60,11 +47,10 @@ module _ (p : Plan) (id k c : ℕ) (t : There p id k) (low : 1 ≤ c) (high : c 
       (numbers-none p (t .order) k (t .place)) in
       passed (tasksOk g) 6 [] (omega arith) (a .1) .0
 
-  -- no number refuses the guest with the other capacity
-  number-there : guestNumber (q .guests) k ≡ 0
-  unfolding guestNumber tasksOk
-  number-there =
-      let g = guestAt (p .guests) k in
+  -- the guest is in the plan with the other capacity
+  there : There q id k
+  unfolding withGuest tasksOk
+  there =
       let h = order .guests k (t .place) .head in
       let in-range = head-right record {
         named = h .named;
@@ -74,35 +60,19 @@ module _ (p : Plan) (id k c : ℕ) (t : There p id k) (low : 1 ≤ c) (high : c 
         many = h .many;
         few = h .few;
       } in
-      rw (fun-ext same-id, guest-there p k here c)
-      (sym (none (atCapacity g c) _ in-range (order .new k (t .place)) tasks-in))
-
-  -- no number refuses a guest of that plan
-  number-none : (j : ℕ) → j < p .count → guestNumber (q .guests) j ≡ 0
-  unfolding guestNumber
-  number-none j l =
-      elim (ℕ-discrete j k) [
-        | yes e ↦ rw e number-there
-        | no n ↦ rw (fun-ext same-id, other j n) (numbers-none p (t .order) j l)
-      ]
-
-  -- the guest is in the plan with the other capacity
-  there : There q id k
-  unfolding withCapacity
-  there = record {
-    order = ap (λ (r : Refusal). r .number) (numbers-fine q (order .some) (order .few) number-none);
-    place = t .place;
-    named = same-id k ∙ t .named;
-  }
+      record {
+        order = ap (λ (r : Refusal). r .number)
+            (placed-fine p (t .order) k (t .place) (atCapacity (guestAt (p .guests) k) c) refl in-range tasks-in);
+        place = t .place;
+        named = ap (λ (g : Guest). g .id) (guest-there p k here c) ∙ t .named;
+      }
 
   -- a trial is of the same plan
   same-trial : (x : ℕ) → withCapacity q k x ≡ withCapacity p k x
-  unfolding withCapacity
   same-trial x =
       let g = guestAt (p .guests) k in
-      ap (λ (gs : List Guest). record { count = p .count; guests = gs })
-      (ap (λ (h : Guest). set (set (p .guests) k (atCapacity g c)) k (atCapacity h x)) (guest-there p k here c)
-      ∙ set-set (p .guests) k (atCapacity g c) (atCapacity g x))
+      ap (λ (h : Guest). withGuest (withGuest p k (atCapacity g c)) k (atCapacity h x)) (guest-there p k here c)
+      ∙ placed-again p k (atCapacity g c) (atCapacity g x)
 
   -- the same capacities work
   same-smallest : smallest q k ≡ smallest p k

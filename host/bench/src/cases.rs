@@ -3,6 +3,7 @@
 
 mod amended;
 mod dispatcher;
+mod order;
 mod salvage;
 mod sheets;
 mod statements;
@@ -42,6 +43,7 @@ fn case(
 
 pub fn all() -> Vec<Case> {
     let mut all = judging();
+    all.extend(order::all());
     all.extend(amended::all());
     all.extend(dispatching());
     all.extend(statements::all());
@@ -108,7 +110,7 @@ fn dispatching() -> Vec<Case> {
     ]
 }
 
-/// The aim for plan files, verdicts, capacities, statements and salvages, and the one for the dispatcher.
+/// The aim for plan files, verdicts, capacities, orders, statements and salvages, and the one for the dispatcher.
 const FILES: f64 = 1.2;
 const DISPATCHER: f64 = 1.5;
 

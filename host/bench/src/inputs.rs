@@ -3,9 +3,11 @@
 
 mod damaged;
 mod logs;
+mod unordered;
 
 pub use damaged::half_damaged;
 pub use logs::{jobs, log};
+pub use unordered::{descending, no_order, plan_a_exchanged};
 
 use coreshare::pair;
 use plain::Guest;
@@ -70,10 +72,12 @@ fn task_near_a_million(guest: u32, task: u32) -> [u32; 3] {
 
 /// 8 guests of 16 tasks whose periods grow to 1,000,000, all met: each recurrence has many turns.
 pub fn growing() -> Vec<u8> {
-    full(|guest, task| {
-        let every = 60_000 + 62_600 * task - 17 * guest;
-        [every / 250, every, every]
-    })
+    full(growing_task)
+}
+
+fn growing_task(guest: u32, task: u32) -> [u32; 3] {
+    let every = 60_000 + 62_600 * task - 17 * guest;
+    [every / 250, every, every]
 }
 
 /// The plan near a million with a sheet of its first guests, as they are in the growing one.
@@ -87,13 +91,9 @@ pub fn amended(count: usize) -> Amended {
 /// The growing plan, but for the very last task, which is unmet.
 pub fn last_unmet() -> Vec<u8> {
     full(|guest, task| {
-        let every = 60_000 + 62_600 * task - 17 * guest;
-        let deadline = if guest == 7 && task == 15 {
-            100_000
-        } else {
-            every
-        };
-        [every / 250, every, deadline]
+        let [run, every, deadline] = growing_task(guest, task);
+        let last = guest == 7 && task == 15;
+        [run, every, if last { 100_000 } else { deadline }]
     })
 }
 

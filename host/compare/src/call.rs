@@ -1,16 +1,16 @@
 //! A call of an export with its input, and its outcome whole.
 
+mod outcome;
+
 use crate::side::Side;
-use reference::amendment::Located;
-use reference::dispatcher::{Dispatcher, Released, Run, Start, Ticked};
+pub use outcome::Outcome;
+use reference::dispatcher::Dispatcher;
 use reference::log::LogEntries;
-use reference::plan::{Guest, Plan, Read, Refusal};
-use reference::salvage::Salvaged;
-use reference::statement::{Stated, Statement};
-use reference::verdict::Verdict;
+use reference::plan::{Guest, Plan, Refusal};
+use reference::statement::Statement;
 
 /// The exports' names, in the order of [`Call`].
-pub const EXPORTS: [&str; 21] = [
+pub const EXPORTS: [&str; 22] = [
     "cs_read",
     "cs_check",
     "cs_write",
@@ -32,6 +32,7 @@ pub const EXPORTS: [&str; 21] = [
     "cs_statement",
     "cs_write_log",
     "cs_salvage",
+    "cs_order",
 ];
 
 #[derive(Clone, Debug, PartialEq)]
@@ -53,6 +54,7 @@ pub enum Call {
     State(Box<Statement>, Logged),
     WriteLog(Box<LogEntries>, Vec<u8>),
     Salvage(Vec<u8>, Vec<u8>),
+    Order(Box<Plan>, u32),
 }
 
 /// A plan's blocks and a log.
@@ -77,23 +79,6 @@ pub enum Question {
     Task(u32, u32),
     Accept,
     Capacity(u32),
-}
-
-/// All that a call gives back: the answer, the next state, and every lent byte and answer place that it may write.
-#[derive(Clone, Debug, PartialEq)]
-pub enum Outcome {
-    Read(Box<Read>),
-    Refusal(Refusal),
-    Written(Refusal, Vec<u8>),
-    Verdict(Verdict),
-    Start(Box<Start>),
-    Released(Box<Released>),
-    Sheet(Box<Released>, Vec<u32>),
-    Ticked(Box<Ticked>),
-    Run(Box<Run>),
-    Located(Located),
-    Stated(Box<Stated>),
-    Salvaged(Box<Salvaged>, Vec<u8>),
 }
 
 impl Call {
@@ -121,6 +106,7 @@ impl Call {
             Call::State(..) => 18,
             Call::WriteLog(..) => 19,
             Call::Salvage(..) => 20,
+            Call::Order(..) => 21,
         }
     }
 
@@ -154,6 +140,7 @@ impl Call {
             }
             Call::WriteLog(jobs, buffer) => written(buffer, |lent| (side.write_log)(jobs, lent)),
             Call::Salvage(file, out) => salvaged(side, file, out),
+            Call::Order(plan, id) => Outcome::Ordered((side.order)(plan, *id).into()),
         }
     }
 
@@ -206,43 +193,4 @@ fn salvaged(side: &Side, file: &[u8], out: &[u8]) -> Outcome {
     let mut kept = [out, &[0xA5; 16]].concat();
     let outcome = (side.salvage)(file, &mut kept[..out.len()]);
     Outcome::Salvaged(outcome.into(), kept)
-}
-
-impl Outcome {
-    /// The refusal's number, 0 for none.
-    pub fn number(&self) -> u32 {
-        match self {
-            Outcome::Read(outcome) => outcome.refusal.number,
-            Outcome::Refusal(refusal) | Outcome::Written(refusal, _) => refusal.number,
-            Outcome::Verdict(verdict) => verdict.number,
-            Outcome::Start(outcome) => outcome.refusal.number,
-            Outcome::Released(outcome) | Outcome::Sheet(outcome, _) => outcome.refusal.number,
-            Outcome::Ticked(outcome) => outcome.refusal.number,
-            Outcome::Run(outcome) => outcome.refusal.number,
-            Outcome::Located(located) => located.number,
-            Outcome::Stated(outcome) => outcome.refusal.number,
-            Outcome::Salvaged(outcome, _) => outcome.refusal.number,
-        }
-    }
-
-    /// The verdict or the answer's kind, where there is one.
-    pub fn kind(&self) -> u32 {
-        match self {
-            Outcome::Verdict(verdict) => verdict.verdict,
-            Outcome::Ticked(outcome) => outcome.answer.kind,
-            Outcome::Run(outcome) => outcome.answer.kind,
-            _ => 0,
-        }
-    }
-
-    /// The next state, of a dispatcher's call.
-    pub fn state(&self) -> Option<&Dispatcher> {
-        match self {
-            Outcome::Start(outcome) => Some(&outcome.dispatcher),
-            Outcome::Released(outcome) | Outcome::Sheet(outcome, _) => Some(&outcome.dispatcher),
-            Outcome::Ticked(outcome) => Some(&outcome.dispatcher),
-            Outcome::Run(outcome) => Some(&outcome.dispatcher),
-            _ => None,
-        }
-    }
 }

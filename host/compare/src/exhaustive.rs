@@ -171,6 +171,7 @@ fn products_that_wrap(session: &mut Session) {
         let plan = Plan::new(&[guest]);
         session.compare(Call::TaskVerdict(Box::new(plan), 1, task));
         session.compare(Call::Accept(Box::new(plan)));
+        session.compare(Call::Order(Box::new(plan), 1));
     }
 }
 

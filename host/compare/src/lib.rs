@@ -11,6 +11,7 @@ mod histories;
 pub mod independence;
 mod kinds;
 mod marks;
+pub mod order;
 mod pairs;
 mod plans;
 pub mod planview;
@@ -39,12 +40,14 @@ pub fn everything(session: &mut Session, budget: Duration) {
     amendments::compare(session);
     statements::compare(session);
     salvage::compare(session);
+    order::compare(session);
     let end = Instant::now() + budget;
     while Instant::now() < end {
         random_calls::round(session);
         amendments::round(session);
         statements::round(session);
         salvage::round(session);
+        order::round(session);
         histories::history(session);
         promise::histories(session);
         independence::histories(session);

@@ -89,7 +89,7 @@ fn blocks(session: &mut Session) {
 }
 
 /// What can be wrong in a record.
-const WRONG_RECORDS: [fn(&mut Guest); 21] = [
+pub const WRONG_RECORDS: [fn(&mut Guest); 21] = [
     |_| (),
     |guest| guest.id = 0,
     |guest| guest.id = 7,

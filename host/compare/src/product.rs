@@ -5,6 +5,7 @@ use coreshare::exports;
 use reference::amendment::Located;
 use reference::dispatcher::{Answer, Dispatcher, Released, Run, Start, Ticked};
 use reference::log::LogEntries;
+use reference::order::Ordered;
 use reference::plan::{Guest, Plan, Read, Refusal};
 use reference::salvage::{Fate, Salvaged};
 use reference::statement::{Stated, Statement};
@@ -38,6 +39,7 @@ pub const PRODUCT: Side = Side {
     statement: |running, plan, log| stated(exports::statement(&statement_in(running), plan, log)),
     write_log: |jobs, buffer| refusal(exports::write_log(&jobs_in(jobs), buffer)),
     salvage: |file, out| salvaged(exports::salvage(file, out)),
+    order: |plan, id| ordered(exports::order(&plan_in(plan), id)),
 };
 
 fn guest_in(guest: &Guest) -> coreshare::Guest {
@@ -225,5 +227,12 @@ fn salvaged(outcome: coreshare::Salvaged) -> Salvaged {
             number: fate.number,
             place: fate.place,
         }),
+    }
+}
+
+fn ordered(outcome: coreshare::Ordered) -> Ordered {
+    Ordered {
+        refusal: refusal(outcome.refusal),
+        plan: plan(&outcome.plan),
     }
 }

@@ -34,7 +34,7 @@ pub fn round(session: &mut Session) {
     }
 }
 
-/// Every verdict of a plan that is well formed, and its start.
+/// Every verdict of a plan that is well formed, an order for each guest's tasks, and its start.
 pub fn every_verdict(session: &mut Session, plan: &Plan) {
     session.compare(Call::Check(Box::new(*plan)));
     session.compare(Call::Accept(Box::new(*plan)));
@@ -42,6 +42,7 @@ pub fn every_verdict(session: &mut Session, plan: &Plan) {
     for guest in plan.listed() {
         session.compare(Call::GuestVerdict(Box::new(*plan), guest.id));
         session.compare(Call::SmallestCapacity(Box::new(*plan), guest.id));
+        session.compare(Call::Order(Box::new(*plan), guest.id));
         for task in 1..=guest.tasks {
             session.compare(Call::TaskVerdict(Box::new(*plan), guest.id, task));
         }

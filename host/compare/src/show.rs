@@ -6,6 +6,7 @@ mod statements;
 use crate::call::{Amended, Call, EXPORTS, Outcome, Question};
 use crate::side::{REFERENCE, Side};
 use reference::dispatcher::{Dispatcher, parts};
+use reference::order::Ordered;
 use reference::plan::{Guest, MOST_TASKS, Plan};
 pub use salvage::salvaged;
 use statements::{jobs, statement};
@@ -28,7 +29,7 @@ fn input(call: &Call) -> String {
             format!("{name} place {place} length {} {}", buffer.len(), guest(of))
         }
         Call::Check(of) | Call::Accept(of) | Call::Fresh(of) => format!("{name} {}", plan(of)),
-        Call::GuestVerdict(of, id) | Call::SmallestCapacity(of, id) => {
+        Call::GuestVerdict(of, id) | Call::SmallestCapacity(of, id) | Call::Order(of, id) => {
             format!("{name} id {id} {}", plan(of))
         }
         Call::TaskVerdict(of, id, task) => format!("{name} id {id} task {task} {}", plan(of)),
@@ -68,6 +69,7 @@ fn outcome(outcome: &Outcome) -> String {
         Outcome::Located(located) => format!("{located:?}"),
         Outcome::Stated(outcome) => stated(outcome),
         Outcome::Salvaged(outcome, out) => salvaged(outcome, out),
+        Outcome::Ordered(outcome) => ordered(outcome),
         Outcome::Start(start) => format!("{:?} {}", start.refusal, state(&start.dispatcher)),
         Outcome::Released(next) => format!("{:?} {}", next.refusal, state(&next.dispatcher)),
         Outcome::Sheet(next, answers) => {
@@ -89,6 +91,11 @@ fn outcome(outcome: &Outcome) -> String {
             )
         }
     }
+}
+
+/// The refusal, and the plan that was handed back.
+pub fn ordered(of: &Ordered) -> String {
+    format!("{:?} {}", of.refusal, plan(&of.plan))
 }
 
 /// Each pair as guest part/task.

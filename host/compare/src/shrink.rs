@@ -51,6 +51,7 @@ fn smaller(call: &Call) -> Vec<Call> {
         Call::State(running, of) => statements::smaller(running, of),
         Call::WriteLog(jobs, buffer) => statements::smaller_writes(jobs, buffer),
         Call::Salvage(file, out) => salvage::smaller(file, out),
+        Call::Order(plan, id) => of_plan(plan, |plan| Call::Order(plan, *id)),
     }
 }
 

@@ -3,6 +3,7 @@
 use reference::amendment::{self, Located};
 use reference::dispatcher::{self, Dispatcher, Released, Run, Start, Ticked};
 use reference::log::{self, LogEntries};
+use reference::order::{self, Ordered};
 use reference::plan::{self, Guest, Plan, Read, Refusal};
 use reference::salvage::{self, Salvaged};
 use reference::statement::{self, Stated, Statement};
@@ -32,6 +33,7 @@ pub struct Side {
     pub statement: fn(&Statement, &[u8], &[u8]) -> Stated,
     pub write_log: fn(&LogEntries, &mut [u8]) -> Refusal,
     pub salvage: fn(&[u8], &mut [u8]) -> Salvaged,
+    pub order: fn(&Plan, u32) -> Ordered,
 }
 
 /// The reference: the documents' sentences in plain Rust.
@@ -57,4 +59,5 @@ pub const REFERENCE: Side = Side {
     statement: statement::state,
     write_log: log::write,
     salvage: salvage::salvage,
+    order: order::order,
 };

@@ -1,5 +1,5 @@
 //! The comparison itself is tried: each wrong implementation that document 01 names must be found, two of
-//! its errors that look reasonable, and some of P1's, P2's and P5's to P11's.
+//! its errors that look reasonable, and some of P1's, P2's and P5's to P12's.
 
 #[path = "planted/amendments.rs"]
 mod amendments;
@@ -9,6 +9,8 @@ mod deferrable;
 mod independence;
 #[path = "planted/marks.rs"]
 mod marks;
+#[path = "planted/order.rs"]
+mod order;
 #[path = "planted/salvage.rs"]
 mod salvage;
 #[path = "planted/sheets.rs"]

@@ -9,6 +9,7 @@
 pub mod amendment;
 pub mod dispatcher;
 pub mod log;
+pub mod order;
 pub mod plan;
 pub mod salvage;
 pub mod samples;

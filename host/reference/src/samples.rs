@@ -1,5 +1,5 @@
-//! Plans that document 01 works out by hand, plan A with bound tasks, a plan with a fitted guest below an unfit one,
-//! and one that is full; and any of them with Deferrable guests.
+//! Plans that document 01 works out by hand, plan A with tasks exchanged and with bound ones, a plan with a fitted
+//! guest below an unfit one, and one that is full; and any of them with Deferrable guests.
 
 use crate::plan::{Guest, Plan};
 
@@ -9,6 +9,13 @@ pub fn plan_a() -> Plan {
         Guest::new(7, 2, 5, &[[1, 20, 20]]),
         Guest::new(9, 8, 20, &[[10, 50, 50], [8, 100, 100]]),
     ])
+}
+
+/// Plan A with guest 9's tasks exchanged: in this order the second one is unmet.
+pub fn plan_a_exchanged() -> Plan {
+    let mut plan = plan_a();
+    plan.guests[1] = Guest::new(9, 8, 20, &[[8, 100, 100], [10, 50, 50]]);
+    plan
 }
 
 /// Plan A with guest 9's first task 10/60/60, and these marks for guest 9.

@@ -110,14 +110,19 @@ pub fn works(plan: &Plan, guest: usize, capacity: u32) -> bool {
 }
 
 /// Whether all tasks of a guest that is judged are met.
-fn all_met(plan: &Plan, guest: usize) -> bool {
-    let own = &plan.guests[guest];
-    own.places()
-        .all(|task| task_response(plan, guest, task).is_some_and(|r| r <= own.deadline[task]))
+pub(crate) fn all_met(plan: &Plan, guest: usize) -> bool {
+    let mut tasks = plan.guests[guest].places();
+    tasks.all(|task| is_met(plan, guest, task))
+}
+
+/// Whether a task of a guest that is judged is met.
+pub(crate) fn is_met(plan: &Plan, guest: usize, task: usize) -> bool {
+    let deadline = plan.guests[guest].deadline[task];
+    task_response(plan, guest, task).is_some_and(|r| r <= deadline)
 }
 
 /// A task is unjudged if its own guest or any guest above is unfit.
-fn judged(plan: &Plan, guest: usize) -> bool {
+pub(crate) fn judged(plan: &Plan, guest: usize) -> bool {
     (0..=guest).all(|at| fitted(plan, at))
 }
 

@@ -1,13 +1,22 @@
 //! The plan files of the folder `examples`: each is made of the text beside it, and prints what the folder's page says.
 
-use reference::plan::{Guest, Plan, blocks_of};
+use reference::order::order;
+use reference::plan::{Guest, Plan, Refusal, blocks_of};
 use reference::salvage::{Fate, salvage};
 use reference::show::text;
 use std::fs;
 use std::path::PathBuf;
 
 /// The plan files, by their names.
-const NAMES: [&str; 6] = ["plan-a", "unfit", "unmet", "bound", "deferrable", "refused"];
+const NAMES: [&str; 7] = [
+    "plan-a",
+    "unfit",
+    "unmet",
+    "bound",
+    "deferrable",
+    "unordered",
+    "refused",
+];
 
 fn path(name: &str) -> PathBuf {
     let root = PathBuf::from(env!("CARGO_MANIFEST_DIR")).join("../../examples");
@@ -84,6 +93,13 @@ fn each_plan_file_prints_what_the_page_says() {
     for name in NAMES {
         assert_eq!(text(&plan_file(name)), printed(name), "{name}");
     }
+}
+
+#[test]
+fn the_order_proposed_for_the_unordered_plan_file_is_plan_as() {
+    let ordered = order(&plan_of("unordered"), 9);
+    assert_eq!(ordered.refusal, Refusal::NONE);
+    assert_eq!(blocks_of(&ordered.plan), plan_file("plan-a"));
 }
 
 #[test]

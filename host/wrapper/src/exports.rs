@@ -11,7 +11,9 @@ pub use amended::{
 pub use salvage::salvage;
 pub use statement::{statement, write_log};
 
-use crate::{Dispatcher, Guest, Plan, Read, Refusal, Released, Run, Start, Ticked, Verdict};
+use crate::{
+    Dispatcher, Guest, Ordered, Plan, Read, Refusal, Released, Run, Start, Ticked, Verdict,
+};
 
 /// The library's declarations: all that is unsafe is here, in `amended`, in `statement` and in `salvage`.
 #[allow(unsafe_code)]
@@ -36,6 +38,7 @@ mod library {
         pub safe fn cs_task_verdict(plan: Plan, id: u32, task: u32) -> Verdict;
         pub safe fn cs_accept(plan: Plan) -> Verdict;
         pub safe fn cs_smallest_capacity(plan: Plan, id: u32) -> Verdict;
+        pub safe fn cs_order(plan: Plan, id: u32) -> Ordered;
         pub safe fn cs_fresh(plan: Plan) -> Start;
         pub safe fn cs_release(dispatcher: Dispatcher, id: u32, task: u32) -> Released;
         pub safe fn cs_tick(dispatcher: Dispatcher) -> Ticked;
@@ -105,6 +108,12 @@ pub fn accept(plan: &Plan) -> Verdict {
 /// Verdict 1 with the smallest capacity. Refusals: those of the records, then 7, 11.
 pub fn smallest_capacity(plan: &Plan, id: u32) -> Verdict {
     library::cs_smallest_capacity(*plan, id)
+}
+
+/// The plan with the guest's tasks in an order in which every one of them is met.
+/// Refusals: those of the records, then 7, 21, 22.
+pub fn order(plan: &Plan, id: u32) -> Ordered {
+    library::cs_order(*plan, id)
 }
 
 /// A fresh state. Refusals: those of the records.

@@ -2,9 +2,9 @@
 //!
 //! On one core, up to 8 guests share the time, each with up to 16 tasks. The library reads and
 //! writes plan blocks, judges guests and tasks, searches the smallest capacity, does the same for a
-//! standing plan with amendments, dispatches, states the finished jobs of a log, and salvages a
-//! damaged plan file.
-//! Every rule stands in document 01, as the requests P1 to P11 of document 02 change it; a refusal carries
+//! standing plan with amendments, proposes an order for a guest's tasks, dispatches, states the
+//! finished jobs of a log, and salvages a damaged plan file.
+//! Every rule stands in document 01, as the requests P1 to P12 of document 02 change it; a refusal carries
 //! document 01's number and place.
 //!
 //! The root of this crate has the calls as Rust has them, with `Result` and enums. [`exports`] has
@@ -27,6 +27,7 @@
 mod amended;
 mod dispatcher;
 pub mod exports;
+mod order;
 mod plan;
 mod records;
 mod salvage;
@@ -39,8 +40,8 @@ pub use amended::{
 pub use dispatcher::{Progress, Tick, pair};
 pub use plan::{BLOCK, GuestVerdict, TaskVerdict, find, mark};
 pub use records::{
-    Answer, Dispatcher, Fate, Guest, Located, LogEntries, LogEntry, Plan, Read, Refusal, Released,
-    Run, Salvaged, Start, Stated, Statement, Ticked, Verdict,
+    Answer, Dispatcher, Fate, Guest, Located, LogEntries, LogEntry, Ordered, Plan, Read, Refusal,
+    Released, Run, Salvaged, Start, Stated, Statement, Ticked, Verdict,
 };
 pub use salvage::{BlockFate, Fates, NotSalvaged, Salvage, salvage};
 pub use statement::{Line, MOST_JOBS, Passed, PassedOver, write_log};

@@ -76,6 +76,14 @@ pub struct Read {
     pub plan: Plan,
 }
 
+/// What is proposed as the order of a guest's tasks. The plan of a refused call is unchanged.
+#[repr(C)]
+#[derive(Clone, Copy, Debug, Default, PartialEq, Eq)]
+pub struct Ordered {
+    pub refusal: Refusal,
+    pub plan: Plan,
+}
+
 /// A verdict with its ticks, both 0 on a refusal.
 #[repr(C)]
 #[derive(Clone, Copy, Debug, Default, PartialEq, Eq)]
@@ -202,6 +210,8 @@ impl Refusal {
             18 => "a log block's number of jobs, or an age, is out of range",
             19 => "a log block past the millionth",
             20 => "no block of the file is kept",
+            21 => "a guest whose tasks are to be ordered is Deferrable, or a task of it is bound",
+            22 => "no order of the guest's tasks works",
             _ => "no number of document 01 or 02",
         }
     }

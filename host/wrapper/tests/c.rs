@@ -7,8 +7,8 @@ use std::path::{Path, PathBuf};
 use std::process::Command;
 
 use coreshare::{
-    Answer, Dispatcher, Fate, Guest, Located, LogEntries, LogEntry, Plan, Read, Refusal, Released,
-    Run, Salvaged, Start, Stated, Statement, Ticked, Verdict, mark, pair,
+    Answer, Dispatcher, Fate, Guest, Located, LogEntries, LogEntry, Ordered, Plan, Read, Refusal,
+    Released, Run, Salvaged, Start, Stated, Statement, Ticked, Verdict, mark, pair,
 };
 
 /// Compiles a C file of the folder `c` beside this crate, runs it and gives what it wrote.
@@ -62,6 +62,7 @@ fn layout() -> String {
     lines!(to, "CsPlan", Plan, count guests);
     lines!(to, "CsRefusal", Refusal, number place);
     lines!(to, "CsRead", Read, refusal plan);
+    lines!(to, "CsOrdered", Ordered, refusal plan);
     lines!(to, "CsVerdict", Verdict, number place verdict ticks);
     lines!(to, "CsLocated", Located, number place sheet);
     lines!(to, "CsDispatcher", Dispatcher, plan usage left position rest wait age);
@@ -119,6 +120,8 @@ guest 8 is refused as 7 by the plan
 guest 9 stands at byte 0 of the sheet
 with capacity 7 guest 9 is fitted 13 and its tasks are met 38 and 86
 so the plan is accepted, and needs 7
+exchanged, task 1 of guest 9 is met 26, and task 2 is unmet
+in the order proposed they are met 36 and 80, which is plan A
 task 1 has 36, and bound 24
 bound, it is answered 0 at position 0 and 17 at position 1
 Deferrable, guest 9 is fitted 16 and its tasks are met 38 and 82

@@ -8,6 +8,7 @@ pub mod capacity;
 pub mod dispatcher;
 pub mod exports;
 pub mod log;
+mod order;
 pub mod records;
 pub mod salvage;
 pub mod statement;

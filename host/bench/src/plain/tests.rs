@@ -1,5 +1,6 @@
 //! Holds plain Rust to the reference, as the library is held: what is measured must be right.
 
+mod order;
 mod salvage;
 mod statement;
 
@@ -41,6 +42,7 @@ const PLAIN: Side = Side {
     statement: statement::statement,
     write_log: statement::write_log,
     salvage: salvage::salvage,
+    order: order::order,
 };
 
 #[test]

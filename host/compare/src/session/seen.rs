@@ -5,7 +5,7 @@ use crate::call::EXPORTS;
 use std::ops::RangeInclusive;
 
 /// The numbers that whole calls are refused by; 19 is given of a log's block alone.
-const REFUSALS: [RangeInclusive<usize>; 2] = [1..=18, 20..=20];
+const REFUSALS: [RangeInclusive<usize>; 2] = [1..=18, 20..=22];
 
 /// The numbers that a pair of a sheet is answered by.
 const ANSWERS: [usize; 6] = [0, 7, 8, 9, 10, 17];
@@ -30,6 +30,10 @@ const SALVAGE: usize = 20;
 const SALVAGED: [usize; 4] = [0, 1, 12, 20];
 const FATES: [usize; 6] = [0, 2, 3, 4, 5, 6];
 
+/// The export that proposes an order, and what it gives.
+const ORDER: usize = 21;
+const ORDERED: [usize; 7] = [0, 1, 4, 6, 7, 21, 22];
+
 impl Session {
     /// Notes for each number whether it was seen, and prints those that were not.
     pub(super) fn each_number_seen(&mut self) {
@@ -48,6 +52,9 @@ impl Session {
         self.each_amended_number_seen();
         self.each_number_of_logs_seen();
         self.each_number_of_files_seen();
+        for number in ORDERED {
+            self.demand_of(ORDER, number, "each number of orders seen");
+        }
     }
 
     fn each_amended_number_seen(&mut self) {

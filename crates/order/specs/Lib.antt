@@ -1,0 +1,5 @@
+pub mod Sorting
+pub mod Reordered
+pub mod Proposed
+pub mod Promises
+pub mod Steps
