@@ -1,12 +1,12 @@
 /* The core-sharing library's C interface, for x86-64. Link libcoreshare.a, which `rt staticlib coreshare` writes.
  *
  * On one core, up to 8 guests share the time, each with up to 16 tasks. Every rule stands in document 01,
- * as the requests P1 to P12 of document 02 change it.
+ * as the requests P1 to P13 of document 02 change it.
  *
  * - Records and states cross by value, and bytes are lent for the call alone: the library keeps no pointer and
  *   no state of its own, so calls from several threads need no lock.
  * - No call asks anything of its input: any value of any field is taken, and what is out of range is
- *   refused by its number. Number 0 is no refusal; the place of a refusal 7 to 15, 17, 18 or 20 to 22, is 0.
+ *   refused by its number. Number 0 is no refusal; the place of a refusal 7 to 15, 17, 18 or 20 to 23, is 0.
  * - A pointer must be good for its length, for the whole call, and not be NULL even where the length is 0. The library
  *   does not test that, and promises nothing where it does not hold.
  * - A CsGuest is 216 bytes, a CsPlan 1,732, a CsDispatcher 3,472 and a CsStatement 2,568, both aligned to 8. They cross
@@ -14,7 +14,8 @@
  * - CsDispatcher has four bytes of padding before usage, CsTicked and CsStated four at their ends. The library neither
  *   reads nor promises them: compare states field by field, not by memcmp, and clear them before their bytes are sent
  *   anywhere. CsStatement has none.
- * - A CsGuest has grown by deferrable, before its arrays: a host is compiled anew, and sets it and the marks.
+ * - A CsGuest has grown by deferrable, before its arrays: a host is compiled anew, sets the marks, and leaves
+ *   deferrable 0.
  * - Like any compiled C, the library may call memcpy, memmove, memset and memcmp, also where there is no C library.
  */
 #ifndef CORESHARE_H
@@ -38,10 +39,11 @@ extern "C" {
  * A task with a mark is bound to its guest's period: its own period is a multiple of the guest's, its release is taken
  * only while the guest's position is 0, and its response has no gap of period less capacity in it.
  *
- * A Deferrable guest is passed over while none of its tasks has run left, and keeps its capacity until its period ends;
- * guests and tasks below it are judged with its jitter of period less capacity. A Periodic guest idles such ticks away.
+ * A Deferrable guest is one of an old plan. It is still read and judged, guests and tasks below it with its jitter of
+ * period less capacity, but no longer written or started: cs_convert makes a Periodic guest of it.
  *
- * A record that is Deferrable, or has a mark among its tasks', is written as a block of kind 2, any other as kind 1. */
+ * A record with a mark among its tasks' is written as a block of kind 2, any other as kind 1. An old block of a
+ * Deferrable guest is of kind 2 too, with a 1 in byte 22. */
 typedef struct CsGuest {
     uint32_t id;           /* not 0, once in a plan */
     uint32_t capacity;     /* 1 to the period */
@@ -96,11 +98,14 @@ typedef struct CsLocated {
 #define CS_IDLED_AT(g) (8 + (g))
 #define CS_NOBODYS 16
 
-/* The dispatcher's state. Task t of guest g, both from 0, has its numbers at 16 * g + t.
+/* The dispatcher's state. Task t of guest g, both from 0, has its numbers at 16 * g + t. Its guests are Periodic ones.
  *
- * Beside it stands where the ticks went. A tick that is done adds 1
+ * A state is outside its ranges, refusal 14, if cs_check refuses its plan, a guest of it is Deferrable, a number is
+ * outside the range that is noted for it below, or one past its guests and tasks is not 0.
+ *
+ * Beside the state stands where the ticks went. A tick that is done adds 1
  * - to usage[g] if guest g had it, and to usage[8 + g] too if none of its tasks had run left and so it idled the
- *   tick away, which a Deferrable guest never does;
+ *   tick away;
  * - to usage[16] if no guest had it.
  * Nothing else changes these numbers: a release leaves them, a run adds what its single ticks would, and a refused
  * call hands them back as they came. After 2^64 - 1 each goes on at 0. They have no range: any numbers are taken
@@ -210,8 +215,8 @@ CsRead cs_read(const uint8_t *bytes, size_t length);
 CsRefusal cs_check(CsPlan plan);
 
 /* Writes one guest's block at a place from 0 to the first 512 bytes of the buffer and to no others.
- * Refusals, with nothing written: 12 a buffer shorter than 512; 3 a place above 7; 4; 6; the last three with the
- * place handed in. */
+ * Refusals, with nothing written: 12 a buffer shorter than 512; 3 a place above 7; 4; 6; these three with the place
+ * handed in; 23 a Deferrable guest. */
 CsRefusal cs_write(CsGuest guest, uint32_t place, uint8_t *buffer, size_t length);
 
 /* Finds a guest's block in a plan's blocks: with number 0 it is the 512 bytes from 512 * place on.
@@ -278,7 +283,7 @@ CsVerdict cs_amended_smallest_capacity(const uint8_t *plan, size_t plan_length, 
                                        size_t sheet_length, uint32_t id);
 
 /* A fresh state over the records as handed over, with no tick counted; the plan need not be an accepted one.
- * Refusals: those of cs_check. */
+ * Refusals: those of cs_check, then 23 a Deferrable guest among those of the count. */
 CsStart cs_fresh(CsPlan plan);
 
 /* Releases a job of a task, by its number from 1.
@@ -337,6 +342,14 @@ CsStated cs_statement(CsStatement running, const uint8_t *plan, size_t plan_leng
  * Refusals, with nothing written and place 0: 1 a file above 4,096 bytes, with no block listed; 12 an output shorter
  * than the kept blocks; 20 nothing kept. */
 CsSalvaged cs_salvage(const uint8_t *file, size_t file_len, uint8_t *out, size_t out_len);
+
+/* Converts an old plan: every Deferrable guest becomes a Periodic one with the same numbers. The plan's blocks are
+ * written to the output. That of a Deferrable guest has byte 22 zero then, kind 1 if no task of it is bound, and its
+ * check written anew; nothing else changes, and past the plan the output stays as it was. What is written reads as a
+ * plan, and of a plan without Deferrable guests it is the plan's own bytes. Every guest that was fitted and every task
+ * that was met stays so, with a response no larger. The plan and the output must not overlap.
+ * Refusals, with nothing written: those of cs_read, then 12 an output shorter than the plan. */
+CsRefusal cs_convert(const uint8_t *plan, size_t plan_len, uint8_t *out, size_t out_len);
 
 #ifdef __cplusplus
 }

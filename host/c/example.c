@@ -1,5 +1,5 @@
 /* Plan A of document 01 from C: its blocks written, read and judged, an amendment to it tried, its tasks put in order,
- * a task bound, its guests made Deferrable, and its dispatcher run until a job finishes; then where the ticks went, a
+ * a task bound, an old card of it converted, and its dispatcher run until a job finishes; then where the ticks went, a
  * sheet of releases, a statement of finished jobs, and last what is left of the plan when its first block is damaged.
  * From this folder: cc -O2 example.c ../../target/staticlib/libcoreshare.a -o example */
 #include "coreshare.h"
@@ -131,18 +131,34 @@ static int bind_a_task(CsPlan plan) {
     return 0;
 }
 
-/* Both guests Deferrable: guest 9 and its tasks have longer responses, and guest 7 is passed over while it has no
- * work. */
-static int make_deferrable(CsPlan plan) {
-    plan.guests[0].deferrable = plan.guests[1].deferrable = 1;
-    printf("Deferrable, guest 9 is fitted %u and its tasks are met %u and %u\n", cs_guest_verdict(plan, 9).ticks,
-           cs_task_verdict(plan, 9, 1).ticks, cs_task_verdict(plan, 9, 2).ticks);
-    CsReleased released = cs_release(cs_fresh(plan).dispatcher, 9, 1);
-    if (refused("release", released.refusal)) {
+/* A plan without marks as an old card has it, its guests Deferrable: each block is of kind 2 with a 1 in byte 22, and
+ * its check takes back what they add to the sum. */
+static void make_old_card(const uint8_t *plan, size_t length, uint8_t *card) {
+    memcpy(card, plan, length);
+    for (uint8_t *block = card; block < card + length; block += CS_BLOCK) {
+        uint32_t check;
+        memcpy(&check, block + CS_BLOCK - sizeof check, sizeof check);
+        check -= 1 + (1u << 16);
+        memcpy(block + CS_BLOCK - sizeof check, &check, sizeof check);
+        block[0] = 2;
+        block[22] = 1;
+    }
+}
+
+/* Where both guests are Deferrable, guest 9 and its tasks have longer responses, and there is no start; converted, the
+ * card is plan A. */
+static int convert_an_old_card(const uint8_t *plan, size_t length) {
+    uint8_t card[2 * CS_BLOCK], converted[2 * CS_BLOCK];
+    make_old_card(plan, length, card);
+    CsPlan old = cs_read(card, length).plan;
+    print_guest(&old, &old.guests[1]);
+    printf("the old card's start is refused as %u\n", cs_fresh(old).refusal.number);
+    if (refused("convert", cs_convert(card, length, converted, sizeof converted))) {
         return 1;
     }
-    CsTicked ticked = cs_tick(released.dispatcher);
-    printf("guest %u has the first tick, and guest 7 has %u left\n", ticked.answer.guest, ticked.dispatcher.left[0]);
+    CsPlan now = cs_read(converted, length).plan;
+    print_guest(&now, &now.guests[1]);
+    printf("converted it is %s\n", memcmp(converted, plan, length) == 0 ? "plan A" : "another plan");
     return 0;
 }
 
@@ -247,7 +263,7 @@ int main(void) {
     }
     print_verdicts(&read.plan);
     if (try_an_amendment(bytes, sizeof bytes) || order_tasks(&read.plan) || bind_a_task(read.plan) ||
-        make_deferrable(read.plan)) {
+        convert_an_old_card(bytes, sizeof bytes)) {
         return 1;
     }
     return run_until_finished(&read.plan) || state_finished_jobs(bytes, sizeof bytes) ||

@@ -1,4 +1,3 @@
 -- Laws, each file named after the definitions that it is about.
-pub mod Claims
 pub mod Tallies
 pub mod Place

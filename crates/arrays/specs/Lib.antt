@@ -1,5 +1,4 @@
 pub mod Place
 pub mod Ranges
 pub mod Parts
-pub mod Claims
 pub mod Usage

@@ -1,5 +1,4 @@
 // The dispatcher's numbers in lent arrays: the parts of a tick, and where it went.
-mod claim;
 mod jobs;
 mod server;
 mod usage;

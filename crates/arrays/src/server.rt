@@ -4,10 +4,8 @@ ghost use Prim.Native.Nat.{_+_, _≤_};
 ghost use lib.Dec.{ltb, eqb};
 ghost use Rattle.lists.specs.Choice.{pick};
 ghost use Rattle.lists.specs.Places.{upTo};
-ghost use Rattle.arrays.specs.Place.{Small};
-ghost use Rattle.arrays.specs.Parts.{filled, onward};
-ghost use Rattle.arrays.specs.Claims.{firstClaimant};
-use crate::claim::wants;
+ghost use Rattle.lists.specs.Search.{firstFrom};
+ghost use Rattle.arrays.specs.Parts.{filled, onward, hasLeft};
 
 // One capacity left: the whole capacity at position 0.
 fn filled(position: u32, capacity: u32, left: u32) -> u32
@@ -30,26 +28,15 @@ pub fn refill(left: &mut [u32; 8], position: &[u32; 8], capacities: &[u32; 16], 
     }
 }
 
-// The first guest that claims the tick, or n. The capacity left is looked at first: it alone rules most guests out.
-pub fn holder(
-    left: &[u32; 8],
-    rest: &[u32; 128],
-    tasks: &[u32; 16],
-    deferrable: &[u32; 16],
-    n: usize,
-) -> usize
-    requires { ⌜ Small n (now tasks) ⌝ }
-    ensures { λ r. ⌜
-        r
-        ≡ firstClaimant (now (left .entry)) (now (rest .entry)) (now (tasks .entry)) (now (deferrable .entry)) n
-        ⌝ }
+// The first guest with capacity left, or n.
+pub fn holder(left: &[u32; 8], n: usize) -> usize
+    requires { ⌜ n ≤ 8 ⌝ }
+    ensures { λ r. ⌜ r ≡ firstFrom (hasLeft (now (left .entry))) n 0 ⌝ }
 {
     let mut k: usize = 0;
     while k < n {
         if 0 < left[k] {
-            if wants(rest, tasks, deferrable, k) {
-                return k;
-            }
+            return k;
         }
         k += 1;
     }

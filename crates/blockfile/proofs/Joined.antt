@@ -2,11 +2,12 @@
 use mathlib.Core.Path.{_≡_, refl, sym, ap, _∙_}
 use mathlib.Core.Logic.{⊎-elim}
 use mathlib.Core.List.{List, [], _++_, append-assoc, append-nil}
-use Prim.Native.Nat.{ℕ, zero, suc, _+_, _*_, _<_}
+use Prim.Native.Nat.{ℕ, zero, suc, _+_, _*_, _-_, _≤_, _<_}
 use native.Mathlib.Nat.{eq-or-lt-of-le}
+use native.Mathlib.Numerals.{add-one}
 use native.Mathlib.Omega.{arith}
-use lib.ListN.{length, take, length-append}
-use lib.Seq.{take-at, drop-at, take-add}
+use lib.ListN.{length, take, drop, length-append, length-drop}
+use lib.Seq.{length-take-le, take-all, take-at, take-add, drop-at, drop-drop, drop-length}
 use Rattle.block.specs.Layout.{blockSize}
 use Rattle.blockfile.specs.File.{blockAt}
 use Rattle.blockfile.specs.Joined.{joined}
@@ -54,3 +55,40 @@ blocks-joined s zero = refl
 blocks-joined s (suc n) =
     let e : blockSize * suc n ≡ blockSize * n + blockSize = omega arith in
     rw (e, blocks-joined s n) (sym (take-add (blockSize * n) blockSize s))
+
+-- The part behind j parts has room for one more.
+pub part-room : (j : ℕ) (x : List ℕ) → blockSize * j + blockSize ≤ length x
+    → blockSize ≤ length (take (length x - blockSize * j) (drop (blockSize * j) x))
+part-room j x h =
+    let d = length-drop (blockSize * j) x in
+    let l = length-take-le (length x - blockSize * j) (drop (blockSize * j) x) (omega arith) in
+    omega arith
+
+-- A loop's turn: one part more is put in behind those that stand, into a part that reaches to the end.
+pub part-next : (f : ℕ → List ℕ) (j : ℕ) (o x part : List ℕ) → EachLong f j
+    → blockSize * j ≤ length o → x ≡ joined f j ++ drop (blockSize * j) o
+    → part ≡ f j ++ drop blockSize (take (length x - blockSize * j) (drop (blockSize * j) x))
+    → take (blockSize * j) x ++ (part ++ drop (length x - blockSize * j) (drop (blockSize * j) x))
+    ≡ joined f (j + 1) ++ drop (blockSize * (j + 1)) o
+unfolding joined
+part-next f j o x part long room e q =
+    let h = joined-length f j long in
+    let front : take (blockSize * j) x ≡ joined f j = rw e (take-at (joined f j) (drop (blockSize * j) o) _ h) in
+    let back : drop (blockSize * j) x ≡ drop (blockSize * j) o =
+    rw e (drop-at (joined f j) (drop (blockSize * j) o) _ h) in
+    let m : length x - blockSize * j ≡ length (drop (blockSize * j) o) =
+    omega (arith, ap length e, length-append (joined f j) (drop (blockSize * j) o), h) in
+    let n : blockSize * suc j ≡ blockSize * j + blockSize = omega arith in
+    rw (
+      q,
+      front,
+      back,
+      m,
+      take-all (length (drop (blockSize * j) o)) (drop (blockSize * j) o) (omega arith),
+      drop-length (drop (blockSize * j) o),
+      append-nil,
+      drop-drop,
+      add-one j,
+      n,
+      append-assoc,
+    )

@@ -12,22 +12,25 @@ use Rattle.plan.specs.declared.Guest.{Guest}
 use Rattle.plan.specs.declared.Refusal.{Refusal}
 use Rattle.plan.specs.Records.{runOf, everyOf, deadlineOf}
 use Rattle.plan.specs.Marks.{liveMarks}
-use Rattle.plan.specs.Server.{saysDeferrable}
+use Rattle.plan.specs.Server.{saysDeferrable, isPeriodic}
 use Rattle.plan.specs.Ranges.{within, guestOk, tasksOk}
 use Rattle.plan.specs.First.{refused}
 use Rattle.block.specs.Layout.{blockSize, blockWords, kindPlaceWord, plainKind, extendedKind, deferrableServer, lastPlace, idWord, capacityWord, periodWord, tasksChargeWord, marksServerWord, firstTask, halves}
 use Rattle.blockparts.specs.Parts.{withEntries, withCheck, writtenBy}
 
--- The number that is written for a record's number of its server.
+-- Every record has one block, as old plans have it. The writer refuses a Deferrable guest, so that byte 22 is 1 in old
+-- plans alone.
+
+-- The number that stands for a record's number of its server.
 abbrev pub serverOf : (deferrable : ℕ) → ℕ
 serverOf deferrable = pick (saysDeferrable deferrable) deferrableServer 0
 
--- The number that a guest's server is written as.
+-- The number that stands for a guest's server.
 abbrev pub serverFor : Guest → ℕ
 serverFor g = serverOf (g .deferrable)
 
--- The kind that a guest with these marks and this server is written in: 2 where one of its tasks has a mark or the
--- server is Deferrable, else 1.
+-- The kind of a guest with these marks and this server: 2 where one of its tasks has a mark or the server is
+-- Deferrable, else 1.
 abbrev pub kindFor : (marks server : ℕ) → ℕ
 kindFor marks server = pick (leb 1 marks || leb 1 server) extendedKind plainKind
 
@@ -62,6 +65,7 @@ writeNumber g place size =
     ∷ leb place lastPlace orRefuse 3
     ∷ guestOk g orRefuse 4
     ∷ tasksOk g orRefuse 6
+    ∷ isPeriodic g orRefuse 23
     ∷ [])
 
 -- Numbers 2 to 6 come with the place, all others with place 0.

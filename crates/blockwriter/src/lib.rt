@@ -7,6 +7,8 @@ use plan::Refusal;
 
 mod writer;
 
+pub use writer::put_block; // Inner: the converter writes blocks of guests that it made Periodic.
+
 // Numbers 2 to 6 come with the place, all others with place 0.
 fn with_place(number: u32, place: u32) -> Refusal
     ensures { λ r. ⌜ r ≡ withPlace number place ⌝ }

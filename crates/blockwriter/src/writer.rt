@@ -7,8 +7,8 @@ ghost use Rattle.lists.specs.Places.{nth};
 ghost use Rattle.words.specs.Bytes.{withWord, bytesOf};
 ghost use Rattle.plan.specs.Marks.{marksOf};
 ghost use Rattle.plan.specs.Ranges.{mostTasks};
-ghost use Rattle.block.specs.Layout.{blockSize, blockWords, kindPlaceWord, extendedKind, deferrableServer, lastPlace, marksServerWord, halves};
-ghost use Rattle.blockwriter.specs.Writing.{serverOf, kindFor, withHead, wordsOf, blockOf, writeNumber};
+ghost use Rattle.block.specs.Layout.{blockSize, blockWords, kindPlaceWord, extendedKind, lastPlace, marksServerWord, halves};
+ghost use Rattle.blockwriter.specs.Writing.{kindFor, withHead, wordsOf, blockOf, writeNumber};
 use block::layout;
 use plan::Guest;
 
@@ -32,52 +32,45 @@ pub fn write_number(g: Guest, place: u32, size: usize) -> u32
     if !plan::tasks_ok(g.marks, g.period, &run, &every, &deadline, n) {
         return 6;
     }
+    if 0 < g.deferrable {
+        return 23;
+    }
     0
 }
 
-// The number that a server is written as.
-fn server_of(deferrable: u32) -> u32
-    ensures { λ r. ⌜ (r ≡ serverOf deferrable) × (r ≤ deferrableServer) ⌝ }
+// The kind that a Periodic guest with these marks is written in.
+fn kind_for(marks: u32) -> u32
+    ensures { λ r. ⌜ (r ≡ kindFor marks 0) × (r ≤ extendedKind) ⌝ }
 {
-    if deferrable == 0 {
-        0
-    } else {
-        layout::DEFERRABLE_SERVER
-    }
-}
-
-// The kind that a guest with these marks and this server is written in.
-fn kind_for(marks: u32, server: u32) -> u32
-    ensures { λ r. ⌜ (r ≡ kindFor marks server) × (r ≤ extendedKind) ⌝ }
-{
-    if (1 <= marks) | (1 <= server) {
+    if 1 <= marks {
         layout::EXTENDED_KIND
     } else {
         layout::PLAIN_KIND
     }
 }
 
-// Kind, place, marks and server put in.
-fn put_kind(buf: &mut [u8], marks: u16, tasks: u32, deferrable: u32, place: u32)
+// Kind, place and marks of a Periodic guest put in.
+fn put_kind(buf: &mut [u8], marks: u16, tasks: u32, place: u32)
     requires { ⌜ (blockSize ≤ length (now buf)) × ((place ≤ lastPlace) × (tasks ≤ mostTasks)) ⌝ }
     ensures { λ _. ⌜
         now (buf .exit)
         ≡ withWord
-        (withWord (now (buf .entry)) kindPlaceWord
-        (halves (kindFor (marksOf marks tasks) (serverOf deferrable)) place))
-        marksServerWord (halves (marksOf marks tasks) (serverOf deferrable))
+        (withWord (now (buf .entry)) kindPlaceWord (halves (kindFor (marksOf marks tasks) 0) place))
+        marksServerWord (halves (marksOf marks tasks) 0)
         ⌝ }
 {
     let live = plan::live_marks(marks, tasks as usize);
-    let server = server_of(deferrable);
-    let kind = kind_for(live, server);
+    let kind = kind_for(live);
     words::put_word(buf, layout::KIND_PLACE, kind + layout::HALF * place);
-    words::put_word(buf, layout::MARKS_SERVER, live + layout::HALF * server);
+    words::put_word(buf, layout::MARKS_SERVER, live);
 }
 
-// The first 512 bytes set to zero, and the head's words put in.
+// The first 512 bytes set to zero, and the words of a Periodic guest's head put in.
 fn put_head(g: Guest, place: u32, buf: &mut [u8])
-    requires { ⌜ (blockSize ≤ length (now buf)) × ((place ≤ lastPlace) × (g .tasks ≤ mostTasks)) ⌝ }
+    requires { ⌜
+        (blockSize ≤ length (now buf))
+        × ((place ≤ lastPlace) × ((g .tasks ≤ mostTasks) × (g .deferrable ≡ 0)))
+        ⌝ }
     ensures { λ _. ⌜
         now (buf .exit)
         ≡ bytesOf (nth (withHead g place (replicate blockWords 0))) blockWords ++ drop blockSize (now (buf .entry))
@@ -85,7 +78,7 @@ fn put_head(g: Guest, place: u32, buf: &mut [u8])
 {
     let tasks_charge = g.tasks + layout::HALF * (g.charge as u32);
     words::put_zeros(buf, layout::SIZE);
-    put_kind(buf, g.marks, g.tasks, g.deferrable, place);
+    put_kind(buf, g.marks, g.tasks, place);
     words::put_word(buf, layout::ID, g.id);
     words::put_word(buf, layout::CAPACITY, g.capacity);
     words::put_word(buf, layout::PERIOD, g.period);
@@ -94,7 +87,10 @@ fn put_head(g: Guest, place: u32, buf: &mut [u8])
 
 // The head and the guest's entries put in: the block's words but for the check.
 fn put_entries(g: Guest, place: u32, buf: &mut [u8])
-    requires { ⌜ (blockSize ≤ length (now buf)) × ((place ≤ lastPlace) × (g .tasks ≤ mostTasks)) ⌝ }
+    requires { ⌜
+        (blockSize ≤ length (now buf))
+        × ((place ≤ lastPlace) × ((g .tasks ≤ mostTasks) × (g .deferrable ≡ 0)))
+        ⌝ }
     ensures { λ _. ⌜
         now (buf .exit) ≡ bytesOf (nth (wordsOf g place)) blockWords ++ drop blockSize (now (buf .entry))
         ⌝ }
@@ -111,9 +107,12 @@ fn put_entries(g: Guest, place: u32, buf: &mut [u8])
     }
 }
 
-// The guest's block put into the first 512 bytes.
+// The block of a Periodic guest put into the first 512 bytes.
 pub fn put_block(g: Guest, place: u32, buf: &mut [u8])
-    requires { ⌜ (blockSize ≤ length (now buf)) × ((place ≤ lastPlace) × (g .tasks ≤ mostTasks)) ⌝ }
+    requires { ⌜
+        (blockSize ≤ length (now buf))
+        × ((place ≤ lastPlace) × ((g .tasks ≤ mostTasks) × (g .deferrable ≡ 0)))
+        ⌝ }
     ensures { λ _. ⌜ now (buf .exit) ≡ blockOf g place ++ drop blockSize (now (buf .entry)) ⌝ }
 {
     put_entries(g, place, buf);

@@ -1,4 +1,4 @@
-// Damaged plan files salvaged: cards with blocks damaged, lost, out of place and repeated.
+// Plan files salvaged and converted: cards with blocks damaged, lost, out of place and repeated, and old cards.
 // Standard input has the cases, a line for each guest, task, damage or call: its first letter says which. Each line is
 // written out again, a call with its outcome; a line that starts with # says why the outcome is right and is left out.
 use casework::damage;
@@ -6,6 +6,8 @@ use draft::text;
 use draft::text::Row;
 use plan::Plan;
 
+mod converting;
+mod looking;
 mod saving;
 
 // What is in hand: the plan, the card's bytes, and the line.
@@ -26,7 +28,7 @@ fn planned(p: Plan, row: Row) -> Plan {
 // The card after a line: `make` writes the plan's blocks to it; others may damage it.
 fn changed(p: Plan, file: &mut [u8; 4608], row: Row) {
     if row.first == b'm' {
-        draft::write(p, file);
+        draft::write(p, file, true);
     }
     damage::damage(file, row);
 }
@@ -36,7 +38,7 @@ fn echo(row: Row, b: u8) {
     if row.first == b'#' {
         return;
     }
-    if (b == b'\n') & (row.first == b'S') {
+    if (b == b'\n') & ((row.first == b'S') | (row.first == b'C')) {
         return;
     }
     io::write_all(1, &[b]);
@@ -67,6 +69,7 @@ fn step(desk: Desk, b: u8) -> Desk {
     let mut file = desk.file;
     changed(plan, &mut file, line);
     saving::ask(&file, line);
+    converting::ask(&file, line);
     let row = grown(row, b);
     Desk { plan, file, row }
 }

@@ -1,4 +1,5 @@
 // A card salvaged: the list, and what was saved.
+use crate::looking;
 use casework::say;
 use draft::text::Row;
 use salvage::Fate;
@@ -32,33 +33,11 @@ fn tell(r: Salvaged) {
     fate(3, n, fates[3]);
 }
 
-// A byte in 32 bits.
-fn wide(x: u8) -> u32 {
-    x as u32
-}
-
-// Writes the byte at n, if there is one.
-fn byte(out: &[u8], n: usize) {
-    if n < out.len() {
-        say::number(b"then ", wide(out[n]));
-        say::text(b"\n");
-    }
-}
-
-// Writes the first n bytes as a plan, and the byte behind them.
-fn look(out: &[u8], n: u32) {
-    let n = n as usize;
-    if n <= out.len() {
-        show::show(&out[..n]);
-    }
-    byte(out, n);
-}
-
 // The card's bytes salvaged into lent ones.
 fn save(file: &[u8], out: &mut [u8]) {
     let r = salvage::salvage(file, out);
     tell(r);
-    look(out, r.written);
+    looking::look(out, r.written);
 }
 
 // The first n bytes of the card salvaged into the first m lent ones.

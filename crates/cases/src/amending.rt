@@ -109,7 +109,7 @@ pub fn ask(standing: Plan, p: Plan, row: Row) {
     let x = row.numbers;
     let mut plan = [0u8; draft::MOST_BYTES];
     let mut sheet = [0u8; draft::MOST_BYTES];
-    draft::write(standing, &mut plan);
+    draft::write(standing, &mut plan, true);
     blocks(p, row, &mut sheet);
     lend(
         &plan,

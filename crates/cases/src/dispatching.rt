@@ -88,6 +88,20 @@ fn with_server(d: Dispatcher, first: u8, k: usize, value: u32) -> Dispatcher {
     d
 }
 
+// The number of guest k's server set, in the state's records.
+fn with_kind(d: Dispatcher, k: usize, value: u32) -> Dispatcher {
+    let mut d = d;
+    let plan = d.plan;
+    let mut guests = plan.guests;
+    let count = plan.count;
+    if k < 8 {
+        guests[k].deferrable = value;
+    }
+    let plan = Plan { count, guests };
+    d.plan = plan;
+    d
+}
+
 // Run left, wait or age of the job at place k set.
 fn with_job(d: Dispatcher, first: u8, k: usize, value: u32) -> Dispatcher {
     let mut d = d;
@@ -104,7 +118,7 @@ fn with_job(d: Dispatcher, first: u8, k: usize, value: u32) -> Dispatcher {
 }
 
 // `Start` from the plan; `Release` a guest's task; `Hand` in a sheet of releases; `Tick`; `Go` on for so many ticks;
-// `Left`, `Position`, `Job`, `Wait` or `Age` at a place set to a number.
+// `Left`, `Position`, `Deferrable`, `Job`, `Wait` or `Age` at a place set to a number.
 pub fn call(p: Plan, d: Dispatcher, row: Row) -> Dispatcher {
     let x = row.numbers;
     let first = row.first;
@@ -115,6 +129,7 @@ pub fn call(p: Plan, d: Dispatcher, row: Row) -> Dispatcher {
         b'T' => tick(d),
         b'G' => run(d, x[0]),
         b'L' | b'P' => with_server(d, first, x[0] as usize, x[1]),
+        b'D' => with_kind(d, x[0] as usize, x[1]),
         b'J' | b'W' | b'A' => with_job(d, first, x[0] as usize, x[1]),
         _ => d,
     }

@@ -14,8 +14,20 @@ pub fn byte(row: Row, b: u8) {
 pub fn end(row: Row) {
     let first = row.first;
     match first {
-        0 | b'n' | b'c' | b'm' | b'g' | b't' | b'p' | b'K' | b'L' | b'P' | b'J' | b'W' | b'A' =>
-            say::text(b"\n"),
+        0
+        | b'n'
+        | b'c'
+        | b'm'
+        | b'g'
+        | b't'
+        | b'p'
+        | b'K'
+        | b'L'
+        | b'P'
+        | b'D'
+        | b'J'
+        | b'W'
+        | b'A' => say::text(b"\n"),
         _ => {}
     }
 }

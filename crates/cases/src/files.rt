@@ -1,4 +1,4 @@
-// The plan's blocks as the writer writes them: printed, cut short, damaged, searched.
+// The plan's blocks, those of Deferrable guests as old cards have them: printed, cut short, damaged, searched.
 use block::layout;
 use casework::damage;
 use casework::say;
@@ -56,7 +56,7 @@ fn length(p: Plan, row: Row) -> u32 {
 // The plan's blocks, zeros past them, and the line's damage to them.
 fn blocks(p: Plan, row: Row) {
     let mut buf = [0u8; BLOCK_MORE];
-    draft::write(p, &mut buf);
+    draft::write(p, &mut buf, true);
     damage::damage(&mut buf, row);
     look_at(&buf, length(p, row), row);
 }

@@ -20,7 +20,7 @@ use Rattle.steps.specs.declared.Turn.{Turn}
 use Rattle.dispatcher.specs.declared.Answer.the-variants.{Nobody, Idled, Worked, Finished}
 use Rattle.arrays.specs.Place.{placeAt}
 use Rattle.dispatcher.specs.State.{guestIn, restAt}
-use Rattle.dispatcher.specs.Tick.{firstTask, holder, isHeld, worker, isWorked, ageAfter}
+use Rattle.dispatcher.specs.Tick.{holder, isHeld, worker, isWorked, ageAfter}
 use Rattle.dispatcher.specs.Answer.{answerBy, answer, finishes}
 use Rattle.dispatcher.specs.Lent.{turnBy, turn, Telling, Ending}
 use Rattle.arrays.specs.Parts.{grown, hasRun}
@@ -47,7 +47,7 @@ worker-in d e = ltb-true (worker d) (guestIn d (holder d) .tasks) (and-right (is
 
 -- The task that works has run left.
 pub worker-runs : (d : Dispatcher) → isWorked d ≡ true → 1 ≤ restAt d (holder d) (worker d)
-unfolding worker firstTask
+unfolding worker
 worker-runs d e =
     let h : worker d < guestIn d (holder d) .tasks = worker-in d e in
     omega (arith, ltb-true 0 (restAt d (holder d) (worker d)) (first-found (hasRun (d .rest) (holder d)) (guestIn d (holder d) .tasks) 0 (omega arith)))

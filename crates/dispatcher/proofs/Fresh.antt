@@ -5,7 +5,7 @@ use native.Mathlib.Omega.{arith}
 use Rattle.plan.specs.declared.Plan.{Plan}
 use Rattle.plan.specs.declared.Refusal.{Refusal}
 use Rattle.plan.specs.Records.{blankPlan}
-use Rattle.plan.specs.Order.{planRefusal}
+use Rattle.plan.specs.Periodic.{startRefusal}
 use Rattle.dispatcher.specs.declared.Dispatcher.{Dispatcher}
 use Rattle.dispatcher.specs.declared.Started.{Started}
 use Rattle.dispatcher.specs.Fresh.{idle, startedBy, fresh}
@@ -23,13 +23,13 @@ idle-by zero p h = refl
 idle-by (suc n) p h = absurd (omega arith)
 
 -- A refused start has its whole outcome.
-pub start-refused : (p : Plan) {r : Refusal} {b : Plan} {d : Dispatcher} → r ≡ planRefusal p → 0 < r .number → b ≡ blankPlan → d ≡ idle b
+pub start-refused : (p : Plan) {r : Refusal} {b : Plan} {d : Dispatcher} → r ≡ startRefusal p → 0 < r .number → b ≡ blankPlan → d ≡ idle b
     → _≡_ {A = Started} (record { refusal = r; state = d }) (fresh p)
 unfolding fresh
 start-refused p e h f g = rw (g, f, ← e, ← blank-by _ p h) refl
 
 -- A start that is not refused has its whole outcome.
-pub start-fresh : (p : Plan) {r : Refusal} {d : Dispatcher} → r ≡ planRefusal p → r .number ≤ 0 → d ≡ idle p
+pub start-fresh : (p : Plan) {r : Refusal} {d : Dispatcher} → r ≡ startRefusal p → r .number ≤ 0 → d ≡ idle p
     → _≡_ {A = Started} (record { refusal = r; state = d }) (fresh p)
 unfolding fresh
 start-fresh p e h g = rw (g, ← e, ← idle-by _ p h) refl

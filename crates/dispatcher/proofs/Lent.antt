@@ -17,7 +17,7 @@ use Rattle.plan.specs.Order.{planRefusal}
 use Rattle.dispatcher.specs.declared.Dispatcher.{Dispatcher}
 use Rattle.steps.specs.declared.Turn.{Turn}
 use Rattle.arrays.specs.Place.{placeAt, Small}
-use Rattle.dispatcher.specs.Tick.{lessAt, refilled, firstTask, holder, isHeld, leftAfter, worker, isWorked, restAfter, ageAfter, waitAfter, positionAfter, next}
+use Rattle.dispatcher.specs.Tick.{lessAt, refilled, holder, isHeld, leftAfter, worker, isWorked, restAfter, ageAfter, waitAfter, positionAfter, next}
 use Rattle.arrays.specs.Ranges.{noJob}
 use Rattle.dispatcher.specs.Valid.{guestInRange, taskInRange, rowOk, stateOk}
 use Rattle.refusals.specs.Rows.{blankAt}
@@ -25,20 +25,19 @@ use Rattle.dispatcher.specs.Lent.{stateOf, Quiet, Telling, Ending, Refil
 use Rattle.plan.specs.declared.Columns.{Columns}
 use Rattle.plan.specs.Filled.{ColumnsOf}
 use Rattle.steps.specs.Step.{Serves, nobody, idles, works, Numbers, Steps}
-use Rattle.arrays.specs.Parts.{filled, onward, grown, fallen, hasRun}
-use Rattle.arrays.specs.Claims.{firstClaimant}
+use Rattle.arrays.specs.Parts.{filled, onward, grown, fallen, hasLeft, hasRun}
 use Rattle.lists.proofs.All.{and-left, and-right, and-true, and-false-right, all-at}
 use Rattle.lists.proofs.Places.{upTo-get, upTo-ext, upTo-short}
 use Rattle.plan.proofs.Order.{plan-in}
 use Rattle.dispatcher.proofs.LentCheck.{past-task-is}
+use Rattle.dispatcher.proofs.Valid.{ok-row}
 use Rattle.dispatcher.proofs.Tick.{tick-counted}
-use Rattle.dispatcher.proofs.Claims.{first-claims}
 
-module _ {d : Dispatcher} {n : ℕ} {tasks deferrable left rest : List ℕ} (l : Refilled d n tasks deferrable left rest) {k : ℕ}
-    (e : k ≡ firstClaimant left rest tasks deferrable n) where
+module _ {d : Dispatcher} {n : ℕ} {tasks left rest : List ℕ} (l : Refilled d n tasks left rest) {k : ℕ} (e : k ≡ firstFrom (hasLeft left) n 0) where
   -- The code's guest is the rule's.
   holder-is : k ≡ holder d
-  holder-is = e ∙ first-claims l
+  unfolding holder
+  holder-is = rw (e, l .filled, l .count) refl
 
   module _ (h : n ≤ k) where
     -- Where no guest was found, nobody has the tick.
@@ -73,7 +72,7 @@ module _ {d : Dispatcher} {n : ℕ} {tasks deferrable left rest : List ℕ} (l :
 
     -- The code's task is the rule's.
     worker-is : t ≡ worker d
-    unfolding worker firstTask
+    unfolding worker
     worker-is = rw (f, l .runs, l .many k h, ← holder-is) refl
 
     module _ (g : nth tasks k ≤ t) where
@@ -109,11 +108,7 @@ module _ {d : Dispatcher} {n : ℕ} {tasks deferrable left rest : List ℕ} (l :
       }
 
 -- Serving the lent arrays is the rule's, whoever has the tick.
-served-is :
-    {d : Dispatcher} {n : ℕ} {tasks deferrable left rest l r : List ℕ} {t : Turn}
-    → Refilled d n tasks deferrable left rest
-    → Serves n tasks deferrable left rest l r t
-    → Served d l r t
+served-is : {d : Dispatcher} {n : ℕ} {tasks left rest l r : List ℕ} {t : Turn} → Refilled d n tasks left rest → Serves n tasks left rest l r t → Served d l r t
 served-is f (nobody e h) = with-nobody f e h
 served-is f (idles e h g m) = with-idle f e h g m
 served-is f (works e h g m) = with-work f e h g m
@@ -140,18 +135,12 @@ module _ {p : Plan} {n : ℕ} {c : Columns} (counts : p .count ≡ n) (u : Colum
 
   -- A tick over the lent arrays is the rule's.
   pub stepped : {a : Numbers} {t : Turn} → n ≤ 8 → Quiet n rest wait
-      → Steps n (c .capacities) (c .periods) (c .tasks) (c .deferrable)
+      → Steps n (c .capacities) (c .periods) (c .tasks)
       (record { left = left; position = position; rest = rest; wait = wait; age = age; usage = usage }) a t
       → Stepped (stateOf p left position rest wait age usage) (stateOf p (a .left) (a .position) (a .rest) (a .wait) (a .age) (a .usage)) t
   unfolding next waitAfter ageAfter
   stepped few z s =
-      let v = served-is {d = stateOf p left position rest wait age usage} record {
-        count = counts;
-        many = u .tasks .holds;
-        servers = u .deferrable .holds;
-        filled = refilled-is;
-        runs = refl;
-      } (s .served) in
+      let v = served-is {d = stateOf p left position rest wait age usage} record { count = counts; many = u .tasks .holds; filled = refilled-is; runs = refl } (s .served) in
       record {
         state = rw (v .lefts, s .moved, onward-is, v .runs, s .fell, s .grew, fallen-short few z, grown-short few z age, s .counted, tick-counted _ (v .had) counts) refl;
         had = v .had;
@@ -221,10 +210,10 @@ module _ {d after : Dispatcher} {t : Turn} (p : planRefusal (after .plan) .numbe
 module _ (d : Dispatcher) (e : stateOk d ≡ true) where
   -- A row past the guests of a state in its ranges is blank.
   blank-at : (j t : ℕ) → d .plan .count ≤ j → j < 8 → t < 16 → blankAt (d .rest) (d .wait) (d .age) j t ≡ true
-  unfolding stateOk rowOk
+  unfolding rowOk
   blank-at j t a b c =
       past-task-is d j a t
-      ∙ all-at (taskInRange d j) 16 t c (and-right (guestInRange d j) _ (all-at (rowOk d) 8 j b (and-right (eqb (planRefusal (d .plan) .number) 0) _ e)))
+      ∙ all-at (taskInRange d j) 16 t c (and-right (guestInRange d j) _ (ok-row d e j b))
 
   -- Every place past the guests of a state in its ranges is blank.
   blank-place : (k : ℕ) → d .plan .count * 16 ≤ k → k < 128 → noJob (nth (d .rest) k) (nth (d .wait) k) (nth (d .age) k) ≡ true

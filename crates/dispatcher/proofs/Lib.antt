@@ -3,7 +3,6 @@ pub mod Valid
 pub mod LentCheck
 pub mod Answers
 pub mod Tick
-pub mod Claims
 pub mod Lent
 pub mod Fresh
 pub mod Release

@@ -82,7 +82,7 @@ stateWith p b = stateOf p (b .left) (b .position) (b .rest) (b .wait) (b .age) (
 
 module _ {p : Plan} {n : ℕ} {c : Columns} (counts : p .count ≡ n) (u : ColumnsOf (p .guests) n c) (small : Small n (c .tasks)) (ticks : ℕ) {b : Numbers} (z : Quiet n (b .rest) (b .wait)) where
   -- Steps that finished no job are a run on its way, and leave the places past the guests quiet.
-  on-its-way : {done : ℕ} {a : Numbers} {t : Turn} → StepsTo n (c .capacities) (c .periods) (c .tasks) (c .deferrable) b done a t → done ≤ ticks → (t .had ≡ 1 → ⊥)
+  on-its-way : {done : ℕ} {a : Numbers} {t : Turn} → StepsTo n (c .capacities) (c .periods) (c .tasks) b done a t → done ≤ ticks → (t .had ≡ 1 → ⊥)
       → Going (stateWith p b) ticks done t (stateWith p a) × Quiet n (a .rest) (a .wait)
   on-its-way none h f = (starts _ ticks _, z)
   on-its-way (more s e x) h f =
@@ -91,7 +91,7 @@ module _ {p : Plan} {n : ℕ} {c : Columns} (counts : p .count ≡ n) (u : Colum
       (goes-on (g .0) (omega arith) y f, quiet-kept counts u _ _ _ _ _ _ small (g .1) y)
 
   -- Steps are over where the last finished a job or their number is used up.
-  gone-by : {done : ℕ} {a : Numbers} {t : Turn} → StepsTo n (c .capacities) (c .periods) (c .tasks) (c .deferrable) b done a t → done ≤ ticks → ((t .had ≡ 1 → ⊥) → done ≡ ticks)
+  gone-by : {done : ℕ} {a : Numbers} {t : Turn} → StepsTo n (c .capacities) (c .periods) (c .tasks) b done a t → done ≤ ticks → ((t .had ≡ 1 → ⊥) → done ≡ ticks)
       → Gone (stateWith p b) ticks done t (stateWith p a)
   gone-by none h o = used-up (starts _ ticks _) (omega (arith, o (λ e. omega arith)))
   gone-by (more {u = t} s e x) h o =
@@ -103,5 +103,5 @@ module _ {p : Plan} {n : ℕ} {c : Columns} (counts : p .count ≡ n) (u : Colum
       ]
 
   -- The steps over lent arrays are a run.
-  pub gone : {a : Numbers} {r : Went} → StepsOn n (c .capacities) (c .periods) (c .tasks) (c .deferrable) b a ticks r → Gone (stateWith p b) ticks (r .done) (r .turn) (stateWith p a)
+  pub gone : {a : Numbers} {r : Went} → StepsOn n (c .capacities) (c .periods) (c .tasks) b a ticks r → Gone (stateWith p b) ticks (r .done) (r .turn) (stateWith p a)
   gone s = gone-by (s .steps) (s .most) (s .over)

@@ -4,7 +4,7 @@ use Prim.Native.Nat.{ℕ, zero, suc}
 use lib.ListN.{replicate}
 use Rattle.plan.specs.declared.Plan.{Plan}
 use Rattle.plan.specs.Records.{blankPlan}
-use Rattle.plan.specs.Order.{planRefusal}
+use Rattle.plan.specs.Periodic.{startRefusal}
 use Rattle.dispatcher.specs.declared.Dispatcher.{Dispatcher}
 use Rattle.dispatcher.specs.declared.Started.{Started}
 
@@ -21,11 +21,11 @@ idle p =
       usage = replicate 17 0;
     }
 
--- the start by the records' number: a refused one is zero throughout, guest count included
+-- the start by the number that it is refused by: a refused one is zero throughout, guest count included
 unfoldable pub startedBy : ℕ → Plan → Dispatcher
 startedBy zero p = idle p
 startedBy (suc n) p = idle blankPlan
 
--- a fresh start: the records' order, then the fresh state
+-- a fresh start: the records' order, then 23, then the fresh state
 unfoldable pub fresh : Plan → Started
-fresh p = record { refusal = planRefusal p; state = startedBy (planRefusal p .number) p }
+fresh p = record { refusal = startRefusal p; state = startedBy (startRefusal p .number) p }

@@ -38,10 +38,9 @@ unfoldable pub turn : Dispatcher → Turn
 turn d = turnBy (isHeld d) d
 
 -- a state that is lent at the moment its guests are refilled
-pub record Refilled (d : Dispatcher) (n : ℕ) (tasks deferrable left rest : List ℕ) : Type 0 where
+pub record Refilled (d : Dispatcher) (n : ℕ) (tasks left rest : List ℕ) : Type 0 where
   pub count : d .plan .count ≡ n
   pub many : (k : ℕ) → k < n → nth tasks k ≡ guestIn d k .tasks
-  pub servers : (k : ℕ) → k < n → nth deferrable k ≡ guestIn d k .deferrable
   pub filled : left ≡ refilled d
   pub runs : rest ≡ d .rest
 

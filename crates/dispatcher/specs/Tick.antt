@@ -1,5 +1,5 @@
 -- One tick, in order: a definition for each sentence of the rule.
-use mathlib.Core.Bool.{Bool, true, false, not, _&&_, _||_}
+use mathlib.Core.Bool.{Bool, true, false, _&&_}
 use mathlib.Core.List.{List}
 use Prim.Native.Nat.{ℕ, _+_, _-_, min}
 use lib.ListN.{set}
@@ -8,7 +8,6 @@ use Rattle.lists.specs.Choice.{pick}
 use Rattle.lists.specs.Places.{nth, upTo}
 use Rattle.lists.specs.Search.{firstFrom}
 use Rattle.plan.specs.Ranges.{longest}
-use Rattle.plan.specs.Server.{isDeferrable}
 use Rattle.dispatcher.specs.declared.Dispatcher.{Dispatcher}
 use Rattle.arrays.specs.Place.{placeAt}
 use Rattle.arrays.specs.Usage.{tallied}
@@ -23,18 +22,9 @@ lessAt false l k = l
 unfoldable pub refilled : Dispatcher → List ℕ
 refilled d = upTo (λ k left. pick (eqb (nth (d .position) k) 0) (guestIn d k .capacity) left) (d .plan .count) (d .left)
 
--- the first task of guest k with run left; the guest's number of tasks where none has any
-unfoldable pub firstTask : Dispatcher → ℕ → ℕ
-firstTask d k = firstFrom (λ t. ltb 0 (restAt d k t)) (guestIn d k .tasks) 0
-
--- whether guest k claims the tick: it has capacity left, and a Deferrable one also a task with run left
-unfoldable pub claims : Dispatcher → ℕ → Bool
-claims d k =
-    ltb 0 (nth (refilled d) k) && (not (isDeferrable (guestIn d k)) || ltb (firstTask d k) (guestIn d k .tasks))
-
--- the first guest that claims the tick has it; the count where there is none
+-- the first guest with capacity left has the tick; the count where there is none
 unfoldable pub holder : Dispatcher → ℕ
-holder d = firstFrom (claims d) (d .plan .count) 0
+holder d = firstFrom (λ k. ltb 0 (nth (refilled d) k)) (d .plan .count) 0
 
 -- whether some guest has the tick
 unfoldable pub isHeld : Dispatcher → Bool
@@ -46,7 +36,7 @@ leftAfter d = lessAt (isHeld d) (refilled d) (holder d)
 
 -- inside that guest the first task with run left has the tick; the guest's number of tasks where none has any
 unfoldable pub worker : Dispatcher → ℕ
-worker d = firstTask d (holder d)
+worker d = firstFrom (λ t. ltb 0 (restAt d (holder d) t)) (guestIn d (holder d) .tasks) 0
 
 -- whether some task works: if none has any run left the tick is idled away by that guest
 unfoldable pub isWorked : Dispatcher → Bool

@@ -1,5 +1,5 @@
--- Refusal 14: a state whose plan fails the records' order, or with a number outside its range, or with anything but 0
--- past its guests and tasks. Where the ticks went is not looked at.
+-- Refusal 14: a state whose plan fails the records' order or holds a Deferrable guest, so that no start gives it, or with
+-- a number outside its range, or with anything but 0 past its guests and tasks. Where the ticks went is not looked at.
 use mathlib.Core.Bool.{Bool, _&&_}
 use Prim.Native.Nat.{ℕ}
 use lib.Dec.{ltb, eqb}
@@ -9,7 +9,7 @@ use Rattle.lists.specs.All.{allTo}
 use Rattle.plan.specs.Records.{everyOf}
 use Rattle.plan.specs.Ranges.{mostGuests, mostTasks}
 use Rattle.plan.specs.Charge.{charged}
-use Rattle.plan.specs.Order.{planRefusal}
+use Rattle.plan.specs.Periodic.{startRefusal}
 use Rattle.arrays.specs.Ranges.{serverOk, noServer, jobOk, noJob}
 use Rattle.dispatcher.specs.declared.Dispatcher.{Dispatcher}
 use Rattle.dispatcher.specs.State.{guestIn, restAt, waitAt, ageAt}
@@ -38,4 +38,4 @@ rowOk d k = guestInRange d k && allTo (taskInRange d k) mostTasks
 
 -- whether the state is in its ranges, so that 14 is not given
 unfoldable pub stateOk : Dispatcher → Bool
-stateOk d = eqb (planRefusal (d .plan) .number) 0 && allTo (rowOk d) mostGuests
+stateOk d = eqb (startRefusal (d .plan) .number) 0 && allTo (rowOk d) mostGuests

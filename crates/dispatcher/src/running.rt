@@ -66,7 +66,6 @@ pub fn ran(
     let capacities = columns.capacities;
     let periods = columns.periods;
     let tasks = columns.tasks;
-    let deferrable = columns.deferrable;
     let n = plan.count as usize;
     let went = steps(
         left,
@@ -78,7 +77,6 @@ pub fn ran(
         &capacities,
         &periods,
         &tasks,
-        &deferrable,
         n,
         ticks,
     );

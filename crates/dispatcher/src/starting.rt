@@ -1,4 +1,4 @@
-// Fresh start: the records' order, then a state with nothing in it.
+// Fresh start: the records' order, then 23, then a state with nothing in it.
 ghost use mathlib.Core.Path.{_≡_};
 ghost use Rattle.dispatcher.specs.Fresh.{idle};
 ghost use Rattle.dispatcher.specs.Promises.{Starts};
@@ -25,7 +25,7 @@ impl Dispatcher {
     pub fn fresh(plan: Plan) -> Started
         ensures { λ r. ⌜ Starts plan r ⌝ }
     {
-        let refusal = plan::check(plan);
+        let refusal = plan::start_refusal(plan);
         let number = refusal.number;
         if 0 < number {
             let nothing = plan::blank_plan();

@@ -18,7 +18,7 @@ finishedBy d k t =
     Finished (guestIn d k .id) (t + 1) (ageAt (next d) k t) (marginOf (deadlineOf (guestIn d k) t) (ageAt (next d) k t))
 
 module _ (d : Dispatcher) where
-  -- Where no guest claims the tick, the answer is that nobody has it.
+  -- Where no guest holds capacity, the answer is that nobody has the tick.
   pub answer-nobody : d .plan .count ≤ holder d → answer d ≡ Nobody
   unfolding answer answerBy
   answer-nobody h = rw (not-held d h) refl

@@ -1,4 +1,4 @@
--- The fresh start of records in order: it is not refused, has its shape, and holds nothing. Assumes nothing.
+-- A fresh start that is not refused: it is in its ranges, has its shape, and holds nothing. Assumes nothing.
 use mathlib.Core.Path.{_≡_, refl, ap}
 use mathlib.Core.Bool.{Bool, true, false}
 use Prim.Native.Nat.{ℕ, _<_, zero, suc}
@@ -11,7 +11,9 @@ use Rattle.plan.specs.declared.Plan.{Plan}
 use Rattle.plan.specs.Records.{guestAt, everyOf, blankPlan}
 use Rattle.plan.specs.Charge.{charged}
 use Rattle.plan.specs.Ranges.{longest}
-use Rattle.plan.specs.Order.{planRefusal, countedBy}
+use Rattle.plan.specs.First.{orElse}
+use Rattle.plan.specs.Order.{planRefusal, recordsThen, countedBy}
+use Rattle.plan.specs.Periodic.{startRefusal}
 use Rattle.arrays.specs.Place.{placeAt}
 use Rattle.dispatcher.specs.State.{guestIn, restAt, waitAt, ageAt}
 use Rattle.arrays.specs.Ranges.{serverOk, noServer, jobOk, noJob}
@@ -19,12 +21,13 @@ use Rattle.dispatcher.specs.Valid.{tasksIn, guestInRange, taskInRange, stateOk}
 use Rattle.dispatcher.specs.Fresh.{idle, startedBy, fresh}
 use Rattle.lists.proofs.All.{and-true}
 use Rattle.plan.proofs.Order.{PlanIn, plan-in}
+use Rattle.plan.proofs.PeriodicLaws.{starts-in-order}
 use Rattle.dispatcher_laws.proofs.Seen.{capOf, posAt, leftAt, heldAt, Shaped}
 use Rattle.dispatcher_laws.proofs.Sound.{Sound}
 use Rattle.dispatcher_laws.proofs.Valid.{ok-by}
 
--- Records in order start idle.
-pub fresh-idle : (p : Plan) → planRefusal p .number ≡ 0 → fresh p .state ≡ idle p
+-- A start that is not refused is idle.
+pub fresh-idle : (p : Plan) → startRefusal p .number ≡ 0 → fresh p .state ≡ idle p
 unfolding fresh startedBy
 fresh-idle p e = ap (λ (n : ℕ). startedBy n p) e
 
@@ -95,7 +98,6 @@ module _ (p : Plan) where
   shaped-idle P = record {
     few = P .few;
     tasks = λ k h. P .guests k h .head .few;
-    fits = λ k h. P .guests k h .head .fits;
     places = λ k h. (let G = P .guests k h .head in omega (arith, G .some, G .fits, idle-position k (omega (arith, P .few))));
     left-long = length-replicate {A = ℕ} 8 0;
     position-long = length-replicate {A = ℕ} 8 0;
@@ -104,18 +106,18 @@ module _ (p : Plan) where
     age-long = length-replicate {A = ℕ} 128 0;
   }
 
-  -- A fresh start of records in order is not refused, and has its shape.
-  pub sound-idle : planRefusal p .number ≡ 0 → Sound p (idle p)
+  -- A fresh start that is not refused is in its ranges, and has its shape.
+  pub sound-idle : startRefusal p .number ≡ 0 → Sound p (idle p)
   sound-idle e = record {
     plan = idle-plan;
-    ok = ok-by (idle p) (rw idle-plan e) (guest-idle (plan-in p e)) task-idle;
-    shaped = shaped-idle (plan-in p e);
+    ok = ok-by (idle p) (rw idle-plan e) (guest-idle (plan-in p (starts-in-order p e))) task-idle;
+    shaped = shaped-idle (plan-in p (starts-in-order p e));
   }
 
 -- ---- a refused start
 -- A state without guests is refused as 14.
 pub blank-refused : stateOk (idle blankPlan) ≡ false
-unfolding stateOk idle planRefusal countedBy
+unfolding stateOk idle startRefusal recordsThen orElse planRefusal countedBy
 blank-refused = refl
 
 -- A start that is refused is zero throughout.

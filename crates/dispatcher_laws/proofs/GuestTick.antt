@@ -7,16 +7,15 @@ use lib.Dec.{ltb, eqb}
 use lib.ListN.{length}
 use borrow.Author.Tests.{ltb-true, ltb-false, ne-eqb}
 use Rattle.dispatcher.specs.declared.Dispatcher.{Dispatcher}
-use Rattle.dispatcher.specs.Tick.{refilled, claims, holder, next}
+use Rattle.dispatcher.specs.Tick.{refilled, holder, next}
 use Rattle.windows.specs.Served.{ServedFirst}
 use Rattle.windows.specs.GuestTick.{Moved, GuestTick}
 use Rattle.lists.specs.Choice.{pick}
 use Rattle.windows.specs.GuestTick.Moved.{on, over}
 use Rattle.lists.proofs.Places.{upTo-length}
 use Rattle.windows.proofs.Served.{served-as}
-use Rattle.dispatcher_laws.proofs.Seen.{capOf, perOf, jitOf, posAt, leftAt, heldAt, claimsAt, Shaped}
+use Rattle.dispatcher_laws.proofs.Seen.{capOf, perOf, posAt, leftAt, heldAt, Shaped}
 use Rattle.dispatcher_laws.proofs.Served.{first-served}
-use Rattle.dispatcher_laws.proofs.Claims.{kind-of}
 use Rattle.dispatcher_laws.proofs.Tick.{left-hit, left-miss, refilled-at, position-at}
 
 -- Refilling keeps the number of places.
@@ -43,12 +42,12 @@ moved-seen c t p l q lt e = rw e (moved-by c t p l (ltb (p + 1) t) refl lt)
 
 -- The tick of the guests up to g.
 module _ (d : Dispatcher) (H : Shaped d) (g : ℕ) (in-plan : g < d .plan .count) where
-  -- The first guest that claims the tick and holds capacity has it.
-  guest-served : ServedFirst (claimsAt d) g (holder d) (heldAt d) (leftAt (next d))
-  unfolding holder claims
+  -- The first guest that holds capacity has the tick.
+  guest-served : ServedFirst g (holder d) (heldAt d) (leftAt (next d))
+  unfolding holder
   guest-served =
       served-as (λ j l. sym (refilled-at d H j (omega arith)))
-      (first-served (claimsAt d) (refilled d) (next d .left) (λ j. j) (d .plan .count) (holder d) g in-plan refl (left-hit d) (left-miss d)
+      (first-served (refilled d) (next d .left) (λ j. j) (d .plan .count) (holder d) g in-plan refl (left-hit d) (left-miss d)
       (λ j l. omega (arith, refilled-long d, H .left-long, H .few)) (λ j k e. e))
 
   -- Each guest up to g moves on.
@@ -59,11 +58,5 @@ module _ (d : Dispatcher) (H : Shaped d) (g : ℕ) (in-plan : g < d .plan .count
       (position-at d H j (omega arith))
 
   -- The tick of the guests up to g is one of the guest part's ticks.
-  pub guest-tick :
-      GuestTick (capOf (d .plan)) (perOf (d .plan)) (jitOf (d .plan)) (claimsAt d) g (holder d) (heldAt d) (posAt d)
-      (leftAt (next d)) (heldAt (next d)) (posAt (next d))
-  guest-tick = record {
-    served = guest-served;
-    moved = guest-moved;
-    kind = λ j l. kind-of d j (H .fits j (omega arith));
-  }
+  pub guest-tick : GuestTick (capOf (d .plan)) (perOf (d .plan)) g (holder d) (heldAt d) (posAt d) (leftAt (next d)) (heldAt (next d)) (posAt (next d))
+  guest-tick = record { served = guest-served; moved = guest-moved }

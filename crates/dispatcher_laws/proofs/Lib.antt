@@ -3,12 +3,10 @@
 -- What the windows see of a state, and what a tick does to it.
 pub mod Seen
 pub mod Served
-pub mod Claims
 pub mod Tick
 pub mod GuestTick
 pub mod TaskTick
 pub mod Answer
-pub mod Deferrable
 -- States that are not refused, and have their shape.
 pub mod Ranges
 pub mod Valid

@@ -1,18 +1,15 @@
 -- What the windows see of a plan and of the dispatcher's state. Assumes nothing.
 use mathlib.Core.Path.{_≡_}
-use mathlib.Core.Bool.{Bool, not, _||_}
-use Prim.Native.Nat.{ℕ, _-_, _≤_, _<_}
-use lib.Dec.{ltb, eqb}
+use Prim.Native.Nat.{ℕ, _≤_, _<_}
+use lib.Dec.{eqb}
 use lib.ListN.{length}
 use Rattle.lists.specs.Choice.{pick}
 use Rattle.lists.specs.Places.{nth}
 use Rattle.plan.specs.declared.Plan.{Plan}
 use Rattle.plan.specs.Records.{guestAt, everyOf}
 use Rattle.plan.specs.Charge.{charged}
-use Rattle.plan.specs.Server.{isDeferrable}
 use Rattle.dispatcher.specs.declared.Dispatcher.{Dispatcher}
 use Rattle.dispatcher.specs.State.{guestIn, restAt, waitAt, ageAt}
-use Rattle.dispatcher.specs.Tick.{firstTask}
 use Rattle.windows.specs.TaskTick.{Tasks}
 
 -- the capacity of guest k
@@ -22,10 +19,6 @@ capOf p k = guestAt (p .guests) k .capacity
 -- the period of guest k
 abbrev pub perOf : Plan → ℕ → ℕ
 perOf p k = guestAt (p .guests) k .period
-
--- the jitter of guest k: T - C where it is Deferrable, else 0
-abbrev pub jitOf : Plan → ℕ → ℕ
-jitOf p k = pick (isDeferrable (guestAt (p .guests) k)) (perOf p k - capOf p k) 0
 
 -- the charged run of task j of guest g
 abbrev pub runIn : Plan → ℕ → ℕ → ℕ
@@ -47,19 +40,14 @@ leftAt d k = nth (d .left) k
 abbrev pub heldAt : Dispatcher → ℕ → ℕ
 heldAt d k = pick (eqb (posAt d k) 0) (guestIn d k .capacity) (leftAt d k)
 
--- whether guest k claims a tick that it has capacity for: a Periodic one does, a Deferrable one where it has work
-abbrev pub claimsAt : Dispatcher → ℕ → Bool
-claimsAt d k = not (isDeferrable (guestIn d k)) || ltb (firstTask d k) (guestIn d k .tasks)
-
 -- the run left, wait and age of each task of guest g
 abbrev pub tasksAt : Dispatcher → ℕ → Tasks
 tasksAt d g = record { rest = restAt d g; wait = waitAt d g; age = ageAt d g }
 
--- The lists have their lengths, the counts their ranges, and every capacity and every position lies in its period.
+-- The lists have their lengths, the counts their ranges, and every position lies in its period.
 pub record Shaped (d : Dispatcher) : Type 0 where
   pub few : d .plan .count ≤ 8
   pub tasks : (k : ℕ) → k < d .plan .count → guestIn d k .tasks ≤ 16
-  pub fits : (k : ℕ) → k < d .plan .count → guestIn d k .capacity ≤ guestIn d k .period
   pub places : (k : ℕ) → k < d .plan .count → posAt d k < guestIn d k .period
   pub left-long : length (d .left) ≡ 8
   pub position-long : length (d .position) ≡ 8

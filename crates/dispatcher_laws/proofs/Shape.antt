@@ -42,7 +42,6 @@ module _ (d : Dispatcher) (H : Shaped d) where
   shaped-next = record {
     few = H .few;
     tasks = H .tasks;
-    fits = H .fits;
     places = λ k h. moved-inside (guest-moved d H k h k (omega arith));
     left-long = left-long;
     position-long = upTo-length _ (d .plan .count) (d .position) ∙ H .position-long;
@@ -57,7 +56,6 @@ module _ (d : Dispatcher) (H : Shaped d) where
   shaped-taken k t = record {
     few = H .few;
     tasks = H .tasks;
-    fits = H .fits;
     places = H .places;
     left-long = H .left-long;
     position-long = H .position-long;

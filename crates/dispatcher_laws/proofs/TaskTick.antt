@@ -1,6 +1,5 @@
 -- One tick of the state, as the task part of the windows sees it. Assumes nothing.
-use mathlib.Core.Path.{_≡_, ap, sym, subst, _∙_}
-use mathlib.Core.Bool.{true, _&&_, and-true}
+use mathlib.Core.Path.{_≡_, ap, subst, _∙_}
 use mathlib.Core.List.{List}
 use Prim.Native.Nat.{ℕ, suc, _-_, _+_, _≤_, _<_, min}
 use native.Mathlib.Decide.{decLt, ℕ-discrete}
@@ -14,24 +13,19 @@ use Rattle.lists.specs.Search.{firstFrom}
 use Rattle.dispatcher.specs.declared.Dispatcher.{Dispatcher}
 use Rattle.arrays.specs.Place.{placeAt}
 use Rattle.dispatcher.specs.State.{guestIn, restAt, waitAt, ageAt}
-use Rattle.dispatcher.specs.Tick.{firstTask, holder, worker, next}
+use Rattle.dispatcher.specs.Tick.{holder, worker, next}
 use Rattle.windows.specs.Served.{ServedFirst}
 use Rattle.windows.specs.TaskTick.{TaskTick}
-use Rattle.lists.proofs.Search.{first-ext}
 use Rattle.lists.proofs.Sum.{sum-same}
 use Rattle.windows.proofs.Served.{served-one, served-le, served-last}
 use Rattle.dispatcher_laws.proofs.Seen.{tasksAt, Shaped}
 use Rattle.dispatcher_laws.proofs.Served.{first-served}
 use Rattle.dispatcher_laws.proofs.Tick.{rest-hit, rest-idle, rest-miss, wait-falls, age-rises}
 
--- The task that has the tick, where guest g has it, is the first of g's with run left, of which each claims.
-worker-of : (d : Dispatcher) (g : ℕ) → holder d ≡ g
-    → worker d ≡ firstFrom (λ t. ltb 0 (restAt d g t) && true) (guestIn d g .tasks) 0
-unfolding worker firstTask
-worker-of d g e =
-    ap (λ (z : ℕ). firstFrom (λ t. ltb 0 (restAt d z t)) (guestIn d z .tasks) 0) e
-    ∙ first-ext (λ t. ltb 0 (restAt d g t)) (λ t. ltb 0 (restAt d g t) && true) (guestIn d g .tasks) 0
-    (λ t l. sym (and-true (ltb 0 (restAt d g t))))
+-- The task that has the tick, where guest g has it, is the first of g's with run left.
+worker-of : (d : Dispatcher) (g : ℕ) → holder d ≡ g → worker d ≡ firstFrom (λ t. ltb 0 (restAt d g t)) (guestIn d g .tasks) 0
+unfolding worker
+worker-of d g e = ap (λ (z : ℕ). firstFrom (λ t. ltb 0 (restAt d z t)) (guestIn d z .tasks) 0) e
 
 -- The tick of the tasks of guest g, up to task i.
 module _ (d : Dispatcher) (H : Shaped d) (g i : ℕ) (in-plan : g < d .plan .count) (in-guest : i < guestIn d g .tasks) where
@@ -69,9 +63,9 @@ module _ (d : Dispatcher) (H : Shaped d) (g i : ℕ) (in-plan : g < d .plan .cou
   }
 
   -- Where this guest has the tick, its first task with run left loses one.
-  pub task-served : holder d ≡ g → ServedFirst (λ j. true) i (worker d) (restAt d g) (restAt (next d) g)
+  pub task-served : holder d ≡ g → ServedFirst i (worker d) (restAt d g) (restAt (next d) g)
   task-served e =
-      first-served (λ j. true) (d .rest) (next d .rest) (λ j. placeAt g j) (guestIn d g .tasks) (worker d) i in-guest
+      first-served (d .rest) (next d .rest) (λ j. placeAt g j) (guestIn d g .tasks) (worker d) i in-guest
       (worker-of d g e)
       (λ l. subst (λ (z : ℕ). next d .rest ≡ set (d .rest) (placeAt z (worker d)) (restAt d z (worker d) - 1)) e
       (rest-hit d (rw e in-plan) (rw e l)))

@@ -16,7 +16,7 @@ use Rattle.dispatcher.specs.declared.Ticked.{Ticked}
 use Rattle.dispatcher.specs.declared.Released.{Released}
 use Rattle.dispatcher.specs.State.{restAt}
 use Rattle.dispatcher.specs.Valid.{tasksIn, guestInRange, taskInRange, rowOk, stateOk}
-use Rattle.dispatcher.specs.Tick.{refilled, firstTask, claims, holder, isHeld, leftAfter, worker, isWorked, restAfter, ageAfter, waitAfter, positionAfter, next}
+use Rattle.dispatcher.specs.Tick.{refilled, holder, isHeld, leftAfter, worker, isWorked, restAfter, ageAfter, waitAfter, positionAfter, next}
 use Rattle.dispatcher.specs.Answer.{answerBy, answer, finishes}
 use Rattle.dispatcher.specs.Run.{ranTo, runFrom, runFor}
 use Rattle.dispatcher.specs.Release.{taken, releaseNumber, releasedBy, release}
@@ -32,7 +32,7 @@ module _ (d : Dispatcher) (u : List ℕ) where
 
   -- What decides a tick's answer decides it whatever these numbers are.
   answer-by : (held worked more : Bool) → answerBy held worked more (withUsage d u) ≡ answerBy held worked more d
-  unfolding answerBy refilled firstTask claims holder worker ageAfter
+  unfolding answerBy refilled holder worker ageAfter
   answer-by false worked more = refl
   answer-by true false more = refl
   answer-by true true true = refl
@@ -40,12 +40,12 @@ module _ (d : Dispatcher) (u : List ℕ) where
 
   -- A tick's answer does not look at them.
   answer-unseen : answer (withUsage d u) ≡ answer d
-  unfolding answer refilled firstTask claims holder isHeld worker isWorked
+  unfolding answer refilled holder isHeld worker isWorked
   answer-unseen = answer-by (isHeld d) (isWorked d) (ltb 1 (restAt d (holder d) (worker d)))
 
   -- The state after a tick is the same but for them.
   next-unseen : SameButUsage (next (withUsage d u)) (next d)
-  unfolding refilled firstTask claims holder isHeld leftAfter worker isWorked restAfter ageAfter waitAfter positionAfter next
+  unfolding refilled holder isHeld leftAfter worker isWorked restAfter ageAfter waitAfter positionAfter next
   next-unseen v = refl
 
   -- The number that a release is refused by does not look at them.

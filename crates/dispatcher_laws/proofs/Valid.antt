@@ -15,7 +15,7 @@ use Rattle.lists.specs.Places.{nth}
 use Rattle.plan.specs.Records.{everyOf}
 use Rattle.plan.specs.Ranges.{longest}
 use Rattle.plan.specs.Charge.{charged}
-use Rattle.plan.specs.Order.{planRefusal}
+use Rattle.plan.specs.Periodic.{startRefusal}
 use Rattle.dispatcher.specs.declared.Dispatcher.{Dispatcher}
 use Rattle.arrays.specs.Place.{placeAt}
 use Rattle.dispatcher.specs.State.{guestIn, restAt, waitAt, ageAt}
@@ -24,7 +24,7 @@ use Rattle.dispatcher.specs.Tick.{lessAt, refilled, holder, isHeld, leftAfter, 
 use Rattle.dispatcher.specs.Release.{taken}
 use Rattle.dispatcher.specs.Run.{ticks}
 use Rattle.lists.proofs.Places.{upTo-rest, upTo-get, set-get}
-use Rattle.dispatcher.proofs.Valid.{ok-plan}
+use Rattle.dispatcher.proofs.Valid.{ok-start, ok-row}
 use Rattle.lists.proofs.All.{and-left, and-right, and-true, all-at, all-by}
 use Rattle.dispatcher_laws.proofs.Ranges.{server-by, job-by}
 use Rattle.dispatcher_laws.proofs.Seen.{posAt, leftAt}
@@ -33,20 +33,18 @@ use Rattle.dispatcher_laws.proofs.Tick.{next-plan}
 -- ---- the state part by part
 -- Each guest of a state in its ranges is in its own.
 pub ok-guest : (d : Dispatcher) → stateOk d ≡ true → (k : ℕ) → k < 8 → guestInRange d k ≡ true
-unfolding stateOk rowOk
-ok-guest d e k h =
-    and-left (guestInRange d k) _ (all-at (rowOk d) 8 k h (and-right (eqb (planRefusal (d .plan) .number) 0) _ e))
+unfolding rowOk
+ok-guest d e k h = and-left (guestInRange d k) _ (ok-row d e k h)
 
 -- Each task of a state in its ranges is in its own.
 pub ok-task : (d : Dispatcher) → stateOk d ≡ true → (k t : ℕ) → k < 8 → t < 16 → taskInRange d k t ≡ true
-unfolding stateOk rowOk
-ok-task d e k t h l =
-    all-at (taskInRange d k) 16 t l (and-right (guestInRange d k) _ (all-at (rowOk d) 8 k h (and-right (eqb (planRefusal (d .plan) .number) 0) _ e)))
+unfolding rowOk
+ok-task d e k t h l = all-at (taskInRange d k) 16 t l (and-right (guestInRange d k) _ (ok-row d e k h))
 
 -- A state whose plan, guests and tasks are in their ranges is in its own.
 pub ok-by :
     (d : Dispatcher)
-    → planRefusal (d .plan) .number ≡ 0
+    → startRefusal (d .plan) .number ≡ 0
     → ((k : ℕ) → k < 8 → guestInRange d k ≡ true)
     → ((k t : ℕ) → k < 8 → t < 16 → taskInRange d k t ≡ true)
     → stateOk d ≡ true
@@ -161,7 +159,7 @@ module _ (d : Dispatcher) where
   -- A state in its ranges stays so over a tick.
   pub ok-next : stateOk d ≡ true → stateOk (next d) ≡ true
   ok-next e =
-      ok-by (next d) (rw (next-plan d) (ok-plan d e)) (λ k h. guest-next k (ok-guest d e k h)) (λ k t h l. task-next k t (ok-task d e k t h l))
+      ok-by (next d) (rw (next-plan d) (ok-start d e)) (λ k h. guest-next k (ok-guest d e k h)) (λ k t h l. task-next k t (ok-task d e k t h l))
 
 -- A state in its ranges stays so over any number of ticks.
 pub ok-ticks : (n : ℕ) (d : Dispatcher) → stateOk d ≡ true → stateOk (ticks n d) ≡ true
@@ -210,8 +208,8 @@ module _ (d : Dispatcher) (k t : ℕ) (in-plan : k < d .plan .count) (in-guest :
   pub ok-taken : stateOk d ≡ true → stateOk (taken d k t) ≡ true
   ok-taken e = ok-by (taken d k t) plan guest task
     where
-      plan : planRefusal (taken d k t .plan) .number ≡ 0
-      plan = rw (taken-plan d k t) (ok-plan d e)
+      plan : startRefusal (taken d k t .plan) .number ≡ 0
+      plan = rw (taken-plan d k t) (ok-start d e)
 
       guest : (g : ℕ) → g < 8 → guestInRange (taken d k t) g ≡ true
       guest g h = rw (taken-guest d k t g) (ok-guest d e g h)

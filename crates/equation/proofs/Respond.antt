@@ -51,7 +51,7 @@ module _ (S S′ : System) (i x : ℕ) (some : 0 < S .capacity) (s : Regular S�
       omega (arith, ap (λ (f : ℕ → ℕ). f i) (e .run))
 
   -- a window that solves the first's equation has one no later that solves the second's
-  sooner : (w : ℕ) → 1 ≤ w → w ≡ right S i w → (y : ℕ) × (1 ≤ y) × (y ≤ w) × (y ≡ right S′ i y)
+  pub sooner : (w : ℕ) → 1 ≤ w → w ≡ right S i w → (y : ℕ) × (1 ≤ y) × (y ≤ w) × (y ≡ right S′ i y)
   sooner w low sol =
       let y = no-later S S′ i x w
       record {

@@ -1,19 +1,17 @@
 -- A task that is quoted has a guest that is fitted, under guests that are fitted: so each of them is sure of its
 -- capacity. Assumes nothing.
 use mathlib.Core.Path.{_≡_, refl}
-use mathlib.Core.Bool.{false}
 use mathlib.Core.List.{List}
 use Prim.Native.Nat.{ℕ, suc, _*_, _≤_, _<_}
 use native.Mathlib.Omega.{arith}
 use Rattle.plan.specs.declared.Plan.{Plan}
 use Rattle.plan.specs.Place.{placeOf}
-use Rattle.plan.specs.Server.{isDeferrable}
 use Rattle.verdict.specs.declared.GuestVerdict.{GuestVerdict}
 use Rattle.verdict.specs.declared.GuestVerdict.the-variants.{Refused, Fitted, Unfit}
 use Rattle.verdict.specs.Verdict.{guestVerdict}
 use Rattle.verdict.specs.Quoted.{Quoted}
 use Rattle.verdict_laws.specs.Guests.{There, GuestSolves, GuestMeans}
-use Rattle.history.specs.Calls.{Call, start, ticksIn, answers}
+use Rattle.history.specs.Calls.{Call, start, ticksIn, answers, CanStart}
 use Rattle.history.specs.Named.{guestBy}
 use Rattle.history.specs.Share.{share}
 use Rattle.verdict_laws.proofs.Ids.{found-id}
@@ -49,17 +47,17 @@ quoted-fitted p id number R quoted above h =
     solved-fitted p above (placeOf p above) x G (guestVerdict p above) refl
     (guest-verdict-means p above (placeOf p above) there)
 
--- The guest of a quoted task, and each guest above it, is sure of its capacity if it is Periodic.
+-- The guest of a quoted task, and each guest above it, is sure of its capacity.
 pub quoted-sure :
     (p : Plan) (id number R : ℕ)
     → Quoted p id number R
     → (above : ℕ)
     → placeOf p above ≤ placeOf p id
-    → isDeferrable (guestBy p above) ≡ false
+    → CanStart p
     → (cs : List Call) (k : ℕ)
     → suc k * guestBy p above .period ≤ ticksIn cs (start p)
     → share above (answers cs (start p)) (k * guestBy p above .period) (guestBy p above .period)
     ≡ guestBy p above .capacity
-quoted-sure p id number R quoted above h periodic cs k l =
+quoted-sure p id number R quoted above h can cs k l =
     let (x, e) = quoted-fitted p id number R quoted above h in
-    sure-of-capacity p above x e periodic cs k l
+    sure-of-capacity p above x e can cs k l

@@ -1,7 +1,7 @@
 -- A release of a task after those before it: when it is refused by 17, by 9, by 10, and when it is taken. Strategy: the
 -- number goes by where the guest stands, the wait and the run left, and the wait is what is left of the period since the
 -- last taken release. Assumes nothing.
-use mathlib.Core.Path.{_≡_, ap, subst}
+use mathlib.Core.Path.{_≡_}
 use mathlib.Core.Bool.{true}
 use mathlib.Core.List.{List}
 use mathlib.Core.Logic.{_⊎_, inl, inr}
@@ -9,20 +9,17 @@ use Prim.Native.Nat.{ℕ, _-_, _≤_, _<_}
 use native.Mathlib.Decide.{decLt, ℕ-discrete}
 use native.Mathlib.Omega.{arith}
 use Rattle.lists.specs.Exactly.{_exactlyWhen_}
-use Rattle.lists.specs.Places.{nth}
 use Rattle.plan.specs.declared.Plan.{Plan}
-use Rattle.plan.specs.Order.{planRefusal}
-use Rattle.plan.specs.Place.{placeOf}
 use Rattle.dispatcher.specs.declared.Dispatcher.{Dispatcher}
 use Rattle.dispatcher.specs.Release.{release}
 use Rattle.verdict_laws.specs.Tasks.{TaskThere}
-use Rattle.history.specs.Calls.{Call, releasing, start, play, released, ticksIn, NoneTaken}
+use Rattle.history.specs.Calls.{Call, releasing, start, play, released, ticksIn, NoneTaken, CanStart}
 use Rattle.history.specs.Named.{boundBy, positionBy, everyBy, restBy, waitBy, StartsHere}
-use Rattle.dispatcher_laws.proofs.Release.{away-exactly}
 use Rattle.dispatcher_laws.proofs.Sound.{Sound, free-task, guest-in, task-in}
-use Rattle.history.proofs.ByState.{away, waiting, unfinished, accepted, here-or-away}
+use Rattle.history.proofs.ByState.{away, waiting, unfinished, accepted, not-17, here-or-away}
 use Rattle.history.proofs.Play.{sound-after, sound-play}
 use Rattle.history.proofs.Clocks.{sound-reached, id-is, wait-since, before-any}
+use Rattle.plan.proofs.PeriodicLaws.{starts-in-order}
 
 -- The number n of a release m ticks after the last one taken, of a task with this period and this run left, where H
 -- says that the task may start and A that it may not: 17, 9, 10 or none, each for its own cause. Inner: it serves the
@@ -77,16 +74,16 @@ exact-here n period m left shut x a b c =
           ])
     ]
 
-module _ (p : Plan) (order : planRefusal p .number ≡ 0) (id number : ℕ) (cs : List Call)
+module _ (p : Plan) (can : CanStart p) (id number : ℕ) (cs : List Call)
     (taken-it : release (play cs (start p)) id number .refusal .number ≡ 0) (ds : List Call)
     (none : NoneTaken id number ds (released p id number cs)) where
   -- A task whose release was taken is there.
   there : TaskThere p id number
   there =
-      let D = sound-reached p order cs in
+      let D = sound-reached p can cs in
       record {
         there = record {
-          order = order;
+          order = starts-in-order p can;
           place = guest-in p (play cs (start p)) D id number taken-it;
           named = id-is p (play cs (start p)) D id number taken-it;
         };
@@ -107,13 +104,13 @@ module _ (p : Plan) (order : planRefusal p .number ≡ 0) (id number : ℕ) (cs 
 
       D : Sound p d
       D = sound-play ds (released p id number cs)
-          (sound-after (releasing id number) (play cs (start p)) (sound-reached p order cs))
+          (sound-after (releasing id number) (play cs (start p)) (sound-reached p can cs))
 
       n : ℕ
       n = release d id number .refusal .number
 
       W : waitBy p id number d ≡ everyBy p id number - ticksIn ds (released p id number cs)
-      W = wait-since p order id number cs taken-it ds none
+      W = wait-since p can id number cs taken-it ds none
 
       shut : StartsHere p id number d → (boundBy p id number ≡ true) × (0 < positionBy p id d) → ⊥
       shut h a = omega (arith, h (a .0), a .1)
@@ -158,29 +155,34 @@ module _ (p : Plan) (order : planRefusal p .number ≡ 0) (id number : ℕ) (cs 
 pub first-taken :
     (p : Plan) (id number : ℕ)
     → TaskThere p id number
+    → CanStart p
     → (cs : List Call)
     → NoneTaken id number cs (start p)
     → StartsHere p id number (play cs (start p))
     → release (play cs (start p)) id number .refusal .number ≡ 0
-first-taken p id number T cs none here =
-    let N = before-any p (T .there .order) id number (T .there .place) (T .in-guest) (T .from-1) cs none in
-    accepted p id number T (play cs (start p)) (sound-reached p (T .there .order) cs) here (N .due) (N .free)
+first-taken p id number T can cs none here =
+    let N = before-any p can id number (T .there .place) (T .in-guest) (T .from-1) cs none in
+    accepted p id number T (play cs (start p)) (sound-reached p can cs) here (N .due) (N .free)
 
 -- A release of a task that is there is refused by 17 exactly if the task is bound and its guest past position 0.
 pub seventeen-exactly :
     (p : Plan) (id number : ℕ)
     → TaskThere p id number
+    → CanStart p
     → (cs : List Call)
     → (release (play cs (start p)) id number .refusal .number ≡ 17)
     exactlyWhen ((boundBy p id number ≡ true) × (0 < positionBy p id (play cs (start p))))
-seventeen-exactly p id number T cs =
-    let d = play cs (start p) in
-    let D = sound-reached p (T .there .order) cs in (
-      λ e.
-          (let A = away-exactly d id number .0 e in
-          let at = ap (λ (z : Plan). placeOf z id) (D .plan) in (
-            subst (λ (z : Plan). boundBy z id number ≡ true) (D .plan) (A .bound),
-            subst (λ (k : ℕ). 0 < nth (d .position) k) at (A .past),
-          )),
-      λ a. away p id number T d D (a .0) (a .1),
-    )
+seventeen-exactly p id number T can cs = (
+  λ e. by (here-or-away p id number (play cs (start p))) e,
+  λ a. away p id number T (play cs (start p)) D (a .0) (a .1),
+)
+  where
+    D : Sound p (play cs (start p))
+    D = sound-reached p can cs
+
+    by : StartsHere p id number (play cs (start p))
+        ⊎ ((boundBy p id number ≡ true) × (0 < positionBy p id (play cs (start p))))
+        → release (play cs (start p)) id number .refusal .number ≡ 17
+        → (boundBy p id number ≡ true) × (0 < positionBy p id (play cs (start p)))
+    by (inr a) e = a
+    by (inl h) e = absurd (not-17 p id number T (play cs (start p)) D h e)

@@ -4,7 +4,7 @@ use mathlib.Core.Path.{_≡_, refl, sym, ap, subst, _∙_}
 use mathlib.Core.Bool.{Bool, true, false, false≢true}
 use mathlib.Core.Logic.{_⊎_, inl, inr}
 use Prim.Native.Nat.{ℕ, suc, _-_, _<_}
-use native.Mathlib.Decide.{ℕ-discrete}
+use native.Mathlib.Decide.{decLt, ℕ-discrete}
 use native.Mathlib.Omega.{arith}
 use Rattle.plan.specs.declared.Plan.{Plan}
 use Rattle.plan.specs.Marks.{isBound, mayStart}
@@ -66,6 +66,18 @@ module _ (p : Plan) (id number : ℕ) (T : TaskThere p id number) (d : Dispatche
     pub accepted : waitBy p id number d ≡ 0 → restBy p id number d ≡ 0 → release d id number .refusal .number ≡ 0
     accepted w r =
         given (none-number d id (placeOf p id) (number - 1) (D .ok) guest in-plan in-guest may w r)
+
+    -- The number is not 17.
+    pub not-17 : release d id number .refusal .number ≡ 17 → ⊥
+    not-17 e =
+        elim (decLt 0 (waitBy p id number d)) [
+          | yes w ↦ omega (arith, waiting w)
+          | no w ↦
+              elim (decLt 0 (restBy p id number d)) [
+                | yes r ↦ omega (arith, unfinished (omega arith) r)
+                | no r ↦ omega (arith, accepted (omega arith) (omega arith))
+              ]
+        ]
 
 -- A task may be released where its guest stands, or it is bound and its guest past position 0.
 pub here-or-away :

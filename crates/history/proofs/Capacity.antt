@@ -1,9 +1,7 @@
--- Sure of its capacity: in each of its periods that has ended, a fitted guest that claimed every tick that it held
--- something for has had exactly its capacity of ticks. Strategy: since its period began, the ticks that the guest had
--- and what it still holds make up its capacity; at the period's end it holds nothing, by the guest part of the windows.
--- Assumes nothing.
+-- Sure of its capacity: in each of its periods that has ended, a fitted guest has had exactly its capacity of ticks.
+-- Strategy: since its period began, the ticks that the guest had and what it still holds make up its capacity; at the
+-- period's end it holds nothing, by the guest part of the windows. Assumes nothing.
 use mathlib.Core.Path.{_≡_, sym, ap, subst, _∙_}
-use mathlib.Core.Bool.{true}
 use mathlib.Core.Logic.{⊎-elim}
 use mathlib.Core.List.{List, [], _∷_, _++_}
 use Prim.Native.Nat.{ℕ, suc, _+_, _*_, _<_}
@@ -20,30 +18,22 @@ use Rattle.dispatcher.specs.Release.{taken}
 use Rattle.dispatcher.specs.Fresh.{idle}
 use Rattle.windows.specs.GuestTick.{Moved, GuestTick, GuestFits}
 use Rattle.windows.specs.GuestTick.Moved.{on, over}
-use Rattle.windows.specs.Assured.{Assured}
+use Rattle.windows.specs.Supply.{Supply}
 use Rattle.history.specs.Share.{names, share}
 use Rattle.plan.proofs.Order.{PlanIn}
-use Rattle.windows.proofs.Assured.{assured-tick, used-up, assured-fresh}
+use Rattle.windows.proofs.Supply.{supply-tick, used-up, supply-fresh}
 use Rattle.verdict_laws.proofs.Ids.{idOf}
 use Rattle.history.proofs.Answered.{names-mine, names-else}
 use Rattle.history.proofs.Share.{count-none, count-old, count-next}
 use Rattle.dispatcher_laws.proofs.Fresh.{idle-position, idle-held}
 use Rattle.dispatcher_laws.proofs.GuestTick.{guest-tick}
-use Rattle.dispatcher_laws.proofs.Seen.{capOf, perOf, jitOf, posAt, leftAt, heldAt, claimsAt}
+use Rattle.dispatcher_laws.proofs.Seen.{capOf, perOf, posAt, leftAt, heldAt}
 use Rattle.dispatcher_laws.proofs.Sound.{Sound}
-
--- Guest g claims the tick if it holds something.
-abbrev pub Claims : ℕ → Dispatcher → Type 0
-Claims g d = 0 < heldAt d g → claimsAt d g ≡ true
-
--- What the windows have of guest g at a state, `Since` saying that it claimed all ticks of this period.
-abbrev pub AssuredIn : Plan → (g x : ℕ) → Dispatcher → (Since : Type 0) → Type 0
-AssuredIn p g x d Since = Assured (capOf p) (perOf p) (jitOf p) g x (heldAt d) (posAt d) Since
 
 -- After the answers L: q periods have ended, each with the whole capacity; in the one under way, what was had and
 -- what is held make it up.
 pub record Shares (p : Plan) (g x : ℕ) (L : List Answer) (d : Dispatcher) : Type 0 where
-  pub supply : AssuredIn p g x d (Unit {0})
+  pub supply : Supply (capOf p) (perOf p) g x (heldAt d) (posAt d)
   pub q : ℕ
   pub time : length L ≡ q * perOf p g + posAt d g
   pub now : share (idOf p g) L (q * perOf p g) (posAt d g) + heldAt d g ≡ capOf p g
@@ -70,7 +60,7 @@ module _ (p : Plan) (g x : ℕ) (L : List Answer) (a : Answer) (d : Dispatcher) 
   -- The guest moves on in its period, or ends it with nothing left.
   moved-on :
       (d' : Dispatcher)
-      → AssuredIn p g x d' (Unit {0})
+      → Supply (capOf p) (perOf p) g x (heldAt d') (posAt d')
       → (posAt d g + 1 ≡ perOf p g → l ≡ 0)
       → Moved (capOf p g) (perOf p g) (posAt d g) l (posAt d' g) (heldAt d' g)
       → Shares p g x (L ++ (a ∷ [])) d'
@@ -102,85 +92,65 @@ module _ (p : Plan) (g x : ℕ) (L : List Answer) (a : Answer) (d : Dispatcher) 
             (eq-or-lt-of-le {n = k} {m = S .q} (omega arith));
       }
 
-module _ (p : Plan) (P : PlanIn p) (g x : ℕ) (in-plan : g < p .count)
-    (F : GuestFits (capOf p) (perOf p) (jitOf p) g x) where
-  -- A tick, as the windows have it.
-  tick-of :
-      (d : Dispatcher) → Sound p d
-      → GuestTick (capOf p) (perOf p) (jitOf p) (claimsAt d) g (holder d) (heldAt d) (posAt d) (leftAt (next d))
-      (heldAt (next d)) (posAt (next d))
-  tick-of d D =
-      subst
-      (λ (z : Plan). GuestTick (capOf z) (perOf z) (jitOf z) (claimsAt d) g (holder d) (heldAt d) (posAt d)
-      (leftAt (next d)) (heldAt (next d)) (posAt (next d)))
-      (D .plan) (guest-tick d (D .shaped) g (rw (D .plan) in-plan))
-
-  -- What the guest had of a tick and what is left of what it held make up what it held.
-  had-of : (d : Dispatcher) → Sound p d → leftAt (next d) g + names (idOf p g) (answer d) ≡ heldAt d g
-  had-of d D =
-      elim (ℕ-discrete (holder d) g) [
-        | yes e ↦
-            (let m = named (names-mine d g inside e) in
-            let b : leftAt (next d) g + 1 ≡ heldAt d g = rw e at (tick-of d D .served .took (omega arith)) in
-            omega arith)
-        | no n ↦
-            (let m = named (names-else d g (rw (D .plan) P) inside n) in
-            omega (arith, tick-of d D .served .same g (omega arith) (λ z. n (sym z))))
-      ]
+module _ (p : Plan) (P : PlanIn p) (g x : ℕ) (in-plan : g < p .count) (F : GuestFits (capOf p) (perOf p) g x) where
+  -- The shares stand over a tick.
+  pub shares-next :
+      (L : List Answer) (d : Dispatcher) → Sound p d → Shares p g x L d → Shares p g x (L ++ (answer d ∷ [])) (next d)
+  shares-next L d D S =
+      moved-on p g x L (answer d) d S (leftAt (next d) g) had (next d)
+      (supply-tick (capOf p) (perOf p) g x (holder d) (heldAt d) (posAt d) (leftAt (next d)) (heldAt (next d))
+      (posAt (next d)) F (S .supply) t)
+      (used-up (capOf p) (perOf p) g x (holder d) (heldAt d) (posAt d) (leftAt (next d)) (heldAt (next d))
+      (posAt (next d)) F (S .supply) t)
+      (t .moved g (omega arith))
     where
       inside : g < d .plan .count
       inside = rw (D .plan) in-plan
 
+      t :
+          GuestTick (capOf p) (perOf p) g (holder d) (heldAt d) (posAt d) (leftAt (next d)) (heldAt (next d))
+          (posAt (next d))
+      t =
+          subst
+          (λ (z : Plan). GuestTick (capOf z) (perOf z) g (holder d) (heldAt d) (posAt d) (leftAt (next d))
+          (heldAt (next d)) (posAt (next d)))
+          (D .plan) (guest-tick d (D .shaped) g inside)
+
       named : {n : ℕ} → names (idOf (d .plan) g) (answer d) ≡ n → names (idOf p g) (answer d) ≡ n
       named {n} e = subst (λ (z : Plan). names (idOf z g) (answer d) ≡ n) (D .plan) e
 
-  -- The shares stand over a tick that the guest claims if it holds something.
-  pub shares-next :
-      (L : List Answer) (d : Dispatcher) → Sound p d → Claims g d → Shares p g x L d
-      → Shares p g x (L ++ (answer d ∷ [])) (next d)
-  shares-next L d D c S =
-      moved-on p g x L (answer d) d S (leftAt (next d) g) (had-of d D) (next d)
-      (assured-tick F (S .supply) (tick-of d D) (λ o u. (tt, c)))
-      (used-up F (S .supply) (tick-of d D) tt c)
-      (tick-of d D .moved g (omega arith))
+      had : leftAt (next d) g + names (idOf p g) (answer d) ≡ heldAt d g
+      had =
+          elim (ℕ-discrete (holder d) g) [
+            | yes e ↦
+                (let m = named (names-mine d g inside e) in
+                let b : leftAt (next d) g + 1 ≡ heldAt d g = rw e at (t .served .took (omega arith)) in
+                omega arith)
+            | no n ↦
+                (let m = named (names-else d g (rw (D .plan) P) inside n) in
+                omega (arith, t .served .same g (omega arith) (λ z. n (sym z))))
+          ]
 
   -- The shares stand over a taken release.
   pub shares-taken : (L : List Answer) (d : Dispatcher) (k t : ℕ) → Shares p g x L d → Shares p g x L (taken d k t)
   unfolding taken
   shares-taken L d k t S = record { supply = S .supply; q = S .q; time = S .time; now = S .now; past = S .past }
 
-  -- Whatever the guest claims, the windows have it at every state, with nothing said of the ticks that it claimed.
-  pub assured-next : (d : Dispatcher) → Sound p d → AssuredIn p g x d ⊥ → AssuredIn p g x (next d) ⊥
-  assured-next d D A = assured-tick F A (tick-of d D) (λ o u. absurd u)
-
-  -- A taken release leaves what the windows have.
-  pub assured-taken : (d : Dispatcher) (k t : ℕ) → AssuredIn p g x d ⊥ → AssuredIn p g x (taken d k t) ⊥
-  unfolding taken
-  assured-taken d k t A = record { h = A .h; supply = A .supply; all = A .all }
-
-  -- The windows have it at the fresh start.
-  pub assured-idle : AssuredIn p g x (idle p) ⊥
-  assured-idle =
-      assured-fresh F (λ k h. idle-held p k (omega (arith, P .few))) (λ k h. idle-position p k (omega (arith, P .few)))
-
-  -- Where a period of the guest begins, its shares begin.
-  pub shares-begin : (d : Dispatcher) → Sound p d → AssuredIn p g x d ⊥ → posAt d g ≡ 0 → Shares p g x [] d
-  shares-begin d D A z = record {
-    supply = record {
-      h = A .h;
-      supply = A .supply;
-      all = λ u. omega (arith, A .supply .pace, A .supply .real, A .supply .most);
-    };
+  -- The shares stand at the fresh start.
+  pub shares-idle : Shares p g x [] (idle p)
+  shares-idle = record {
+    supply =
+        supply-fresh (capOf p) (perOf p) g x (heldAt (idle p)) (posAt (idle p)) F
+        (λ k h. idle-held p k (omega (arith, P .few)))
+        (λ k h. idle-position p k (omega (arith, P .few)));
     q = 0;
-    time = omega arith;
+    time = omega (arith, idle-position p g (omega (arith, P .few)));
     now =
         omega (
           arith,
+          idle-held p g (omega (arith, P .few)),
           count-none (names (idOf p g)) [] (0 * perOf p g),
-          ap (λ (n : ℕ). share (idOf p g) [] (0 * perOf p g) n) z,
-          A .supply .pace,
-          A .supply .real,
-          A .supply .most,
+          ap (λ (n : ℕ). share (idOf p g) [] (0 * perOf p g) n) (idle-position p g (omega (arith, P .few))),
         );
     past = λ k h. absurd (omega arith);
   }

@@ -8,12 +8,11 @@ use native.Mathlib.Omega.{arith}
 use Rattle.plan.specs.Ranges.{longest}
 use Rattle.plan.specs.declared.Plan.{Plan}
 use Rattle.plan.specs.Records.{guestAt, everyOf}
-use Rattle.plan.specs.Order.{planRefusal}
 use Rattle.plan.specs.Place.{placeOf}
 use Rattle.dispatcher.specs.declared.Dispatcher.{Dispatcher}
 use Rattle.dispatcher.specs.State.{restAt, waitAt, ageAt}
 use Rattle.dispatcher.specs.Release.{taken, release}
-use Rattle.history.specs.Calls.{Call, releasing, start, after, play, released, ticksIn, NoneTaken}
+use Rattle.history.specs.Calls.{Call, releasing, start, after, play, released, ticksIn, NoneTaken, CanStart}
 use Rattle.plan.proofs.Order.{plan-in}
 use Rattle.history.proofs.Play.{sound-play, sound-after}
 use Rattle.verdict_laws.proofs.Ids.{idOf, found-id}
@@ -21,13 +20,14 @@ use Rattle.history.proofs.Since.{Since, Never, since-taken, since-play,
 use Rattle.dispatcher_laws.proofs.Fresh.{fresh-idle, idle-rest, idle-wait, sound-idle}
 use Rattle.dispatcher_laws.proofs.Release.{Free, release-free}
 use Rattle.dispatcher_laws.proofs.Sound.{Sound, free-task, guest-in, task-in}
+use Rattle.plan.proofs.PeriodicLaws.{starts-in-order}
 
 -- The fresh start is a state of the plan.
-pub sound-start : (p : Plan) → planRefusal p .number ≡ 0 → Sound p (start p)
+pub sound-start : (p : Plan) → CanStart p → Sound p (start p)
 sound-start p e = rw (fresh-idle p e) (sound-idle p e)
 
 -- Every state that a history reaches is a state of the plan.
-pub sound-reached : (p : Plan) → planRefusal p .number ≡ 0 → (cs : List Call) → Sound p (play cs (start p))
+pub sound-reached : (p : Plan) → CanStart p → (cs : List Call) → Sound p (play cs (start p))
 sound-reached p e cs = sound-play cs (start p) (sound-start p e)
 
 -- A release that is taken in a state of the plan.
@@ -71,21 +71,21 @@ module _ (p : Plan) (d : Dispatcher) (D : Sound p d) (id number : ℕ)
       (free-task p d D id number taken-it .number) none))
       since-new)
 
-module _ (p : Plan) (order : planRefusal p .number ≡ 0) (id number : ℕ) where
+module _ (p : Plan) (can : CanStart p) (id number : ℕ) where
   module _ (cs : List Call) (taken-it : release (play cs (start p)) id number .refusal .number ≡ 0) (ds : List Call)
       (none : NoneTaken id number ds (released p id number cs)) where
     -- The wait is what is left of the period since the last taken release.
     pub wait-since :
         waitAt (play ds (released p id number cs)) (placeOf p id) (number - 1)
         ≡ everyOf (guestAt (p .guests) (placeOf p id)) (number - 1) - ticksIn ds (released p id number cs)
-    wait-since = since-then p (play cs (start p)) (sound-reached p order cs) id number taken-it ds none .waits
+    wait-since = since-then p (play cs (start p)) (sound-reached p can cs) id number taken-it ds none .waits
 
     -- The age of an unfinished job is the number of ticks since, capped.
     pub age-since :
         0 < restAt (play ds (released p id number cs)) (placeOf p id) (number - 1)
         → ageAt (play ds (released p id number cs)) (placeOf p id) (number - 1)
         ≡ min (ticksIn ds (released p id number cs)) longest
-    age-since = since-then p (play cs (start p)) (sound-reached p order cs) id number taken-it ds none .age
+    age-since = since-then p (play cs (start p)) (sound-reached p can cs) id number taken-it ds none .age
 
   -- Before any is taken, a task has no job and no wait.
   pub before-any :
@@ -96,13 +96,13 @@ module _ (p : Plan) (order : planRefusal p .number ≡ 0) (id number : ℕ) wher
       → NoneTaken id number cs (start p)
       → Never (placeOf p id) (number - 1) (play cs (start p))
   before-any h l q cs none =
-      let P = plan-in p order in
+      let P = plan-in p (starts-in-order p can) in
       let g8 : placeOf p id < 8 = omega (arith, P .few) in
       let t16 : number - 1 < 16 = omega (arith, P .guests (placeOf p id) h .head .few) in
-      never-play p (placeOf p id) (number - 1) h l cs (start p) (sound-start p order)
+      never-play p (placeOf p id) (number - 1) h l cs (start p) (sound-start p can)
       (subst (λ (z : ℕ). NoneTaken z (suc (number - 1)) cs (start p)) (sym (found-id p id (placeOf p id) refl h))
       (subst (λ (z : ℕ). NoneTaken id z cs (start p)) q none))
-      (rw (fresh-idle p order)
+      (rw (fresh-idle p can)
       (record {
         free = idle-rest p (placeOf p id) (number - 1) g8 t16;
         due = idle-wait p (placeOf p id) (number - 1) g8 t16;

@@ -14,7 +14,7 @@ use Rattle.dispatcher.specs.Answer.{finishes}
 use Rattle.dispatcher.specs.Release.{release}
 use Rattle.verdict.specs.Quoted.{Quoted}
 use Rattle.equation.specs.System.{responseOf}
-use Rattle.history.specs.Calls.{Call, releasing, start, released, play, ticksIn, answers}
+use Rattle.history.specs.Calls.{Call, releasing, start, released, play, ticksIn, answers, CanStart}
 use Rattle.history.specs.Named.{deadlineBy, restBy, ageBy}
 use Rattle.history.specs.Share.{answerAt}
 use Rattle.history.specs.Finished.{HandedBack, FinishedBy}
@@ -31,10 +31,10 @@ use Rattle.dispatcher_laws.proofs.Fresh.{fresh-idle}
 use Rattle.dispatcher_laws.proofs.Release.{taken-here}
 use Rattle.dispatcher_laws.proofs.Sound.{Sound, free-task}
 
-module _ (p : Plan) (id number R : ℕ) (quoted : Quoted p id number R) where
+module _ (p : Plan) (id number R : ℕ) (quoted : Quoted p id number R) (can : CanStart p) where
   -- what the verdict says of the task
   abbrev pub J : Judged p id number R
-  J = quoted-judged p id number R quoted
+  J = quoted-judged p id number R quoted can
 
   -- the records are in order
   abbrev pub P : PlanIn p
@@ -47,8 +47,8 @@ module _ (p : Plan) (id number R : ℕ) (quoted : Quoted p id number R) where
       (λ L d D K. kept-next p P (J .fits) d D K)
       (λ L d id task k t D a F K. kept-release p P (J .fits) d D id task k t F K) cs [] (start p) (any cs (start p))
       record {
-        sound = sound-start p (J .task .there .order);
-        holds = rw (fresh-idle p (J .task .there .order)) (kept-idle p P (J .fits));
+        sound = sound-start p can;
+        holds = rw (fresh-idle p can) (kept-idle p P (J .fits));
       }
       .holds
 
@@ -64,7 +64,7 @@ module _ (p : Plan) (id number R : ℕ) (quoted : Quoted p id number R) where
       → JobIn p P (J .fits) [] (released p id number cs)
   job-new cs t =
       let d = play cs (start p) in
-      let D = sound-reached p (J .task .there .order) cs in
+      let D = sound-reached p can cs in
       let F = free-task p d D id number t in
       let N = taken-here d (D .shaped) (placeOf p id) (number - 1) (F .in-plan) (F .in-guest) (F .due) (F .free) in
       let w = bounded-of p P (J .fits) .solves .works in
@@ -81,7 +81,7 @@ module _ (p : Plan) (id number R : ℕ) (quoted : Quoted p id number R) where
       → (ds : List Call)
       → JobIn p P (J .fits) (answers ds (released p id number cs)) (play ds (released p id number cs))
   job-then cs t ds =
-      let D = sound-reached p (J .task .there .order) cs in
+      let D = sound-reached p can cs in
       play-keeps p (JobIn p P (J .fits)) Any (job-next p P (J .fits))
       (λ L d id task k t D a F I. job-release p P (J .fits) L d id task k t D F I) ds [] (released p id number cs)
       (any ds (released p id number cs))
@@ -133,7 +133,7 @@ module _ (p : Plan) (id number R : ℕ) (quoted : Quoted p id number R) where
   finished-by-R cs t ds h = by (job-then cs t ds .job)
     where
       D : Sound p (released p id number cs)
-      D = sound-after (releasing id number) (play cs (start p)) (sound-reached p (J .task .there .order) cs)
+      D = sound-after (releasing id number) (play cs (start p)) (sound-reached p can cs)
 
       by :
           Job p (placeOf p id) (number - 1) (responseOf (gapIn p (placeOf p id) (number - 1)) (J .w))

@@ -13,7 +13,7 @@ use Rattle.equation.specs.System.{responseOf}
 use Rattle.verdict.specs.declared.TaskVerdict.the-variants.{Met}
 use Rattle.verdict.specs.Verdict.{taskVerdict}
 use Rattle.verdict.specs.Quoted.{Quoted}
-use Rattle.history.specs.Calls.{Call, start, after, play, singles, ticksOf, answerOf}
+use Rattle.history.specs.Calls.{Call, start, after, play, singles, ticksOf, answerOf, CanStart}
 use Rattle.history.specs.Named.{deadlineBy}
 use Rattle.plan.proofs.Order.{PlanIn}
 use Rattle.verdict_laws.proofs.Kept.{gapIn}
@@ -28,10 +28,10 @@ use Rattle.verdict_laws.proofs.Tasks.{judged-means}
 use Rattle.history.proofs.FinishedBy.{kept-reached}
 use Rattle.margins.proofs.Margin.{margin-left}
 
-module _ (p : Plan) (id number R : ℕ) (quoted : Quoted p id number R) (cs : List Call) (c : Call) where
+module _ (p : Plan) (id number R : ℕ) (quoted : Quoted p id number R) (can : CanStart p) (cs : List Call) (c : Call) where
   -- what the verdict says of the task
   abbrev J : Judged p id number R
-  J = quoted-judged p id number R quoted
+  J = quoted-judged p id number R quoted can
 
   -- the records are in order
   abbrev P : PlanIn p
@@ -46,8 +46,8 @@ module _ (p : Plan) (id number R : ℕ) (quoted : Quoted p id number R) (cs : Li
       (λ L e id' task k t D a F I. timely-release p P (J .fits) L e id' task k t D F I) c [] (play cs (start p))
       (any-call c (play cs (start p)))
       record {
-        sound = sound-reached p (J .task .there .order) cs;
-        holds = record { kept = kept-reached p id number R quoted cs; timely = λ m age margin q. none age margin q };
+        sound = sound-reached p can cs;
+        holds = record { kept = kept-reached p id number R quoted can cs; timely = λ m age margin q. none age margin q };
       }
       .holds
     where
@@ -64,7 +64,7 @@ module _ (p : Plan) (id number R : ℕ) (quoted : Quoted p id number R) (cs : Li
   unfolding finishes
   never-late age margin e =
       let (m, h, q) =
-      told-last c (play cs (start p)) (sound-reached p (J .task .there .order) cs .ok) (ap finishes e) in
+      told-last c (play cs (start p)) (sound-reached p can cs .ok) (ap finishes e) in
       let r = timely .timely m age margin (q ∙ e ∙ named) in (
         omega (arith, r .0, J .quotes),
         r .1,
@@ -78,11 +78,12 @@ module _ (p : Plan) (id number R : ℕ) (quoted : Quoted p id number R) (cs : Li
 pub met-not-late :
     (p : Plan) (id number R : ℕ)
     → taskVerdict p id number ≡ Met R
+    → CanStart p
     → (cs : List Call) (c : Call) (age : ℕ) (margin : ℤ)
     → answerOf c (play cs (start p)) ≡ Finished id number age margin
     → (age ≤ deadlineBy p id number) × (margin ≡ pos (deadlineBy p id number - age))
-met-not-late p id number R met cs c age margin e =
+met-not-late p id number R met can cs c age margin e =
     let (t, m) = judged-means p id number {v = Met R} (λ n k q. (let z : _≡_ {A = ℕ} 0 1 = cc in omega arith)) met in
-    let r = never-late p id number R (met-quoted p id number R met) cs c age margin e in
+    let r = never-late p id number R (met-quoted p id number R met) can cs c age margin e in
     let in-time : age ≤ deadlineBy p id number = omega (arith, r .0, m .in-time) in
     (in-time, r .1 ∙ margin-left (deadlineBy p id number) age in-time)

@@ -12,7 +12,7 @@ use Rattle.plan.specs.Place.{placeOf}
 use Rattle.dispatcher.specs.declared.Dispatcher.{Dispatcher}
 use Rattle.dispatcher.specs.Release.{release}
 use Rattle.verdict.specs.Quoted.{Quoted}
-use Rattle.history.specs.Calls.{Call, releasing, start, released, play, ticksIn, NoneTaken}
+use Rattle.history.specs.Calls.{Call, releasing, start, released, play, ticksIn, NoneTaken, CanStart}
 use Rattle.history.specs.Named.{boundBy, positionBy, everyBy, waitBy, StartsHere}
 use Rattle.plan.proofs.Order.{PlanIn}
 use Rattle.windows.proofs.Kept.{free-when-due}
@@ -24,10 +24,10 @@ use Rattle.history.proofs.FinishedBy.{kept-reached, kept-released}
 use Rattle.history.proofs.ByState.{away, waiting, accepted, here-or-away}
 use Rattle.dispatcher_laws.proofs.Sound.{Sound}
 
-module _ (p : Plan) (id number R : ℕ) (quoted : Quoted p id number R) where
+module _ (p : Plan) (id number R : ℕ) (quoted : Quoted p id number R) (can : CanStart p) where
   -- what the verdict says of the task
   abbrev J : Judged p id number R
-  J = quoted-judged p id number R quoted
+  J = quoted-judged p id number R quoted can
 
   -- the records are in order
   abbrev P : PlanIn p
@@ -55,7 +55,7 @@ module _ (p : Plan) (id number R : ℕ) (quoted : Quoted p id number R) where
   -- Refusal 10 is never given for a quoted task.
   pub never-10 : (cs : List Call) → release (play cs (start p)) id number .refusal .number ≡ 10 → ⊥
   never-10 cs =
-      not-10 (play cs (start p)) (sound-reached p (J .task .there .order) cs) (kept-reached p id number R quoted cs)
+      not-10 (play cs (start p)) (sound-reached p can cs) (kept-reached p id number R quoted can cs)
 
   -- A release of the task is taken if none was taken before, where it may start.
   pub first-taken :
@@ -64,9 +64,9 @@ module _ (p : Plan) (id number R : ℕ) (quoted : Quoted p id number R) where
       → StartsHere p id number (play cs (start p))
       → release (play cs (start p)) id number .refusal .number ≡ 0
   first-taken cs none here =
-      due-taken (play cs (start p)) (sound-reached p (J .task .there .order) cs) (kept-reached p id number R quoted cs)
+      due-taken (play cs (start p)) (sound-reached p can cs) (kept-reached p id number R quoted can cs)
       here
-      (before-any p (J .task .there .order) id number (J .fits .in-plan) (J .fits .in-guest)
+      (before-any p can id number (J .fits .in-plan) (J .fits .in-guest)
       (J .task .from-1) cs none .due)
 
   -- A release of the task is taken if at least its period of ticks was done since the last one taken, where it may
@@ -80,8 +80,8 @@ module _ (p : Plan) (id number R : ℕ) (quoted : Quoted p id number R) where
       → StartsHere p id number (play ds (released p id number cs))
       → release (play ds (released p id number cs)) id number .refusal .number ≡ 0
   next-taken cs t ds none long here =
-      let D = sound-reached p (J .task .there .order) cs in
+      let D = sound-reached p can cs in
       let I = since-then p (play cs (start p)) D id number t ds none in
       due-taken (play ds (released p id number cs))
       (sound-play ds (released p id number cs) (sound-after (releasing id number) (play cs (start p)) D))
-      (kept-released p id number R quoted cs t ds) here (omega (arith, I .waits))
+      (kept-released p id number R quoted can cs t ds) here (omega (arith, I .waits))

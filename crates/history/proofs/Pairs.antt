@@ -10,7 +10,7 @@ use Rattle.dispatcher.specs.declared.Dispatcher.{Dispatcher}
 use Rattle.dispatcher.specs.Release.{release}
 use Rattle.sheet.specs.Sheet.{pairGuest, pairTask, answerTo}
 use Rattle.verdict.specs.Quoted.{Quoted}
-use Rattle.history.specs.Calls.{Call, releasing, sheeting, start, after, play, released, ticksIn, NoneTaken}
+use Rattle.history.specs.Calls.{CanStart, Call, releasing, sheeting, start, after, play, released, ticksIn, NoneTaken}
 use Rattle.history.specs.Finished.{FinishedBy}
 use Rattle.history.specs.Named.{everyBy, deadlineBy, StartsHere}
 use Rattle.history.specs.Sheets.{releases, upToPair, PairOf, NotBefore}
@@ -41,8 +41,8 @@ module _ (p : Plan) (cs : List Call) (pairs : List ℕ) (room i : ℕ) {id numbe
       (releasing (pairGuest (nth pairs i)) (pairTask (nth pairs i)) ∷ releases (drop (suc i) pairs)) (play cs (start p))
       ∙ rw (Q .names-guest, Q .names-task, play-append cs (releases (take i pairs)) (start p)) refl
 
-module _ (p : Plan) (id number R : ℕ) (quoted : Quoted p id number R) (cs : List Call) (pairs : List ℕ) (room i : ℕ)
-    (Q : PairOf (play cs (start p)) pairs room i id number) where
+module _ (p : Plan) (id number R : ℕ) (quoted : Quoted p id number R) (can : CanStart p) (cs : List Call)
+    (pairs : List ℕ) (room i : ℕ) (Q : PairOf (play cs (start p)) pairs room i id number) where
   -- A pair that is taken is finished by the R-th tick after the sheet.
   pub pair-finished-by-R :
       answerTo (play cs (start p)) pairs i ≡ 0
@@ -56,7 +56,7 @@ module _ (p : Plan) (id number R : ℕ) (quoted : Quoted p id number R) (cs : Li
       let long : R ≤ ticksIn ds (play later e) = rw done at h in
       rw done
       (finished-later (drop (suc i) pairs) ds e
-      (finished-by-R p id number R quoted (upToPair cs pairs i) (sym (as-release (start p) cs pairs room i Q) ∙ taken)
+      (finished-by-R p id number R quoted can (upToPair cs pairs i) (sym (as-release (start p) cs pairs room i Q) ∙ taken)
       (later ++ ds)
       (omega (arith, ticks-append later ds e, releases-none (drop (suc i) pairs) e))))
 
@@ -68,16 +68,16 @@ module _ (p : Plan) (id number R : ℕ) (quoted : Quoted p id number R) (cs : Li
       → answerTo (play cs (start p)) pairs i ≡ 0
   pair-first-taken none here not =
       as-release (start p) cs pairs room i Q
-      ∙ turned.first-taken p id number R quoted (upToPair cs pairs i)
+      ∙ turned.first-taken p id number R quoted can (upToPair cs pairs i)
       (none-up-to cs pairs i (start p) (omega (arith, Q .there)) none not)
       (here-in-sheet p id number cs pairs i (start p) here)
 
   -- A pair is never refused by 10.
   pub pair-never-10 : answerTo (play cs (start p)) pairs i ≡ 10 → ⊥
   pair-never-10 e =
-      turned.never-10 p id number R quoted (upToPair cs pairs i) (sym (as-release (start p) cs pairs room i Q) ∙ e)
+      turned.never-10 p id number R quoted can (upToPair cs pairs i) (sym (as-release (start p) cs pairs room i Q) ∙ e)
 
-module _ (p : Plan) (id number R : ℕ) (quoted : Quoted p id number R) where
+module _ (p : Plan) (id number R : ℕ) (quoted : Quoted p id number R) (can : CanStart p) where
   -- A pair is taken if at least the task's period of ticks was done since the last release of it that was taken, and
   -- none was taken earlier in the sheet, where it may start.
   pub pair-next-taken :
@@ -94,7 +94,7 @@ module _ (p : Plan) (id number R : ℕ) (quoted : Quoted p id number R) where
   pair-next-taken cs taken ds none long here pairs room i Q not =
       let e = released p id number cs in
       as-release e ds pairs room i Q
-      ∙ turned.next-taken p id number R quoted cs taken (upToPair ds pairs i)
+      ∙ turned.next-taken p id number R quoted can cs taken (upToPair ds pairs i)
       (none-up-to ds pairs i e (omega (arith, Q .there)) none not)
       (omega (arith, ticks-append ds (releases (take i pairs)) e, releases-none (take i pairs) (play ds e)))
       (here-in-sheet p id number ds pairs i e here)

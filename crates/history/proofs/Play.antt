@@ -16,7 +16,6 @@ use Rattle.dispatcher.specs.Release.{taken, release}
 use Rattle.lists.specs.Places.{nth}
 use Rattle.sheet.specs.Sheet.{pairGuest, pairTask, stateAfter, sheet}
 use Rattle.history.specs.Calls.{Call, releasing, ticking, running, sheeting, after, play, singles, ticksOf, ticksIn, answers, EachRelease, Throughout}
-use Rattle.history.specs.Work.{EachTick}
 use Rattle.sheet.proofs.Entry.{Sheeted, whole, each, sheet-sheeted}
 use Rattle.history.proofs.Ticks.{tick-one, singles-next, singles-none, singles-length, run-state}
 use Rattle.dispatcher_laws.proofs.Entries.{tick-state}
@@ -43,15 +42,9 @@ sheeting-none : (pairs : List ℕ) (room : ℕ) (d : Dispatcher) → singles (ti
 unfolding ticksOf
 sheeting-none pairs room d = singles-none d
 
--- Something that goes by the answers so far and the state stands, in a state of the plan.
-pub record Stands (p : Plan) (I : List Answer → Dispatcher → Type 0) (L : List Answer) (d : Dispatcher) : Type 0 where
-  pub sound : Sound p d
-  pub holds : I L d
-
--- What is asked of the releases of a history, and of the states at which its ticks start.
+-- Something that goes by the answers so far and the state.
 module _ (p : Plan) (I : List Answer → Dispatcher → Type 0) (Allowed : (id task : ℕ) → Dispatcher → Type 0)
-    (Ticked : Dispatcher → Type 0)
-    (on-tick : (L : List Answer) (d : Dispatcher) → Sound p d → Ticked d → I L d → I (L ++ (answer d ∷ [])) (next d))
+    (on-tick : (L : List Answer) (d : Dispatcher) → Sound p d → I L d → I (L ++ (answer d ∷ [])) (next d))
     (on-taken :
     (L : List Answer) (d : Dispatcher) (id task k t : ℕ)
     → Sound p d
@@ -59,26 +52,27 @@ module _ (p : Plan) (I : List Answer → Dispatcher → Type 0) (Allowed : (id t
     → Free d id task k t
     → I L d
     → I L (taken d k t)) where
+  -- It stands, in a state of the plan.
+  pub record Stands (L : List Answer) (d : Dispatcher) : Type 0 where
+    pub sound : Sound p d
+    pub holds : I L d
+
   -- It stands over any number of ticks.
-  ticks-keep :
-      (m : ℕ) (L : List Answer) (d : Dispatcher)
-      → ((i : ℕ) → i < m → Ticked (ticks i d))
-      → Stands p I L d
-      → Stands p I (L ++ singles m d) (ticks m d)
+  ticks-keep : (m : ℕ) (L : List Answer) (d : Dispatcher) → Stands L d → Stands (L ++ singles m d) (ticks m d)
   unfolding ticks
-  ticks-keep zero L d w S = rw (singles-none d, append-nil L) S
-  ticks-keep (suc m) L d w S =
+  ticks-keep zero L d S = rw (singles-none d, append-nil L) S
+  ticks-keep (suc m) L d S =
       rw (singles-next m d (S .sound .ok), ← append-assoc L (answer d ∷ []) (singles m (next d)))
-      (ticks-keep m (L ++ (answer d ∷ [])) (next d) (λ i h. w (suc i) (omega arith))
-      (record { sound = sound-next d (S .sound); holds = on-tick L d (S .sound) (w 0 (omega arith)) (S .holds) }))
+      (ticks-keep m (L ++ (answer d ∷ [])) (next d)
+      (record { sound = sound-next d (S .sound); holds = on-tick L d (S .sound) (S .holds) }))
 
   -- It stands over a release.
   took-keeps :
       (id task : ℕ) (L : List Answer) (d : Dispatcher)
       → Allowed id task d
-      → Stands p I L d
+      → Stands L d
       → Took d id task (release d id task)
-      → Stands p I L (release d id task .state)
+      → Stands L (release d id task .state)
   took-keeps id task L d a S (kept n e) = rw e S
   took-keeps id task L d a S (took k t F e) =
       rw e record {
@@ -90,10 +84,10 @@ module _ (p : Plan) (I : List Answer → Dispatcher → Type 0) (Allowed : (id t
   pairs-keep :
       (pairs : List ℕ) (L : List Answer) (d : Dispatcher)
       → ((i : ℕ) → i < length pairs → Allowed (pairGuest (nth pairs i)) (pairTask (nth pairs i)) (stateAfter d pairs i))
-      → Stands p I L d
+      → Stands L d
       → (n : ℕ)
       → n ≤ length pairs
-      → Stands p I L (stateAfter d pairs n)
+      → Stands L (stateAfter d pairs n)
   unfolding stateAfter
   pairs-keep pairs L d a S zero h = S
   pairs-keep pairs L d a S (suc n) h =
@@ -105,75 +99,38 @@ module _ (p : Plan) (I : List Answer → Dispatcher → Type 0) (Allowed : (id t
   sheet-keeps :
       (pairs : List ℕ) (room : ℕ) (L : List Answer) (d : Dispatcher)
       → EachRelease Allowed (sheeting pairs room) d
-      → Stands p I L d
+      → Stands L d
       → Sheeted d pairs (sheet d pairs room)
-      → Stands p I L (sheet d pairs room .state)
+      → Stands L (sheet d pairs room .state)
   unfolding EachRelease
   sheet-keeps pairs room L d a S (whole n e) = rw e S
   sheet-keeps pairs room L d a S (each n e) = rw e (pairs-keep pairs L d (a n) S (length pairs) (omega arith))
 
   -- It stands over any call.
-  after-while :
-      (c : Call) (L : List Answer) (d : Dispatcher)
-      → EachRelease Allowed c d
-      → ((i : ℕ) → i < ticksOf c d → Ticked (ticks i d))
-      → Stands p I L d
-      → Stands p I (L ++ singles (ticksOf c d) d) (after c d)
-  unfolding after EachRelease
-  after-while (releasing id task) L d a w S =
-      rw (releasing-none id task d, append-nil L) (took-keeps id task L d a S (release-took d id task))
-  after-while ticking L d a w S = rw (ticking-done d (S .sound .ok)) (ticks-keep (ticksOf ticking d) L d w S)
-  after-while (running n) L d a w S = rw (running-done n d (S .sound .ok)) (ticks-keep (ticksOf (running n) d) L d w S)
-  after-while (sheeting pairs room) L d a w S =
-      rw (sheeting-none pairs room d, append-nil L) (sheet-keeps pairs room L d a S (sheet-sheeted d pairs room))
-
-  -- It stands over any history in which that is so.
-  pub play-while :
-      (cs : List Call) (L : List Answer) (d : Dispatcher)
-      → Throughout Allowed cs d
-      → EachTick Ticked cs d
-      → Stands p I L d
-      → Stands p I (L ++ answers cs d) (play cs d)
-  unfolding play answers Throughout EachTick
-  play-while [] L d a w S = rw (append-nil L) S
-  play-while (c ∷ cs) L d a w S =
-      rw (← append-assoc L (singles (ticksOf c d) d) (answers cs (after c d)))
-      (play-while cs (L ++ singles (ticksOf c d) d) (after c d) (a .1) (w .1) (after-while c L d (a .0) (w .0) S))
-
--- What holds of every state holds at each tick.
-pub each-tick : {P : Dispatcher → Type 0} → ((d : Dispatcher) → P d) → (cs : List Call) (d : Dispatcher) → EachTick P cs d
-unfolding EachTick
-each-tick f [] d = tt
-each-tick f (c ∷ cs) d = (λ i h. f (ticks i d), each-tick f cs (after c d))
-
--- Something that a tick keeps wherever it starts.
-module _ (p : Plan) (I : List Answer → Dispatcher → Type 0) (Allowed : (id task : ℕ) → Dispatcher → Type 0)
-    (on-tick : (L : List Answer) (d : Dispatcher) → Sound p d → I L d → I (L ++ (answer d ∷ [])) (next d))
-    (on-taken :
-    (L : List Answer) (d : Dispatcher) (id task k t : ℕ)
-    → Sound p d
-    → Allowed id task d
-    → Free d id task k t
-    → I L d
-    → I L (taken d k t)) where
-  -- It stands over any call.
   pub after-keeps :
       (c : Call) (L : List Answer) (d : Dispatcher)
       → EachRelease Allowed c d
-      → Stands p I L d
-      → Stands p I (L ++ singles (ticksOf c d) d) (after c d)
-  after-keeps c L d a S =
-      after-while p I Allowed (λ d. Unit {0}) (λ L d D w. on-tick L d D) on-taken c L d a (λ i h. tt) S
+      → Stands L d
+      → Stands (L ++ singles (ticksOf c d) d) (after c d)
+  unfolding after EachRelease
+  after-keeps (releasing id task) L d a S =
+      rw (releasing-none id task d, append-nil L) (took-keeps id task L d a S (release-took d id task))
+  after-keeps ticking L d a S = rw (ticking-done d (S .sound .ok)) (ticks-keep (ticksOf ticking d) L d S)
+  after-keeps (running n) L d a S = rw (running-done n d (S .sound .ok)) (ticks-keep (ticksOf (running n) d) L d S)
+  after-keeps (sheeting pairs room) L d a S =
+      rw (sheeting-none pairs room d, append-nil L) (sheet-keeps pairs room L d a S (sheet-sheeted d pairs room))
 
   -- It stands over any history.
   pub play-keeps :
       (cs : List Call) (L : List Answer) (d : Dispatcher)
       → Throughout Allowed cs d
-      → Stands p I L d
-      → Stands p I (L ++ answers cs d) (play cs d)
-  play-keeps cs L d a S =
-      play-while p I Allowed (λ d. Unit {0}) (λ L d D w. on-tick L d D) on-taken cs L d a
-      (each-tick (λ d. tt) cs d) S
+      → Stands L d
+      → Stands (L ++ answers cs d) (play cs d)
+  unfolding play answers Throughout
+  play-keeps [] L d a S = rw (append-nil L) S
+  play-keeps (c ∷ cs) L d a S =
+      rw (← append-assoc L (singles (ticksOf c d) d) (answers cs (after c d)))
+      (play-keeps cs (L ++ singles (ticksOf c d) d) (after c d) (a .1) (after-keeps c L d (a .0) S))
 
 -- Nothing is asked of the releases.
 abbrev pub Any : (id task : ℕ) → Dispatcher → Type 0
@@ -215,34 +172,3 @@ unfolding answers ticksIn
 answers-length [] d D = refl
 answers-length (c ∷ cs) d D =
     simp length-append (omega (arith, answers-of c d D, answers-length cs (after c d) (sound-after c d D)))
-
--- Single ticks keep a state of the plan.
-sound-ticks : {p : Plan} (i : ℕ) (d : Dispatcher) → Sound p d → Sound p (ticks i d)
-unfolding ticks
-sound-ticks zero d D = D
-sound-ticks (suc i) d D = sound-ticks i (next d) (sound-next d D)
-
--- What holds of every state of the plan holds at each tick of a history.
-pub each-sound :
-    (p : Plan) (P : Dispatcher → Type 0)
-    → ((d : Dispatcher) → Sound p d → P d)
-    → (cs : List Call) (d : Dispatcher)
-    → Sound p d
-    → EachTick P cs d
-unfolding EachTick
-each-sound p P f [] d D = tt
-each-sound p P f (c ∷ cs) d D =
-    (λ i h. f (ticks i d) (sound-ticks i d D), each-sound p P f cs (after c d) (sound-after c d D))
-
--- What follows in every state of the plan from what holds at each tick holds at each tick.
-pub each-map :
-    (p : Plan) {P Q : Dispatcher → Type 0}
-    → ((d : Dispatcher) → Sound p d → P d → Q d)
-    → (cs : List Call) (d : Dispatcher)
-    → Sound p d
-    → EachTick P cs d
-    → EachTick Q cs d
-unfolding EachTick
-each-map p f [] d D e = tt
-each-map p f (c ∷ cs) d D e =
-    (λ i h. f (ticks i d) (sound-ticks i d D) (e .0 i h), each-map p f cs (after c d) (sound-after c d D) (e .1))

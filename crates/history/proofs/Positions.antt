@@ -9,14 +9,13 @@ use native.Mathlib.Nat.{mod-lt, mul-mod-left, div-add-mod'}
 use native.Mathlib.Omega.{arith}
 use lib.ListN.{take}
 use Rattle.plan.specs.declared.Plan.{Plan}
-use Rattle.plan.specs.Order.{planRefusal}
 use Rattle.plan.specs.Place.{placeOf}
 use Rattle.plan.specs.Records.{guestAt}
 use Rattle.dispatcher.specs.declared.Dispatcher.{Dispatcher}
 use Rattle.dispatcher.specs.declared.Released.{Released}
 use Rattle.dispatcher.specs.Release.{taken, release}
 use Rattle.sheet.specs.Sheet.{pairGuest, pairTask}
-use Rattle.history.specs.Calls.{Call, releasing, start, after, play, released, ticksOf, ticksIn}
+use Rattle.history.specs.Calls.{Call, releasing, start, after, play, released, ticksOf, ticksIn, CanStart}
 use Rattle.history.specs.Named.{boundBy, positionBy, everyBy, guestBy, StartsHere}
 use Rattle.history.specs.Sheets.{releases, upToPair}
 use Rattle.plan.proofs.Order.{plan-in}
@@ -27,6 +26,7 @@ use Rattle.dispatcher_laws.proofs.Sound.{at-0, guest-in, task-in}
 use Rattle.history.proofs.Clocks.{sound-reached}
 use Rattle.history.proofs.Sheets.{play-append, ticks-append}
 use Rattle.history.proofs.Sure.{position-is}
+use Rattle.plan.proofs.PeriodicLaws.{starts-in-order}
 
 -- A release moves no guest.
 release-stands : (d : Dispatcher) (id task : ℕ) → release d id task .state .position ≡ d .position
@@ -62,16 +62,16 @@ whole-sum a m b t p q =
     omega (arith, l, ap (λ (z : ℕ). m * z) (sym r ∙ ap (λ (z : ℕ). b / t * t + z) q)) in
     rw e (mul-mod-left (a / t + m * (b / t)) t)
 
-module _ (p : Plan) (order : planRefusal p .number ≡ 0) where
+module _ (p : Plan) (can : CanStart p) where
   -- A guest's position is the ticks done, modulo its period.
   position-mod :
       (g : ℕ) → g < p .count → (cs : List Call)
       → posAt (play cs (start p)) g ≡ ticksIn cs (start p) % guestAt (p .guests) g .period
   position-mod g h cs =
-      let G = plan-in p order .guests g h .head in
+      let G = plan-in p (starts-in-order p can) .guests g h .head in
       let T = guestAt (p .guests) g .period in
       let n = ticksIn cs (start p) in
-      position-is p g h order cs (n / T) (n % T) (mod-lt n (omega (arith, G .some, G .fits)))
+      position-is p g h can cs (n / T) (n % T) (mod-lt n (omega (arith, G .some, G .fits)))
       (sym (div-add-mod' n T))
 
   module _ (id number : ℕ) (cs : List Call) (taken-it : release (play cs (start p)) id number .refusal .number ≡ 0)
@@ -95,14 +95,14 @@ module _ (p : Plan) (order : planRefusal p .number ≡ 0) where
         (m : ℕ) → ticksIn ds (released p id number cs) ≡ m * everyBy p id number
         → positionBy p id (play ds (released p id number cs)) ≡ 0
     back-at-0 m e =
-        let D = sound-reached p order cs in
+        let D = sound-reached p can cs in
         let g = placeOf p id in
         let h = guest-in p (play cs (start p)) D id number taken-it in
         let i = task-in p (play cs (start p)) D id number taken-it in
         let T = guestBy p id .period in
         let then0 : ticksIn cs (start p) % T ≡ 0 =
         sym (position-mod g h cs) ∙ at-0 p (play cs (start p)) D id number taken-it bound in
-        let whole : everyBy p id number % T ≡ 0 = plan-in p order .guests g h .starts (number - 1) i bound in
+        let whole : everyBy p id number % T ≡ 0 = plan-in p (starts-in-order p can) .guests g h .starts (number - 1) i bound in
         ap (λ (z : Dispatcher). posAt z g) (sym all-state)
         ∙ position-mod g h all
         ∙ ap (λ (z : ℕ). z % T) (all-ticks ∙ ap (λ (z : ℕ). ticksIn cs (start p) + z) e)

@@ -6,7 +6,7 @@ use Prim.Native.Nat.{ℕ, _-_, _<_}
 use native.Mathlib.Omega.{arith}
 use Rattle.lists.specs.Refusals.{refusal}
 use Rattle.plan.specs.declared.Plan.{Plan}
-use Rattle.plan.specs.Order.{planRefusal}
+use Rattle.plan.specs.Periodic.{startRefusal}
 use Rattle.plan.specs.Place.{placeOf}
 use Rattle.dispatcher.specs.declared.Dispatcher.{Dispatcher}
 use Rattle.dispatcher.specs.Valid.{stateOk}
@@ -46,10 +46,10 @@ refused-played (c ∷ cs) d e = ap (play cs) (after-14 c d e) ∙ refused-played
 
 -- After a start that was refused, every call of any history is refused as 14.
 pub refused-start :
-    (p : Plan) → 0 < planRefusal p .number → (cs : List Call) (c : Call) → callNumber c (play cs (start p)) ≡ 14
+    (p : Plan) → 0 < startRefusal p .number → (cs : List Call) (c : Call) → callNumber c (play cs (start p)) ≡ 14
 unfolding fresh
 refused-start p h cs c =
-    let e : stateOk (start p) ≡ false = ap stateOk (start-by (planRefusal p .number) p h) ∙ blank-refused in
+    let e : stateOk (start p) ≡ false = ap stateOk (start-by (startRefusal p .number) p h) ∙ blank-refused in
     refused-14 c (play cs (start p)) (ap stateOk (refused-played cs (start p) e) ∙ e)
 
 -- A refused call, whatever its number, hands the state back as it was.

@@ -1,4 +1,4 @@
--- A state in its ranges stays so over every call, and from a fresh start of records in order 14 is never given.
+-- A state in its ranges stays so over every call, and from a fresh start that is not refused 14 is never given.
 -- Assumes nothing.
 use mathlib.Core.Path.{_≡_, refl, sym, ap, _∙_}
 use mathlib.Core.Bool.{true}
@@ -8,7 +8,6 @@ use native.Mathlib.Decide.{decLe}
 use native.Mathlib.Omega.{arith}
 use Rattle.lists.specs.Refusals.{refusal}
 use Rattle.plan.specs.declared.Plan.{Plan}
-use Rattle.plan.specs.Order.{planRefusal}
 use Rattle.dispatcher.specs.declared.Dispatcher.{Dispatcher}
 use Rattle.dispatcher.specs.declared.Ran.{Ran}
 use Rattle.dispatcher.specs.Valid.{stateOk}
@@ -16,7 +15,7 @@ use Rattle.dispatcher.specs.Tick.{next}
 use Rattle.dispatcher.specs.Run.{ticks}
 use Rattle.dispatcher.specs.Release.{release}
 use Rattle.dispatcher.specs.Entries.{run, longestRun}
-use Rattle.history.specs.Calls.{Call, releasing, ticking, running, sheeting, start, after, play, times, ticksOf, callNumber}
+use Rattle.history.specs.Calls.{Call, releasing, ticking, running, sheeting, start, after, play, times, ticksOf, callNumber, CanStart}
 use Rattle.history.specs.Runs.{RunIs}
 use Rattle.history.proofs.Ticks.{singles-length, run-by}
 use Rattle.history.proofs.Play.{ticking-done, running-done}
@@ -52,13 +51,13 @@ not-14 (running n) d ok e =
       | no h ↦ omega (arith, ap (λ (r : Ran). r .refusal .number) (run-13 n d ok (omega arith)))
     ]
 
--- A fresh start of records in order is in its ranges.
-pub start-ok : (p : Plan) → planRefusal p .number ≡ 0 → stateOk (start p) ≡ true
+-- A fresh start that is not refused is in its ranges.
+pub start-ok : (p : Plan) → CanStart p → stateOk (start p) ≡ true
 start-ok p e = rw (fresh-idle p e) (sound-idle p e .ok)
 
--- From a fresh start of records in order no call of any history is refused as 14.
+-- From a fresh start that is not refused no call of any history is refused as 14.
 pub never-14 :
-    (p : Plan) → planRefusal p .number ≡ 0 → (cs : List Call) (c : Call) → callNumber c (play cs (start p)) ≡ 14 → ⊥
+    (p : Plan) → CanStart p → (cs : List Call) (c : Call) → callNumber c (play cs (start p)) ≡ 14 → ⊥
 never-14 p e cs c = not-14 c (play cs (start p)) (stays-played cs (start p) (start-ok p e))
 
 -- As many calls of a tick are as many ticks of the rule.

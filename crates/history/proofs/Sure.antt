@@ -1,7 +1,6 @@
--- Demand 3 for guests: in each of its periods that has ended, a fitted Periodic guest has had exactly its capacity of
--- ticks. Assumes nothing.
-use mathlib.Core.Path.{_≡_, refl, sym, ap, subst, _∙_}
-use mathlib.Core.Bool.{false}
+-- Demand 3 for guests: in each of its periods that has ended, a fitted guest has had exactly its capacity of ticks.
+-- Assumes nothing.
+use mathlib.Core.Path.{_≡_, sym, ap, subst, _∙_}
 use mathlib.Core.List.{List, [], _∷_, _++_}
 use Prim.Native.Nat.{ℕ, suc, _+_, _*_, _≤_, _<_}
 use native.Mathlib.Nat.{mul-le-mul-right}
@@ -10,9 +9,6 @@ use native.Mathlib.Omega.{arith}
 use lib.ListN.{length, length-append}
 use Rattle.plan.specs.declared.Plan.{Plan}
 use Rattle.plan.specs.Place.{placeOf}
-use Rattle.plan.specs.Records.{guestAt}
-use Rattle.plan.specs.Server.{isDeferrable}
-use Rattle.plan.specs.Order.{planRefusal}
 use Rattle.dispatcher.specs.declared.Dispatcher.{Dispatcher}
 use Rattle.dispatcher.specs.declared.Answer.{Answer}
 use Rattle.dispatcher.specs.Tick.{next}
@@ -21,23 +17,23 @@ use Rattle.dispatcher.specs.Release.{taken}
 use Rattle.verdict.specs.declared.GuestVerdict.the-variants.{Fitted}
 use Rattle.verdict.specs.Verdict.{guestVerdict}
 use Rattle.verdict_laws.specs.Guests.{GuestSolves}
-use Rattle.windows.specs.GuestTick.{Moved, GuestFits}
+use Rattle.windows.specs.GuestTick.{Moved}
 use Rattle.windows.specs.GuestTick.Moved.{on, over}
-use Rattle.history.specs.Calls.{Call, start, play, ticksIn, answers}
+use Rattle.history.specs.Calls.{Call, start, play, ticksIn, answers, CanStart}
 use Rattle.history.specs.Named.{guestBy}
 use Rattle.history.specs.Share.{share}
-use Rattle.history.specs.Work.{EachTick}
 use Rattle.plan.proofs.Order.{plan-in}
-use Rattle.history.proofs.Play.{Any, any, play-keeps, play-while, each-sound, sound-play, answers-length}
+use Rattle.history.proofs.Play.{Any, any, play-keeps, answers-length}
 use Rattle.verdict_laws.proofs.Ids.{idOf}
-use Rattle.history.proofs.Capacity.{Claims, AssuredIn, Shares, shares-next, shares-taken, shares-begin, assured-next, assured-taken, assured-idle}
+use Rattle.history.proofs.Capacity.{Shares, shares-next, shares-taken, shares-idle}
 use Rattle.verdict_laws.proofs.Kept.{fitted-of}
 use Rattle.verdict_laws.proofs.Guests.{fitted-means}
 use Rattle.history.proofs.Clocks.{sound-start, sound-reached}
 use Rattle.dispatcher_laws.proofs.Fresh.{fresh-idle, idle-position}
 use Rattle.dispatcher_laws.proofs.GuestTick.{guest-moved}
-use Rattle.dispatcher_laws.proofs.Seen.{capOf, perOf, jitOf, posAt, leftAt, heldAt}
+use Rattle.dispatcher_laws.proofs.Seen.{capOf, perOf, posAt, leftAt, heldAt}
 use Rattle.dispatcher_laws.proofs.Sound.{Sound}
+use Rattle.plan.proofs.PeriodicLaws.{starts-in-order, starts-periodic}
 
 -- Whole periods and a rest come to a number in one way.
 pub parts-one : (T q k u r : ℕ) → u < T → r < T → q * T + u ≡ k * T + r → (q ≡ k) × (u ≡ r)
@@ -51,84 +47,52 @@ parts-one T q k u r hu hr e =
           ]
     ]
 
-module _ (p : Plan) (order : planRefusal p .number ≡ 0) (g x : ℕ) (in-plan : g < p .count) (G : GuestSolves p g x) where
-  -- The guest is fitted as the windows have it.
-  abbrev F : GuestFits (capOf p) (perOf p) (jitOf p) g x
-  F = fitted-of p (plan-in p order) in-plan G
-
-  -- The windows have the guest at the fresh start.
-  pub assured-start : AssuredIn p g x (start p) ⊥
-  assured-start = rw (fresh-idle p order) (assured-idle p (plan-in p order) g x in-plan F)
-
-  -- The windows have the guest at every state that a history reaches.
-  pub assured-reached : (cs : List Call) → AssuredIn p g x (play cs (start p)) ⊥
-  assured-reached cs =
-      let P = plan-in p order in
-      play-keeps p (λ L d. AssuredIn p g x d ⊥) Any (λ L d D A. assured-next p P g x in-plan F d D A)
-      (λ L d id task k t D a f A. assured-taken p P g x in-plan F d k t A) cs [] (start p) (any cs (start p))
-      record { sound = sound-start p order; holds = assured-start }
+module _ (p : Plan) (can : CanStart p) (g x : ℕ) (in-plan : g < p .count) (G : GuestSolves p g x)
+    (cs : List Call) where
+  -- The shares stand at the end of a history.
+  shares : Shares p g x (answers cs (start p)) (play cs (start p))
+  shares =
+      let P = plan-in p (starts-in-order p can) in
+      let F = fitted-of p P (starts-periodic p can) in-plan G in
+      play-keeps p (Shares p g x) Any (shares-next p P g x in-plan F)
+      (λ L d id task k t D a f S. shares-taken p P g x in-plan F L d k t S) cs [] (start p) (any cs (start p))
+      record { sound = sound-start p can; holds = rw (fresh-idle p can) (shares-idle p P g x in-plan F) }
       .holds
 
-  module _ (d : Dispatcher) (D : Sound p d) (A : AssuredIn p g x d ⊥) (begins : posAt d g ≡ 0) (cs : List Call)
-      (busy : EachTick (Claims g) cs d) where
-    -- From a state where a period of the guest begins the shares stand over a history in which it claims every tick
-    -- that it holds something for.
-    shares : Shares p g x (answers cs d) (play cs d)
-    shares =
-        let P = plan-in p order in
-        play-while p (Shares p g x) Any (Claims g) (shares-next p P g x in-plan F)
-        (λ L e id task k t E a f S. shares-taken p P g x in-plan F L e k t S) cs [] d (any cs d) busy
-        record { sound = D; holds = shares-begin p P g x in-plan F d D A begins }
-        .holds
+  -- A period of the guest that has ended has had the whole capacity.
+  shared :
+      (k : ℕ) → suc k * perOf p g ≤ ticksIn cs (start p)
+      → share (idOf p g) (answers cs (start p)) (k * perOf p g) (perOf p g) ≡ capOf p g
+  shared k h =
+      elim (decLt k (shares .q)) [
+        | yes l ↦ shares .past k l
+        | no l ↦
+            (let D = sound-reached p can cs in
+            let inside : posAt (play cs (start p)) g < perOf p g =
+            subst (λ (z : Plan). posAt (play cs (start p)) g < perOf z g) (D .plan)
+            (D .shaped .places g (rw (D .plan) in-plan)) in
+            absurd (omega (
+              arith,
+              shares .time,
+              answers-length cs (start p) (sound-start p can),
+              mul-le-mul-right {m = shares .q} {n = k} (perOf p g) (omega arith),
+            )))
+      ]
 
-    -- A period of the guest that has ended since has had the whole capacity.
-    pub shared :
-        (k : ℕ) → suc k * perOf p g ≤ ticksIn cs d
-        → share (idOf p g) (answers cs d) (k * perOf p g) (perOf p g) ≡ capOf p g
-    shared k h =
-        elim (decLt k (shares .q)) [
-          | yes l ↦ shares .past k l
-          | no l ↦
-              (let E = sound-play cs d D in
-              let inside : posAt (play cs d) g < perOf p g =
-              subst (λ (z : Plan). posAt (play cs d) g < perOf z g) (E .plan)
-              (E .shaped .places g (rw (E .plan) in-plan)) in
-              absurd (omega (
-                arith,
-                shares .time,
-                answers-length cs d D,
-                mul-le-mul-right {m = shares .q} {n = k} (perOf p g) (omega arith),
-              )))
-        ]
-
-  -- A Periodic guest claims every tick.
-  pub periodic-claims :
-      isDeferrable (guestAt (p .guests) g) ≡ false → (cs : List Call) → EachTick (Claims g) cs (start p)
-  periodic-claims e cs = each-sound p (Claims g) (λ d D h. rw (D .plan, e) refl) cs (start p)
-      (sound-start p order)
-
--- At the fresh start each guest is at position 0.
-pub begins-at-0 : (p : Plan) → planRefusal p .number ≡ 0 → (g : ℕ) → g < p .count → posAt (start p) g ≡ 0
-begins-at-0 p order g h = rw (fresh-idle p order) (idle-position p g (omega (arith, plan-in p order .few)))
-
--- Sure of its capacity: of the ticks of its k-th period, from 0, a fitted Periodic guest has had exactly its capacity,
+-- Sure of its capacity: of the ticks of its k-th period, from 0, a fitted guest has had exactly its capacity,
 -- whatever was called.
 pub sure-of-capacity :
     (p : Plan) (id x : ℕ)
     → guestVerdict p id ≡ Fitted x
-    → isDeferrable (guestBy p id) ≡ false
+    → CanStart p
     → (cs : List Call) (k : ℕ)
     → suc k * guestBy p id .period ≤ ticksIn cs (start p)
     → share id (answers cs (start p)) (k * guestBy p id .period) (guestBy p id .period) ≡ guestBy p id .capacity
-sure-of-capacity p id x e periodic cs k h =
+sure-of-capacity p id x e can cs k h =
     let (t, r) = fitted-means p id x e in
-    let g = placeOf p id in
     subst (λ (z : ℕ). share z (answers cs (start p)) (k * guestBy p id .period) (guestBy p id .period)
     ≡ guestBy p id .capacity)
-    (t .named)
-    (shared p (t .order) g x (t .place) (r .fits) (start p) (sound-start p (t .order))
-    (assured-start p (t .order) g x (t .place) (r .fits)) (begins-at-0 p (t .order) g (t .place)) cs
-    (periodic-claims p (t .order) g x (t .place) (r .fits) periodic cs) k h)
+    (t .named) (shared p can (placeOf p id) x (t .place) (r .fits) cs k h)
 
 -- After the answers L: q periods of guest g have ended, and its position counts the ticks of the one under way.
 record Timed (p : Plan) (g : ℕ) (L : List Answer) (d : Dispatcher) : Type 0 where
@@ -161,19 +125,19 @@ module _ (p : Plan) (g : ℕ) (in-plan : g < p .count) where
 
   -- A guest's periods follow one another from the fresh start on: k whole ones and r ticks more bring it to position r.
   pub position-is :
-      planRefusal p .number ≡ 0
+      CanStart p
       → (cs : List Call) (k r : ℕ)
       → r < perOf p g
       → ticksIn cs (start p) ≡ k * perOf p g + r
       → posAt (play cs (start p)) g ≡ r
-  position-is order cs k r h e =
-      let P = plan-in p order in
-      let D = sound-reached p order cs in
+  position-is can cs k r h e =
+      let P = plan-in p (starts-in-order p can) in
+      let D = sound-reached p can cs in
       let S = play-keeps p (Timed p g) Any timed-next (λ L d id task k t D a f S. timed-taken L d k t S) cs [] (start p)
       (any cs (start p))
       record {
-        sound = sound-start p order;
-        holds = rw (fresh-idle p order) record {
+        sound = sound-start p can;
+        holds = rw (fresh-idle p can) record {
           q = 0;
           time = omega (arith, idle-position p g (omega (arith, P .few)));
         };
@@ -182,5 +146,5 @@ module _ (p : Plan) (g : ℕ) (in-plan : g < p .count) where
       parts-one (perOf p g) (S .q) k (posAt (play cs (start p)) g) r
       (subst (λ (z : Plan). posAt (play cs (start p)) g < perOf z g) (D .plan)
       (D .shaped .places g (rw (D .plan) in-plan))) h
-      (sym (S .time) ∙ answers-length cs (start p) (sound-start p order) ∙ e)
+      (sym (S .time) ∙ answers-length cs (start p) (sound-start p can) ∙ e)
       .1

@@ -1,7 +1,6 @@
 -- The numbers beside a state count the ticks of its history.
 -- Strategy: a tick adds one where its answer is counted, modulo 2 to the 64. Assumes nothing.
 use mathlib.Core.Path.{_≡_, refl, ap, subst, _∙_}
-use mathlib.Core.Bool.{true}
 use mathlib.Core.List.{List, [], _∷_, _++_}
 use Prim.Native.Nat.{ℕ, _+_, _%_, _≤_, _<_}
 use native.Mathlib.Decide.{decLt}
@@ -11,10 +10,7 @@ use borrow.Author.Tests.{eq-eqb, ne-eqb}
 use Rattle.lists.specs.Places.{nth}
 use Rattle.lists.specs.Sum.{sumTo}
 use Rattle.plan.specs.declared.Plan.{Plan}
-use Rattle.plan.specs.Order.{planRefusal}
-use Rattle.plan.specs.Records.{guestAt}
-use Rattle.plan.specs.Server.{isDeferrable}
-use Rattle.arrays.specs.Usage.{wrap, idledAt, nobodys}
+use Rattle.arrays.specs.Usage.{wrap, nobodys}
 use Rattle.dispatcher.specs.declared.Dispatcher.{Dispatcher}
 use Rattle.dispatcher.specs.declared.Answer.{Answer}
 use Rattle.dispatcher.specs.State.{guestIn, restAt}
@@ -22,7 +18,7 @@ use Rattle.dispatcher.specs.Tick.{holder, worker, usageAfter, next}
 use Rattle.dispatcher.specs.Answer.{holderId, answer}
 use Rattle.dispatcher.specs.Release.{taken}
 use Rattle.dispatcher.specs.Fresh.{idle}
-use Rattle.history.specs.Calls.{Call, start, play, ticksIn, answers}
+use Rattle.history.specs.Calls.{Call, start, play, ticksIn, answers, CanStart}
 use Rattle.history.specs.Share.{bit, names}
 use Rattle.history.specs.Usage.{idles, unhad, Accounts}
 use Rattle.lists.proofs.Sum.{sum-zero}
@@ -34,10 +30,10 @@ use Rattle.history.proofs.Share.{count-none}
 use Rattle.history.proofs.Clocks.{sound-start}
 use Rattle.history.proofs.Accounts.{by-nobody, by-worked, by-idled}
 use Rattle.dispatcher_laws.proofs.Answer.{answer-nobody, answer-idled, answer-worked, answer-finished}
-use Rattle.dispatcher_laws.proofs.Deferrable.{idled-stands}
 use Rattle.dispatcher_laws.proofs.Fresh.{fresh-idle}
 use Rattle.dispatcher_laws.proofs.Sound.{Sound}
 use Rattle.dispatcher_laws.proofs.Tick.{usage-nobody, usage-worked, usage-idled, usage-long}
+use Rattle.plan.proofs.PeriodicLaws.{starts-in-order}
 
 -- what the numbers of a state are after the answers l
 record Counted (p : Plan) (l : List Answer) (d : Dispatcher) : Type 0 where
@@ -141,43 +137,22 @@ module _ (p : Plan) (P : PlanIn p) where
 
 -- Where the ticks went: the numbers beside the state, after any history from the fresh start, count its ticks.
 pub usage-counts :
-    (p : Plan) → planRefusal p .number ≡ 0 → (cs : List Call)
+    (p : Plan) → CanStart p → (cs : List Call)
     → Accounts p (answers cs (start p)) (play cs (start p) .usage)
-usage-counts p order cs =
-    let P = plan-in p order in
+usage-counts p can cs =
+    let P = plan-in p (starts-in-order p can) in
     play-keeps p (Counted p) Any (kept-next p P) (λ l d id task k t D a f K. kept-taken p P l d k t K) cs [] (start p)
     (any cs (start p))
-    record { sound = sound-start p order; holds = rw (fresh-idle p order) (kept-idle p P) }
+    record { sound = sound-start p can; holds = rw (fresh-idle p can) (kept-idle p P) }
     .holds
     .accounts
 
 -- All guests' ticks and nobody's are the ticks done.
 pub usage-adds-up :
     (p : Plan)
-    → planRefusal p .number ≡ 0
+    → CanStart p
     → (cs : List Call)
     → (sumTo (nth (play cs (start p) .usage)) (p .count) + nth (play cs (start p) .usage) nobodys) % wrap
     ≡ ticksIn cs (start p) % wrap
-usage-adds-up p order cs =
-    usage-counts p order cs .all ∙ ap (λ (n : ℕ). n % wrap) (answers-length cs (start p) (sound-start p order))
-
--- A Deferrable guest has no idled ticks.
-pub none-idled :
-    (p : Plan)
-    → planRefusal p .number ≡ 0
-    → (g : ℕ)
-    → g < p .count
-    → isDeferrable (guestAt (p .guests) g) ≡ true
-    → (cs : List Call)
-    → nth (play cs (start p) .usage) (idledAt g) ≡ 0
-unfolding idle taken
-none-idled p order g h kind cs =
-    let P = plan-in p order in
-    play-keeps p (λ l d. nth (d .usage) (idledAt g) ≡ 0) Any
-    (λ l d D z. idled-stands d g (rw (D .plan) h) (rw (D .plan) kind) (D .shaped) ∙ z)
-    (λ l d id task k t D a f z. z) cs [] (start p) (any cs (start p))
-    record {
-      sound = sound-start p order;
-      holds = rw (fresh-idle p order) (getD-replicate 17 (idledAt g) 0 0 (omega (arith, P .few)));
-    }
-    .holds
+usage-adds-up p can cs =
+    usage-counts p can cs .all ∙ ap (λ (n : ℕ). n % wrap) (answers-length cs (start p) (sound-start p can))

@@ -4,6 +4,7 @@ use mathlib.Core.List.{List, [], _∷_, _++_}
 use Prim.Native.Nat.{ℕ, zero, suc, _+_, _<_}
 use lib.ListN.{length}
 use Rattle.plan.specs.declared.Plan.{Plan}
+use Rattle.plan.specs.Periodic.{startRefusal}
 use Rattle.dispatcher.specs.declared.Dispatcher.{Dispatcher}
 use Rattle.dispatcher.specs.declared.Answer.{Answer}
 use Rattle.dispatcher.specs.declared.Answer.the-variants.{Silent, Nobody, Idled, Worked, Finished}
@@ -16,6 +17,10 @@ use Rattle.sheet.specs.Sheet.{pairGuest, pairTask, stateAfter, sheet}
 -- the fresh dispatcher of a plan's records
 abbrev pub start : Plan → Dispatcher
 start p = fresh p .state
+
+-- the fresh start of a plan's records is not refused: they are in order, and no guest is Deferrable
+abbrev pub CanStart : Plan → Type 0
+CanStart p = startRefusal p .number ≡ 0
 
 -- a call of the dispatcher
 pub data Call : Type 0 where

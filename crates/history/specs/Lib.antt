@@ -2,7 +2,6 @@ pub mod Calls
 pub mod Sheets
 pub mod Named
 pub mod Share
-pub mod Work
 pub mod Runs
 pub mod Finished
 pub mod Usage

@@ -1,7 +1,6 @@
 -- The relation of two states that carries the proof, and serves it alone: all that a guest's view depends on is the
 -- same in both. Assumes nothing.
 use mathlib.Core.Path.{_≡_, refl, sym, ap, _∙_}
-use mathlib.Core.Bool.{false, _&&_}
 use Prim.Native.Nat.{ℕ, _≤_, _<_}
 use native.Mathlib.Decide.{decLt}
 use native.Mathlib.Omega.{arith}
@@ -10,15 +9,13 @@ use Rattle.lists.specs.Places.{nth}
 use Rattle.plan.specs.declared.Guest.{Guest}
 use Rattle.plan.specs.declared.Plan.{Plan}
 use Rattle.plan.specs.Records.{guestAt}
-use Rattle.plan.specs.Server.{isDeferrable}
 use Rattle.dispatcher.specs.declared.Dispatcher.{Dispatcher}
 use Rattle.dispatcher.specs.State.{guestIn, restAt, waitAt, ageAt}
-use Rattle.dispatcher.specs.Tick.{refilled, firstTask, claims, holder}
+use Rattle.dispatcher.specs.Tick.{refilled, holder}
 use Rattle.independence.specs.SameFor.{SameFor}
-use Rattle.dispatcher_laws.proofs.Seen.{posAt, leftAt, heldAt, claimsAt}
+use Rattle.dispatcher_laws.proofs.Seen.{posAt, leftAt, heldAt}
 use Rattle.dispatcher_laws.proofs.Sound.{Sound}
 use Rattle.dispatcher_laws.proofs.Tick.{refilled-at}
-use Rattle.lists.proofs.Search.{first-ext}
 use Rattle.independence.proofs.First.{first-agree}
 
 -- A state d of the plan p and a state e of the plan q, in their ranges and with their shapes, hold the same for the
@@ -46,11 +43,11 @@ pub same-turned : {id k : ℕ} {p q : Plan} → SameFor id k p q → SameFor id 
 same-turned S = record {
   here = S .there;
   there = S .here;
+  starts = S .other-starts;
+  other-starts = S .starts;
   same = sym (S .same);
   capacities = λ j l. sym (S .capacities j l);
   periods = λ j l. sym (S .periods j l);
-  periodic-here = S .periodic-there;
-  periodic-there = S .periodic-here;
 }
 
 -- The states may be read the other way round too.
@@ -113,38 +110,16 @@ module _ {id k n : ℕ} {p q : Plan} (S : SameFor id k p q) {d e : Dispatcher} (
   pub same-held : (j : ℕ) → j ≤ k → heldAt d j ≡ heldAt e j
   same-held j l = rw (A .position j l, same-capacity j l, A .left j l) refl
 
-  -- The guest has the same first task with run left, where n are its tasks.
-  pub same-task : n ≡ guestIn d k .tasks → firstTask d k ≡ firstTask e k
-  unfolding firstTask
-  same-task many =
-      rw (← ap (λ (g : Guest). g .tasks) same-record)
-      (first-ext (λ t. ltb 0 (restAt d k t)) (λ t. ltb 0 (restAt e k t)) (guestIn d k .tasks) 0
-      (λ t l. ap (λ (z : ℕ). ltb 0 z) (A .rest t (omega arith))))
-
-  -- Each guest down to this one claims a tick that it has capacity for in both states or in neither: those above are
-  -- Periodic, and this one has the same work.
-  same-claim : n ≡ guestIn d k .tasks → (j : ℕ) → j ≤ k → claimsAt d j ≡ claimsAt e j
-  same-claim many j l =
-      elim (decLt j k) [
-        | yes h ↦
-            (let here : isDeferrable (guestIn d j) ≡ false = rw (guest-of d (A .one) j) (S .periodic-here j h) in
-            let there : isDeferrable (guestIn e j) ≡ false = rw (guest-of e (A .other) j) (S .periodic-there j h) in
-            rw (here, there) refl)
-        | no h ↦ (let z : j ≡ k = omega arith in rw (z, same-task many, same-record) refl)
-      ]
-
   -- A tick that goes to one of these guests in the one state goes to the same guest in the other.
-  pub same-holder : n ≡ guestIn d k .tasks → holder d ≤ k → holder e ≡ holder d
-  unfolding holder claims
-  same-holder many h =
-      first-agree (λ j. ltb 0 (nth (refilled d) j) && claimsAt d j) (λ j. ltb 0 (nth (refilled e) j) && claimsAt e j)
-      (d .plan .count) (e .plan .count) k in-one in-other
+  pub same-holder : holder d ≤ k → holder e ≡ holder d
+  unfolding holder
+  same-holder h =
+      first-agree (λ j. ltb 0 (nth (refilled d) j)) (λ j. ltb 0 (nth (refilled e) j)) (d .plan .count)
+      (e .plan .count) k
+      in-one in-other
       (λ z l.
-      rw (
-        refilled-at d (A .one .shaped) z (omega (arith, in-one)),
-        same-held z l,
-        refilled-at e (A .other .shaped) z (omega (arith, in-other)),
-        same-claim many z l,
-      )
-      refl)
+      ap (λ (x : ℕ). ltb 0 x)
+      (refilled-at d (A .one .shaped) z (omega (arith, in-one))
+      ∙ same-held z l
+      ∙ sym (refilled-at e (A .other .shaped) z (omega (arith, in-other)))))
       h

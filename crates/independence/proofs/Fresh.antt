@@ -18,8 +18,8 @@ alike-idle {id} {k} {p} {q} S =
     let few : k < 8 = omega (arith, S .here .place, P .few) in
     let sixteen : tasksOf p k ≤ 16 = P .guests k (S .here .place) .head .few in
     record {
-      one = sound-idle p (S .here .order);
-      other = sound-idle q (S .there .order);
+      one = sound-idle p (S .starts);
+      other = sound-idle q (S .other-starts);
       left = λ j l. idle-left p j (omega arith) ∙ sym (idle-left q j (omega arith));
       position = λ j l. idle-position p j (omega arith) ∙ sym (idle-position q j (omega arith));
       rest = λ t l. idle-rest p k t few (omega arith) ∙ sym (idle-rest q k t few (omega arith));
@@ -29,4 +29,4 @@ alike-idle {id} {k} {p} {q} S =
 
 -- The fresh starts are alike, neither being refused.
 pub alike-start : {id k : ℕ} {p q : Plan} → SameFor id k p q → Alike k (tasksOf p k) p q (start p) (start q)
-alike-start {p = p} {q = q} S = rw (fresh-idle p (S .here .order), fresh-idle q (S .there .order)) (alike-idle S)
+alike-start {p = p} {q = q} S = rw (fresh-idle p (S .starts), fresh-idle q (S .other-starts)) (alike-idle S)

@@ -1,5 +1,5 @@
 -- A tick of two states that are alike for a guest leaves them so. Assumes nothing.
-use mathlib.Core.Path.{_≡_, refl, sym, _∙_}
+use mathlib.Core.Path.{_≡_, refl, sym, ap, _∙_}
 use Prim.Native.Nat.{ℕ, _+_, _≤_, _<_, min}
 use native.Mathlib.Decide.{ℕ-discrete}
 use native.Mathlib.Omega.{arith}
@@ -14,12 +14,13 @@ use Rattle.dispatcher.specs.State.{guestIn, restAt, waitAt, ageAt}
 use Rattle.dispatcher.specs.Tick.{holder, worker, ageAfter, next}
 use Rattle.independence.specs.SameFor.{SameFor}
 use Rattle.lists.proofs.Places.{upTo-at}
+use Rattle.lists.proofs.Search.{first-ext}
 use Rattle.dispatcher_laws.proofs.Seen.{posAt, leftAt, heldAt, Shaped}
 use Rattle.dispatcher_laws.proofs.Sound.{sound-next}
 use Rattle.dispatcher_laws.proofs.Tick.{position-at, wait-falls}
 use Rattle.dispatcher_laws.proofs.GuestTick.{guest-tick}
 use Rattle.dispatcher_laws.proofs.TaskTick.{rest-else, task-served}
-use Rattle.independence.proofs.Alike.{Alike, tasksOf, same-turned, alike-turned, in-one, in-other, same-period, same-held, same-task, same-holder, tasks-one, tasks-other}
+use Rattle.independence.proofs.Alike.{Alike, tasksOf, same-turned, alike-turned, in-one, in-other, same-period, same-held, same-holder, tasks-one, tasks-other}
 
 -- An age after the tick goes by the run left and the age before it.
 age-at :
@@ -35,7 +36,7 @@ age-at d H g t h l =
 module _ {id k : ℕ} {p q : Plan} (S : SameFor id k p q) {d e : Dispatcher} (A : Alike k (tasksOf p k) p q d e) where
   -- The other way round: a tick that goes to one of these guests in the other state goes to the same guest in the one.
   pub holder-back : holder e ≤ k → holder d ≡ holder e
-  holder-back = same-holder (same-turned S) (alike-turned A) (sym (tasks-other S A))
+  holder-back = same-holder (same-turned S) (alike-turned A)
 
   -- Where the guest does not have the tick in the one state, it does not have it in the other.
   pub else-too : (holder d ≡ k → ⊥) → holder e ≡ k → ⊥
@@ -57,7 +58,7 @@ module _ {id k : ℕ} {p q : Plan} (S : SameFor id k p q) {d e : Dispatcher} (A 
       let same = same-held S A j l in
       elim (ℕ-discrete j (holder d)) [
         | yes z ↦
-            (let y : j ≡ holder e = z ∙ sym (same-holder S A (sym (tasks-one S A)) (omega arith)) in
+            (let y : j ≡ holder e = z ∙ sym (same-holder S A (omega arith)) in
             let a : leftAt (next d) j + 1 ≡ heldAt d j = rw z (s .took (omega arith)) in
             let b : leftAt (next e) j + 1 ≡ heldAt e j = rw y (r .took (omega arith)) in
             omega arith)
@@ -74,7 +75,10 @@ module _ {id k : ℕ} {p q : Plan} (S : SameFor id k p q) {d e : Dispatcher} (A 
   -- Where the guest has the tick, the same task of it has it.
   pub same-worker : holder d ≡ k → holder e ≡ k → worker d ≡ worker e
   unfolding worker
-  same-worker x y = rw (x, y) (same-task S A (sym (tasks-one S A)))
+  same-worker x y =
+      rw (x, y, tasks-one S A, tasks-other S A)
+      (first-ext (λ t. ltb 0 (restAt d k t)) (λ t. ltb 0 (restAt e k t)) (tasksOf p k) 0
+      (λ t l. ap (λ (z : ℕ). ltb 0 z) (A .rest t (omega arith))))
 
   -- Runs left stay the same.
   rest-next : (t : ℕ) → t < tasksOf p k → restAt (next d) k t ≡ restAt (next e) k t
@@ -87,7 +91,7 @@ module _ {id k : ℕ} {p q : Plan} (S : SameFor id k p q) {d e : Dispatcher} (A 
             ∙ A .rest t l
             ∙ sym (rest-else e (A .other .shaped) k t (in-other S A) in-e (else-too n) t (omega arith))
         | yes x ↦
-            (let y : holder e ≡ k = same-holder S A (sym (tasks-one S A)) (omega arith) ∙ x in
+            (let y : holder e ≡ k = same-holder S A (omega arith) ∙ x in
             let s = task-served d (A .one .shaped) k t (in-one S A) in-d x in
             let r = task-served e (A .other .shaped) k t (in-other S A) in-e y in
             let same = same-worker x y in

@@ -116,7 +116,7 @@ module _ {id k : ℕ} {p q : Plan} (S : SameFor id k p q) {d e : Dispatcher} (A 
   pub told-same : told id (answer d) ≡ told id (answer e)
   told-same =
       elim (ℕ-discrete (holder d) k) [
-        | yes x ↦ ap (told id) (answer-mine x (same-holder S A (sym (tasks-one S A)) (omega arith) ∙ x))
+        | yes x ↦ ap (told id) (answer-mine x (same-holder S A (omega arith) ∙ x))
         | no n ↦ told-else id k p (S .here) d (A .one) n
             ∙ sym (told-else id k q (S .there) e (A .other) (else-too S A n))
       ]

@@ -89,7 +89,7 @@ fn lend<'a>(s: Statement, plan: &'a [u8], m: u32, log: &'a [u8], n: u32) -> Stat
 // The statement after so many bytes of the log.
 fn extend(p: Plan, s: Statement, log: &[u8], n: u32) -> Statement {
     let mut plan = [0u8; draft::MOST_BYTES];
-    draft::write(p, &mut plan);
+    draft::write(p, &mut plan, true);
     lend(s, &plan, draft::length(p), log, n)
 }
 

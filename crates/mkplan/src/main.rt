@@ -23,7 +23,7 @@ fn put(blocks: &[u8], n: usize) {
 // The plan's blocks.
 fn write(p: Plan) {
     let mut blocks = [0u8; draft::MOST_BYTES];
-    let refusal = draft::write(p, &mut blocks);
+    let refusal = draft::write(p, &mut blocks, false);
     if 0 < refusal.number {
         complain(b"refused ", refusal.number);
         complain(b" block ", refusal.place);

@@ -5,6 +5,8 @@ pub mod First
 pub mod MarksLaws
 pub mod RangesLaws
 pub mod Order
+pub mod PeriodicLaws
+pub mod Converted
 pub mod Placed
 pub mod Place
 pub mod LookUp

@@ -7,6 +7,7 @@ pub mod Charge
 pub mod First
 pub mod Told
 pub mod Order
+pub mod Periodic
 pub mod Place
 pub mod Filled
 pub mod Promises

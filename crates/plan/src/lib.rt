@@ -8,6 +8,7 @@ mod column;
 mod find;
 mod guests;
 mod marks;
+mod periodic;
 mod ranges;
 
 pub use column::columns_of;
@@ -18,6 +19,7 @@ pub use guests::guest_number;
 pub use guests::new_id;
 pub use marks::is_marked;
 pub use marks::live_marks;
+pub use periodic::start_refusal;
 pub use ranges::LONGEST;
 pub use ranges::count_ok;
 pub use ranges::head_ok;

@@ -6,12 +6,11 @@ use mathlib.Core.List.{List}
 use Prim.Native.Nat.{ℕ, _≤_, _<_}
 use native.Mathlib.Decide.{decLt}
 use native.Mathlib.Omega.{arith}
-use lib.ListN.{length}
 use lib.Dec.{ltb}
 use borrow.Author.Tests.{eq-eqb, lt-ltb, le-ltb}
 use Rattle.plan.specs.Ranges.{mostTasks, guestOk, tasksOk}
 use Rattle.plan.specs.Marks.{liveMarks}
-use Rattle.block.specs.Layout.{blockSize, blockWords, kindPlaceWord, lastPlace, idWord, capacityWord, periodWord, tasksChargeWord, marksServerWord, spareFrom, spareTo, runWord, everyWord, deadlineWord, unusedFrom, checkWord, highHalf, halves}
+use Rattle.block.specs.Layout.{kindPlaceWord, lastPlace, idWord, capacityWord, periodWord, tasksChargeWord, marksServerWord, spareFrom, spareTo, runWord, everyWord, deadlineWord, unusedFrom, checkWord, highHalf, halves}
 use Rattle.words.specs.Word.{wordWrap, word}
 use Rattle.words.specs.Bytes.{Below}
 use Rattle.block.specs.Reading.{placeIn, taskCount, column, guestOf, sumsToZero, kindOk, ownPlace, zerosOk, blockNumber}
@@ -19,13 +18,11 @@ use Rattle.lists.specs.All.{allTo}
 use Rattle.lists.specs.Choice.{pick}
 use Rattle.lists.specs.Places.{nth}
 use Rattle.plan.specs.declared.Guest.{Guest}
-use Rattle.blockparts.specs.Parts.{withCheck}
 use Rattle.blockwriter.specs.Writing.{serverFor, kindFor, wordsOf, blockOf}
 use Rattle.planfile_laws.specs.File.{firstTasks, clearedGuest}
 use Rattle.planfile_laws.specs.Fits.{GuestInTypes}
 use Rattle.lists.proofs.All.{and-left, and-right, and-true, all-ext}
 use Rattle.lists.proofs.Table.{table-at, table-ext}
-use Rattle.words.proofs.Bytes.{length-bytesOf}
 use Rattle.plan.proofs.MarksLaws.{marks-same, marks-below}
 use Rattle.plan.proofs.RangesLaws.{head-says}
 use Rattle.block.proofs.Reading.{none, zeros-pass}
@@ -33,11 +30,6 @@ use Rattle.blockparts.proofs.Words.{word-back, sums-back}
 use Rattle.blockwriter.proofs.Writing.{words-length}
 use Rattle.planfile_laws.proofs.Marks.{server-most, kind-most, Opened, marks-there, server-there, kind-passes, marks-pass}
 use Rattle.planfile_laws.proofs.Words.{WordsAt, words-at, words-fit}
-
--- A block has 512 bytes.
-pub block-length : (g : Guest) (p : ℕ) → length (blockOf g p) ≡ blockSize
-unfolding blockOf
-block-length g p = length-bytesOf (nth (withCheck (wordsOf g p))) blockWords
 
 module _ (g : Guest) (p : ℕ) (fits : GuestInTypes g) (low : p ≤ lastPlace) (head : guestOk g ≡ true)
     (tasks : tasksOk g ≡ true) where
@@ -162,7 +154,7 @@ module _ (g : Guest) (p : ℕ) (fits : GuestInTypes g) (low : p ≤ lastPlace) (
       (zeros-pass (blockOf g p) (unusedFrom (g .tasks)) checkWord
       (λ k h l. at k l ∙ written .unused k h (omega arith))))
 
-  -- What the reader says of what the writer writes.
+  -- What the reader says of a guest's block.
   pub number-back : (new : Bool) → new ≡ true → blockNumber (blockOf g p) (ownPlace (blockOf g p) p) new ≡ 0
   number-back new e =
       sym

@@ -1,4 +1,4 @@
--- One block that is read: each word is the one that the writer would write for its record. Assumes nothing.
+-- One block that is read: each word is the one that the block of its record has. Assumes nothing.
 use mathlib.Core.Path.{_≡_, sym, _∙_}
 use mathlib.Core.Bool.{Bool, true, _&&_}
 use mathlib.Core.List.{List}
@@ -95,7 +95,7 @@ module _ (b : List ℕ) (p : ℕ) (new : Bool) (long : length b ≡ blockSize) (
         ]
       ]
 
-  -- The bytes that the writer writes for what the reader gives.
+  -- The block of what the reader gives.
   pub written-again : blockOf (guestOf b) p ≡ b
   unfolding blockOf
   written-again =

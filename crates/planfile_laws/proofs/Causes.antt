@@ -1,5 +1,5 @@
 -- Each test of plan files but that of zero bytes fails exactly when document 01's cause holds. Assumes nothing.
-use mathlib.Core.Path.{_≡_, refl, sym}
+use mathlib.Core.Path.{_≡_, refl, sym, ap}
 use mathlib.Core.Logic.{_⊎_, _≢_, inl, inr, ⊎-elim}
 use mathlib.Core.Bool.{Bool, true, false, false≢true, not, _&&_, _||_, and-true}
 use mathlib.Core.List.{List}
@@ -7,7 +7,7 @@ use Prim.Native.Nat.{ℕ, _%_, _<_}
 use native.Mathlib.Decide.{ℕ-discrete}
 use native.Mathlib.Omega.{arith}
 use lib.Dec.{eqb, leb}
-use borrow.Author.Tests.{lt-leb, leb-false, eq-eqb, ne-eqb, eqb-true, eqb-false, not-false}
+use borrow.Author.Tests.{lt-leb, leb-false, eq-eqb, ne-eqb, eqb-true, eqb-false, not-true, not-false}
 use Rattle.lists.specs.All.{allTo}
 use Rattle.words.specs.Word.{word}
 use Rattle.words.specs.Wrap.{wrapped}
@@ -15,6 +15,7 @@ use Rattle.plan.specs.declared.Guest.{Guest}
 use Rattle.plan.specs.Records.{runOf, everyOf, deadlineOf}
 use Rattle.plan.specs.Marks.{isBound}
 use Rattle.plan.specs.Ranges.{mostTasks, longest, within, headOk, guestOk, taskOk, startOk, tasksOk}
+use Rattle.plan.specs.Server.{isDeferrable, isPeriodic}
 use Rattle.plan.specs.Order.{newId}
 use Rattle.lists.specs.Exactly.{_exactlyWhen_}
 use Rattle.block.specs.Layout.{blockSize, blockWords, plainKind, extendedKind, deferrableServer}
@@ -33,7 +34,7 @@ both-fail true b p q = (
 both-fail false b p q = (λ e. inl (p .0 refl), λ h. refl)
 
 -- One of the first n tests fails.
-some-fails : (f : ℕ → Bool) (n : ℕ) (A : ℕ → Type 0) → ((i : ℕ) → (f i ≡ false) exactlyWhen A i)
+pub some-fails : (f : ℕ → Bool) (n : ℕ) (A : ℕ → Type 0) → ((i : ℕ) → (f i ≡ false) exactlyWhen A i)
     → (allTo f n ≡ false) exactlyWhen ((i : ℕ) × ((i < n) × A i))
 some-fails f n A h = (
   λ e. let o = all-false f n e in (o .0, (o .1, h (o .0) .0 (o .2))),
@@ -181,3 +182,7 @@ tasks-fail g =
       λ o.
           w .1 (⊎-elim (λ x. inl (o .0, (o .1 .0, x))) (λ x. inr (o .0, (o .1 .0, x))) (o .1 .1)),
     )
+
+-- 23: the server.
+pub periodic-fails : (g : Guest) → (isPeriodic g ≡ false) exactlyWhen (isDeferrable g ≡ true)
+periodic-fails g = (λ e. ap not e, λ e. not-true (isPeriodic g) e)

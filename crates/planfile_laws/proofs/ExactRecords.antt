@@ -1,6 +1,6 @@
 -- When each refusal of the writer and of records handed over is given. Assumes nothing.
-use mathlib.Core.Path.{_≡_, refl}
-use mathlib.Core.Bool.{true, false, _&&_}
+use mathlib.Core.Path.{_≡_, refl, sym, ap}
+use mathlib.Core.Bool.{Bool, true, false, _&&_}
 use mathlib.Core.List.{List, []}
 use Prim.Native.Nat.{ℕ, suc, _<_}
 use native.Mathlib.Omega.{arith}
@@ -9,6 +9,7 @@ use Rattle.plan.specs.declared.Guest.{Guest}
 use Rattle.plan.specs.declared.Plan.{Plan}
 use Rattle.plan.specs.Records.{guestAt}
 use Rattle.plan.specs.Ranges.{mostGuests, within, guestOk, tasksOk}
+use Rattle.plan.specs.Server.{isDeferrable, isPeriodic}
 use Rattle.plan.specs.First.{refused, firstRefused}
 use Rattle.plan.specs.Order.{newId, numberOf, guestNumber, countedBy, planRefusal}
 use Rattle.lists.specs.Exactly.{_exactlyWhen_, _notBut_}
@@ -16,9 +17,12 @@ use Rattle.block.specs.Layout.{blockSize, lastPlace}
 use Rattle.blockwriter.specs.Writing.{writeNumber}
 use Rattle.planfile_laws.specs.Exact.{FirstAt}
 use Rattle.planfile_laws.specs.Causes.{Outside, WrongHead, WrongGuest, WrongTask}
-use Rattle.planfile_laws.proofs.Causes.{leb-fails, within-fails, head-fails, guest-fails, tasks-fail}
+use Rattle.plan.specs.Periodic.{allPeriodic, startRefusal}
+use Rattle.plan.specs.declared.Refusal.{Refusal}
+use Rattle.planfile_laws.proofs.Causes.{leb-fails, within-fails, head-fails, guest-fails, tasks-fail, periodic-fails, some-fails}
 use Rattle.lists.proofs.Exactly.{among, not-given, given-first, given-later}
 use Rattle.planfile_laws.proofs.Order.{one-first, place-first}
+use Rattle.plan.proofs.PeriodicLaws.{starts-by, deferrable-refused}
 
 -- The writer, lent a buffer of so many bytes.
 module _ (g : Guest) (place size : ℕ) where
@@ -51,7 +55,23 @@ module _ (g : Guest) (place size : ℕ) where
       given-later (leb blockSize size) 12 6 _ (λ q. omega arith) (leb-fails blockSize size)
       (given-later (leb place lastPlace) 3 6 _ (λ q. omega arith) (leb-fails place lastPlace)
       (given-later (guestOk g) 4 6 _ (λ q. omega arith) (head-fails g)
-      (given-first (tasksOk g) 6 [] (omega arith) refl (tasks-fail g))))
+      (given-first (tasksOk g) 6 _ (omega arith) refl (tasks-fail g))))
+
+  -- 23: the guest is Deferrable.
+  pub write-twenty-three : (writeNumber g place size ≡ 23)
+      exactlyWhen (
+      (size < blockSize)
+      notBut (lastPlace < place)
+      notBut WrongHead g
+      notBut WrongTask g
+      notBut (isDeferrable g ≡ true))
+  unfolding writeNumber among
+  write-twenty-three =
+      given-later (leb blockSize size) 12 23 _ (λ q. omega arith) (leb-fails blockSize size)
+      (given-later (leb place lastPlace) 3 23 _ (λ q. omega arith) (leb-fails place lastPlace)
+      (given-later (guestOk g) 4 23 _ (λ q. omega arith) (head-fails g)
+      (given-later (tasksOk g) 6 23 _ (λ q. omega arith) (tasks-fail g)
+      (given-first (isPeriodic g) 23 [] (omega arith) refl (periodic-fails g)))))
 
 -- The numbers of the guest at place k.
 module _ (gs : List Guest) (k : ℕ) where
@@ -108,3 +128,20 @@ module _ (p : Plan) where
       place-first (guestNumber (p .guests)) (p .count) (planRefusal p) (never-one (p .guests))
       (within 1 mostGuests (p .count)) n k
       not-counted is-counted (within-fails 1 mostGuests (p .count))
+
+-- A fresh start from records in order.
+module _ (p : Plan) (order : planRefusal p .number ≡ 0) where
+  -- 23 is given where a guest fails the test.
+  by-test : (b : Bool) → allPeriodic p ≡ b → startRefusal p ≡ refused 23 0 → allPeriodic p ≡ false
+  by-test false q e = q
+  by-test true q e = absurd (omega (arith, starts-by p order q, ap (λ (r : Refusal). r .number) e))
+
+  -- 23: a guest is Deferrable.
+  pub start-twenty-three : (startRefusal p ≡ refused 23 0)
+      exactlyWhen ((k : ℕ) × ((k < p .count) × (isDeferrable (guestAt (p .guests) k) ≡ true)))
+  unfolding allPeriodic
+  start-twenty-three =
+      let w =
+      some-fails (λ k. isPeriodic (guestAt (p .guests) k)) (p .count)
+      (λ k. isDeferrable (guestAt (p .guests) k) ≡ true) (λ k. periodic-fails (guestAt (p .guests) k)) in
+      (λ e. w .0 (by-test (allPeriodic p) refl e), λ h. sym (deferrable-refused p order (w .1 h)))

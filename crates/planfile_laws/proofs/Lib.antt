@@ -1,10 +1,12 @@
--- The theorems are in ReadBack, OnlyOurs and Exact; the other files are what they are made of.
+-- The theorems are in ReadBack, OnlyOurs, Written and Exact; the other files are what they are made of.
 pub mod Marks
 pub mod Words
+pub mod Joined
 pub mod BlockBack
 pub mod BlockOnly
 pub mod ReadBack
 pub mod OnlyOurs
+pub mod Written
 pub mod Causes
 pub mod Zeros
 pub mod Order

@@ -139,7 +139,7 @@ server-same server h =
 -- A block whose marks and server pass.
 module _ (b : List ℕ) (marks : marksOk b ≡ true) where
   -- No mark is past its tasks, and its server is one of two.
-  marks-say : (marksIn b < 2 ^ taskCount b) × (serverHalf b ≤ deferrableServer)
+  pub marks-say : (marksIn b < 2 ^ taskCount b) × (serverHalf b ≤ deferrableServer)
   marks-say =
       elim (ℕ-discrete (kindIn b) extendedKind) [
         | yes t ↦ marks-of-two b t .0 marks
@@ -149,7 +149,7 @@ module _ (b : List ℕ) (marks : marksOk b ≡ true) where
       ]
 
   -- The marks and the server that are written again.
-  marks-again : liveMarks (guestOf b) ≡ marksIn b
+  pub marks-again : liveMarks (guestOf b) ≡ marksIn b
   marks-again = marks-fit (marksIn b) (taskCount b) (marks-say .0)
 
   server-again : serverFor (guestOf b) ≡ serverHalf b

@@ -1,12 +1,12 @@
--- Read-back: a plan that passes the records' order, written and read, is that plan with zeros past its guests and
--- tasks, and with 1 for any number that says Deferrable. Assumes nothing.
+-- Read-back: the file of a plan that passes the records' order reads as that plan with zeros past its guests and tasks,
+-- and with 1 for any number that says Deferrable. Assumes nothing.
 use mathlib.Core.Path.{_≡_, refl, sym, ap, _∙_}
 use mathlib.Core.Bool.{Bool, true, false}
 use mathlib.Core.List.{List, _++_}
 use Prim.Native.Nat.{ℕ, _*_, _%_, _≤_, _<_}
 use native.Mathlib.Omega.{arith}
 use lib.ListN.{length, drop, replicate}
-use borrow.Author.Tests.{eq-eqb, le-leb}
+use borrow.Author.Tests.{eq-eqb, le-leb, not-false}
 use Rattle.plan.specs.Marks.{isBound}
 use Rattle.plan.specs.Ranges.{mostGuests, headOk, taskOk, startOk, tasksOk}
 use Rattle.block.specs.Layout.{blockSize}
@@ -15,7 +15,9 @@ use Rattle.plan.specs.declared.Guest.{Guest}
 use Rattle.plan.specs.declared.Plan.{Plan}
 use Rattle.plan.specs.Records.{guestAt, everyOf, blank}
 use Rattle.plan.specs.First.{fine}
+use Rattle.plan.specs.Server.{isPeriodic}
 use Rattle.plan.specs.Order.{newId, planRefusal}
+use Rattle.plan.specs.Periodic.{allPeriodic}
 use Rattle.blockwriter.specs.Writing.{blockOf, writeNumber, writeRefusal, written}
 use Rattle.blockfile.specs.File.{blockAt, idAt, blocksIn, mostBytes, sizeOk, numberAt, fileRefusal}
 use Rattle.blockfile.specs.Records.{recordsOf}
@@ -27,12 +29,13 @@ use Rattle.lists.proofs.Table.{table-ext}
 use Rattle.plan.proofs.RangesLaws.{TaskIn, HeadIn, GuestIn}
 use Rattle.plan.proofs.First.{first-fine}
 use Rattle.plan.proofs.Order.{PlanIn, plan-in}
+use Rattle.plan.proofs.PeriodicLaws.{none-deferrable}
 use Rattle.blockparts.proofs.Parts.{by-none}
-use Rattle.blockwriter.proofs.Writing.{none}
+use Rattle.blockwriter.proofs.Writing.{none, block-length}
 use Rattle.blockfile.proofs.File.{sized}
 use Rattle.blockfile.proofs.Joined.{joined-length, joined-at}
 use Rattle.planfile.proofs.Records.{reading, read-fine}
-use Rattle.planfile_laws.proofs.BlockBack.{block-length, number-back, guest-back}
+use Rattle.planfile_laws.proofs.BlockBack.{number-back, guest-back}
 
 -- A guest in its ranges passes the tests.
 head-passes : {id capacity period tasks : ℕ} → HeadIn id capacity period tasks → headOk id capacity period tasks ≡ true
@@ -139,15 +142,16 @@ pub read-back : (p : Plan) → PlanInTypes p → planRefusal p .number ≡ 0
 unfolding s
 read-back p fits ok = back p fits ok
 
--- Each block of that file is what the writer, which refuses none of them, leaves in the first 512 of the lent bytes.
-pub written-so : (p : Plan) → planRefusal p .number ≡ 0 → (k : ℕ) → k < p .count → (before : List ℕ)
-    → blockSize ≤ length before
+-- Where each guest is Periodic, each block of that file is what the writer, which refuses none of them, leaves in the
+-- first 512 of the lent bytes.
+pub written-so : (p : Plan) → planRefusal p .number ≡ 0 → allPeriodic p ≡ true → (k : ℕ) → k < p .count
+    → (before : List ℕ) → blockSize ≤ length before
     → (writeRefusal (guestAt (p .guests) k) k (length before) ≡ fine)
     × (written (guestAt (p .guests) k) k before ≡ blockOf (guestAt (p .guests) k) k ++ drop blockSize before)
-written-so p ok k l before h =
+written-so p ok periodic k l before h =
     let i = plan-in p ok in
     let g : Guest = guestAt (p .guests) k in
     let n : 0 ≡ writeNumber g k (length before) =
     none g k (length before) h (omega (arith, i .few)) (head-passes (i .guests k l .head))
-    (tasks-pass g (i .guests k l)) in
+    (tasks-pass g (i .guests k l)) (not-false (isPeriodic g) (none-deferrable p periodic k l)) in
     (rw (← n) refl, sym (by-none _ (blockOf g k) before (sym n)))

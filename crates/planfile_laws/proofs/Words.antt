@@ -1,4 +1,4 @@
--- The words that the writer writes, one by one: the head, the entries, and zeros everywhere else. Assumes nothing.
+-- The words of a guest's block, one by one: the head, the entries, and zeros everywhere else. Assumes nothing.
 use mathlib.Core.Path.{_≡_, refl, _∙_}
 use mathlib.Core.List.{List}
 use Prim.Native.Nat.{ℕ, _≤_, _<_}

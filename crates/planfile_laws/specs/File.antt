@@ -14,7 +14,7 @@ use Rattle.plan.specs.Ranges.{mostGuests, mostTasks}
 use Rattle.blockwriter.specs.Writing.{serverFor, blockOf}
 use Rattle.blockfile.specs.Joined.{joined}
 
--- A plan's file: the blocks that the writer writes for its guests at places 0, 1, … and count - 1.
+-- A plan's file: the blocks of its guests at places 0, 1, … and count - 1. The writer writes those of Periodic guests.
 unfoldable pub fileOf : Plan → List ℕ
 fileOf p = joined (λ k. blockOf (guestAt (p .guests) k) k) (p .count)
 

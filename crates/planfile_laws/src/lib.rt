@@ -1,1 +1,1 @@
-// Theorems of plan files, about the definitions alone: what is written is read back, and only what is written is read.
+// Theorems of plan files, about the definitions alone: a plan's file is read back, and no other bytes read as it.

@@ -11,6 +11,7 @@ use Rattle.lists.specs.All.{allTo}
 use Rattle.plan.specs.declared.Guest.{Guest}
 use Rattle.plan.specs.Records.{runOf, everyOf, deadlineOf}
 use Rattle.plan.specs.Ranges.{mostTasks, guestOk, tasksOk, longest}
+use Rattle.plan.specs.Server.{isPeriodic}
 use Rattle.plan.specs.Charge.{chargedRun}
 use Rattle.arrays.specs.Ranges.{serverOk, noServer, jobOk, noJob}
 use Rattle.refusals.specs.Rows.{jobIn, blankAt, guestIsOk, rowIsBlank}
@@ -55,7 +56,7 @@ module _ (g : Guest) (k left position : ℕ) (rest wait age : List ℕ) where
   -- Where a guest's record is in order, its numbers decide.
   pub numbers-decide : {jobs : Bool} → guestOk g ≡ true → tasksOk g ≡ true
       → jobs ≡ allTo (jobIn rest wait age (g .run) (g .every) (g .charge) k (g .tasks)) mostTasks
-      → (serverOk (g .capacity) (g .period) left position && jobs) ≡ guestIsOk g k left position rest wait age
+      → ((isPeriodic g && serverOk (g .capacity) (g .period) left position) && jobs) ≡ guestIsOk g k left position rest wait age
   unfolding guestIsOk
   numbers-decide e f h = rw (e, f, h) refl
 

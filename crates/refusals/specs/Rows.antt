@@ -9,6 +9,7 @@ use Rattle.lists.specs.Places.{nth}
 use Rattle.lists.specs.All.{allTo}
 use Rattle.plan.specs.declared.Guest.{Guest}
 use Rattle.plan.specs.Ranges.{mostTasks, guestOk, tasksOk}
+use Rattle.plan.specs.Server.{isPeriodic}
 use Rattle.plan.specs.Charge.{chargedRun}
 use Rattle.arrays.specs.Place.{placeAt}
 use Rattle.arrays.specs.Ranges.{serverOk, noServer, jobOk, noJob}
@@ -25,11 +26,12 @@ jobIn rest wait age run every charge k many t =
 abbrev pub blankAt : (rest wait age : List ℕ) (k t : ℕ) → Bool
 blankAt rest wait age k t = noJob (nth rest (placeAt k t)) (nth wait (placeAt k t)) (nth age (placeAt k t))
 
--- whether guest g at place k is in its ranges: its record, its two numbers and those of its 16 places
+-- whether guest g at place k is in its ranges: its record, that it is Periodic, its two numbers and those of its 16
+-- places
 unfoldable pub guestIsOk : Guest → (k left position : ℕ) (rest wait age : List ℕ) → Bool
 guestIsOk g k left position rest wait age =
     (guestOk g && tasksOk g)
-    && (serverOk (g .capacity) (g .period) left position
+    && (isPeriodic g && serverOk (g .capacity) (g .period) left position
     && allTo (jobIn rest wait age (g .run) (g .every) (g .charge) k (g .tasks)) mostTasks)
 
 -- whether row k, past the guests, is blank

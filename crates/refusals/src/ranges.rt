@@ -78,7 +78,7 @@ fn jobs_ok(
     ok
 }
 
-// Guest g at place k: its record, its two numbers and those of its 16 places.
+// Guest g at place k: its record, that it is Periodic, its two numbers and those of its 16 places.
 pub fn guest_ok(
     g: Guest,
     k: usize,
@@ -101,7 +101,7 @@ pub fn guest_ok(
     if !plan::tasks_ok(g.marks, g.period, &run, &every, &deadline, many) {
         return false;
     }
-    let server = (left <= g.capacity) & (position < g.period);
+    let server = (g.deferrable == 0) & ((left <= g.capacity) & (position < g.period));
     server & jobs_ok(rest, wait, age, &run, &every, g.charge, k, many)
 }
 

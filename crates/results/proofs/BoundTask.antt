@@ -25,7 +25,7 @@ pub bound-finished :
     (ds : List Call)
     → 24 ≤ ticksIn ds (released (planE 1) 9 1 [])
     → FinishedBy 24 60 9 1 ds (released (planE 1) 9 1 [])
-bound-finished = rw (computed .place-E) at (finished-by-R (planE 1) 9 1 24 bound-24 [] (computed .taken-E))
+bound-finished = rw (computed .place-E) at (finished-by-R (planE 1) 9 1 24 bound-24 (computed .can-E) [] (computed .taken-E))
 
 -- When its 60 ticks have passed, its guest, of period 20, stands at position 0 again.
 pub bound-back :
@@ -33,7 +33,7 @@ pub bound-back :
     → ticksIn ds (released (planE 1) 9 1 []) ≡ 60
     → positionBy (planE 1) 9 (play ds (released (planE 1) 9 1 [])) ≡ 0
 bound-back ds e =
-    back-at-0 (planE 1) (computed .there-E .order) 9 1 [] (computed .taken-E) ds (computed .bound-E) 1
+    back-at-0 (planE 1) (computed .can-E) 9 1 [] (computed .taken-E) ds (computed .bound-E) 1
     (omega (arith, computed .every-E))
 
 -- So its next release is taken then.
@@ -43,5 +43,5 @@ pub bound-again :
     → ticksIn ds (released (planE 1) 9 1 []) ≡ 60
     → release (play ds (released (planE 1) 9 1 [])) 9 1 .refusal .number ≡ 0
 bound-again ds none e =
-    next-taken (planE 1) 9 1 24 bound-24 [] (computed .taken-E) ds none
+    next-taken (planE 1) 9 1 24 bound-24 (computed .can-E) [] (computed .taken-E) ds none
     (omega (arith, computed .every-E)) (λ b. bound-back ds e)

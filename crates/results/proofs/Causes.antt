@@ -2,7 +2,7 @@
 -- writer, and when not. `A notBut B`: the cause A, which is asked earlier, does not hold, but B does. When 9 and 10
 -- are given, and 17, stands in Dispatcher.
 use mathlib.Core.Path.{_≡_}
-use mathlib.Core.Bool.{Bool}
+use mathlib.Core.Bool.{Bool, true}
 use mathlib.Core.List.{List, []}
 use Prim.Native.Nat.{ℕ, suc, _<_}
 use lib.ListN.{length}
@@ -20,8 +20,11 @@ use Rattle.blockfile.specs.File.{blockAt, idAt, blocksIn, numberAt, blocksRefus
 use Rattle.planfile.specs.Finder.{foundPlace, found}
 use Rattle.planfile_laws.specs.Causes.{Outside, WrongLength, WrongSum, WrongOpening, WrongHead, WrongGuest, WrongZero, WrongTask}
 use Rattle.planfile_laws.specs.Exact.{FirstAt}
+use Rattle.plan.specs.Periodic.{startRefusal}
+use Rattle.plan.specs.Server.{isDeferrable}
 use Rattle.planfile_laws.proofs.Exact as exact
 use Rattle.planfile_laws.proofs.ExactRecords as records
+use Rattle.plan.proofs.PeriodicLaws as starting
 
 -- Blocks one after the other: a plan's bytes, where places count (`placed` is true, and `fileRefusal` is this), or a
 -- sheet's, where they do not.
@@ -157,3 +160,26 @@ module _ (g : Guest) (place size : ℕ) where
       (writeNumber g place size ≡ 6)
       exactlyWhen ((size < blockSize) notBut (lastPlace < place) notBut WrongHead g notBut WrongTask g)
   write-six = records.write-six g place size
+
+  -- 23: the guest is Deferrable.
+  pub write-twenty-three :
+      (writeNumber g place size ≡ 23)
+      exactlyWhen (
+      (size < blockSize)
+      notBut (lastPlace < place)
+      notBut WrongHead g
+      notBut WrongTask g
+      notBut (isDeferrable g ≡ true))
+  write-twenty-three = records.write-twenty-three g place size
+
+-- A fresh start is refused as its records are.
+pub start-records-first : (p : Plan) → 0 < planRefusal p .number → planRefusal p ≡ startRefusal p
+start-records-first = starting.records-refused
+
+-- 23, from records in order: a guest of the plan is Deferrable.
+pub start-twenty-three :
+    (p : Plan)
+    → planRefusal p .number ≡ 0
+    → (startRefusal p ≡ refused 23 0)
+    exactlyWhen ((k : ℕ) × ((k < p .count) × (isDeferrable (guestAt (p .guests) k) ≡ true)))
+start-twenty-three = records.start-twenty-three

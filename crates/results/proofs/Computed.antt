@@ -20,7 +20,7 @@ use Rattle.plan.specs.First.{orElse, firstRefused, refusedBy}
 use Rattle.plan.specs.Order.{newId, numberOf, guestNumber, countedBy, planRefusal, recordsThen}
 use Rattle.plan.specs.Placed.{withGuest}
 use Rattle.plan.specs.Place.{placeOf, hasGuest, hasTask}
-use Rattle.plan.specs.Server.{isDeferrable}
+use Rattle.plan.specs.Periodic.{allPeriodic, startRefusal, converted}
 use Rattle.plan.specs.Ranges.{headOk, taskOk, startOk, tasksOk}
 use Rattle.margins.specs.Margin.{marginOf}
 use Rattle.response.specs.Interference.{jitter, interference}
@@ -33,7 +33,7 @@ use Rattle.capacity.specs.Answer.{smallestCapacity}
 use Rattle.dispatcher.specs.Valid.{tasksIn, guestInRange, taskInRange, rowOk, stateOk}
 use Rattle.dispatcher.specs.Fresh.{idle, startedBy, fresh}
 use Rattle.dispatcher.specs.Release.{taken, releaseNumber, releasedBy, release}
-use Rattle.dispatcher.specs.Tick.{lessAt, refilled, firstTask, claims, holder, isHeld, leftAfter, worker, isWorked, restAfter, ageAfter, waitAfter, positionAfter, next}
+use Rattle.dispatcher.specs.Tick.{lessAt, refilled, holder, isHeld, leftAfter, worker, isWorked, restAfter, ageAfter, waitAfter, positionAfter, next}
 use Rattle.dispatcher.specs.Answer.{answerBy, answer, finishes}
 use Rattle.dispatcher.specs.Run.{runFrom, runFor}
 use Rattle.dispatcher.specs.Entries.{tickedBy, tick, ranBy, run}
@@ -41,8 +41,8 @@ use Rattle.sheet.specs.Sheet.{stateAfter, answerTo, sheetNumber, sheetBy, sheet
 use Rattle.lists.specs.Table.{table}
 use Rattle.lists.specs.Places.{upTo}
 use Rattle.results.specs.Numbers.{Numbers}
-use Rattle.history.specs.Calls.{running, start, after, play, times}
-use Rattle.history.specs.Named.{guestBy, boundBy, everyBy}
+use Rattle.history.specs.Calls.{running, start, after, play, times, CanStart}
+use Rattle.history.specs.Named.{boundBy, everyBy}
 use Rattle.verdict_laws.specs.Guests.{There}
 use Rattle.worked.specs.Plans.{A, A35, planB, planD, planE}
 use Rattle.amendment_laws.proofs.Worked.{answers-7}
@@ -69,9 +69,11 @@ pub record Computed : Type 0 where
   -- The guest 1/1000 of case 7.
   pub there-gap : There planD 7 0
   pub place-gap : placeOf planD 7 ≡ 0
-  -- Both guests of plan A are Periodic.
-  pub periodic-A : isDeferrable (guestBy A 9) ≡ false
-  pub periodic-top : isDeferrable (guestBy A 7) ≡ false
+  -- These plans can be started.
+  pub can-A : CanStart A
+  pub can-A35 : CanStart A35
+  pub can-E : CanStart (planE 1)
+  pub can-gap : CanStart planD
   -- Guest 9's tasks of plan A are not bound, nor is the task of case 7; with the first mark the first task is.
   pub unbound-A : boundBy A 9 2 ≡ false
   pub unbound-gap : boundBy planD 7 1 ≡ false
@@ -91,11 +93,11 @@ pub record Computed : Type 0 where
 -- 99 ticks computed.
 pub computed : Computed
 unfolding marked mayStart startOk gapFor allTo unless refusal least firstFrom sumTo up asked solve guestSide guestUnder load rightAt right
-    responseOf taskUnder chargedRun orElse firstRefused newId numberOf guestNumber countedBy planRefusal placeOf
+    responseOf taskUnder chargedRun orElse firstRefused newId numberOf guestNumber countedBy planRefusal allPeriodic startRefusal converted placeOf
     headOk taskOk tasksOk jitter interference guestResponse fitted fittedTo gap taskRight responseTo limit
     taskResponse hasGuest hasTask recordsThen refusedBy guestVerdict quotedBy taskSays taskVerdict met allMet
     accepted acceptSays acceptance withGuest works smallest smallestCapacity upTo tasksIn guestInRange
-    taskInRange rowOk stateOk idle startedBy fresh taken releaseNumber releasedBy release lessAt refilled firstTask claims holder
+    taskInRange rowOk stateOk idle startedBy fresh taken releaseNumber releasedBy release lessAt refilled holder
     isHeld leftAfter worker isWorked restAfter ageAfter waitAfter positionAfter next marginOf answerBy answer
     finishes runFrom runFor ranBy run tickedBy tick after play times table stateAfter answerTo sheetNumber
     sheetBy sheet answeredBy answered
@@ -131,7 +133,7 @@ computed = record {
     released-at-0 = refl;
     released-at-14 = refl;
     again-after-49 = early-again A 9 1 refl (running 14 ∷ []) refl 49 (omega arith) (λ b. absurd (false≢true b));
-    again-after-50 = due-again A 9 1 36 refl (running 14 ∷ []) refl 50 (omega arith) (λ b. absurd (false≢true b));
+    again-after-50 = due-again A 9 1 36 refl refl (running 14 ∷ []) refl 50 (omega arith) (λ b. absurd (false≢true b));
     sheet-answers = refl;
     amended-first = answers-7 .task 9 1;
     amended-second = answers-7 .task 9 2;
@@ -164,8 +166,11 @@ computed = record {
     deferrable-second-bound-second = refl;
     deferrable-both-bound-first = refl;
     deferrable-both-bound-second = refl;
-    deferrable-passed-over = refl;
-    deferrable-works = refl;
+    deferrable-start = refl;
+    deferrable-state = refl;
+    converted-second = refl;
+    converted-first-task = refl;
+    converted-second-task = refl;
     told-line = logs.told-line;
     first-line = logs.first-line;
     second-line = logs.second-line;
@@ -182,8 +187,10 @@ computed = record {
   there-none = record { order = refl; place = omega arith; named = refl };
   there-gap = record { order = refl; place = omega arith; named = refl };
   place-gap = refl;
-  periodic-A = refl;
-  periodic-top = refl;
+  can-A = refl;
+  can-A35 = refl;
+  can-E = refl;
+  can-gap = refl;
   unbound-A = refl;
   unbound-gap = refl;
   bound-E = refl;

@@ -8,7 +8,7 @@ use Rattle.lists.specs.Refusals.{unless, refusal}
 use Rattle.lists.specs.Search.{firstFrom}
 use Rattle.plan.specs.Charge.{chargedRun}
 use Rattle.plan.specs.First.{orElse, firstRefused}
-use Rattle.plan.specs.Order.{newId, numberOf, guestNumber, countedBy, planRefusal}
+use Rattle.plan.specs.Order.{newId, numberOf, guestNumber, countedBy, planRefusal, recordsThen}
 use Rattle.plan.specs.Marks.{marked, mayStart}
 use Rattle.plan.specs.Place.{placeOf, hasGuest, hasTask}
 use Rattle.plan.specs.Ranges.{headOk, taskOk, startOk, tasksOk}
@@ -16,7 +16,7 @@ use Rattle.margins.specs.Margin.{marginOf}
 use Rattle.dispatcher.specs.Valid.{tasksIn, guestInRange, taskInRange, rowOk, stateOk}
 use Rattle.dispatcher.specs.Fresh.{idle, startedBy, fresh}
 use Rattle.dispatcher.specs.Release.{taken, releaseNumber, releasedBy, release}
-use Rattle.dispatcher.specs.Tick.{lessAt, refilled, firstTask, claims, holder, isHeld, leftAfter, worker, isWorked, restAfter, ageAfter, waitAfter, positionAfter, next}
+use Rattle.dispatcher.specs.Tick.{lessAt, refilled, holder, isHeld, leftAfter, worker, isWorked, restAfter, ageAfter, waitAfter, positionAfter, next}
 use Rattle.dispatcher.specs.Answer.{answerBy, answer, finishes}
 use Rattle.dispatcher.specs.Run.{runFrom, runFor}
 use Rattle.dispatcher.specs.Entries.{tickedBy, tick, ranBy, run}
@@ -28,6 +28,7 @@ use Rattle.independence.specs.SameFor.{SameFor}
 use Rattle.independence.specs.View.{told, toldAll, answeredIf, seesPairs, seesSheet, sees, view}
 use Rattle.worked.specs.Plans.{A}
 use Rattle.results.specs.Views.{Views, crowded, before, quiet, pressed, beset, sheeted}
+use Rattle.plan.specs.Periodic.{allPeriodic, startRefusal}
 
 -- The views, that the crowded plan is the same for guest 9, and that its histories have no run and ask the same for it.
 pub record ComputedViews : Type 0 where
@@ -44,8 +45,8 @@ pub record ComputedViews : Type 0 where
 -- Each part is computed by the definitions.
 pub computed : ComputedViews
 unfolding marked mayStart startOk upTo allTo unless refusal firstFrom chargedRun orElse firstRefused newId numberOf guestNumber
-    countedBy planRefusal placeOf hasGuest hasTask headOk taskOk tasksOk tasksIn guestInRange taskInRange
-    rowOk stateOk idle startedBy fresh taken releaseNumber releasedBy release lessAt refilled firstTask claims holder isHeld
+    countedBy planRefusal recordsThen allPeriodic startRefusal placeOf hasGuest hasTask headOk taskOk tasksOk tasksIn guestInRange taskInRange
+    rowOk stateOk idle startedBy fresh taken releaseNumber releasedBy release lessAt refilled holder isHeld
     leftAfter worker isWorked restAfter ageAfter waitAfter positionAfter next marginOf answerBy answer
     finishes runFrom runFor tickedBy tick ranBy run sheetNumber sheetBy sheet after times singles listed
     NoRuns ownIf asksPairs asksSheet asks own told toldAll answeredIf seesPairs seesSheet sees view before
@@ -65,17 +66,15 @@ computed = record {
     same-run = refl;
     stopped = refl;
     not-stopped = refl;
-    left-to-it = refl;
-    taken-away = refl;
   };
   same-crowded = record {
     here = record { order = refl; place = omega arith; named = refl };
     there = record { order = refl; place = omega arith; named = refl };
+    starts = refl;
+    other-starts = refl;
     same = refl;
     capacities = λ j l. (let z : j ≡ 0 = omega arith in rw z refl);
     periods = λ j l. (let z : j ≡ 0 = omega arith in rw z refl);
-    periodic-here = λ j l. (let z : j ≡ 0 = omega arith in rw z refl);
-    periodic-there = λ j l. (let z : j ≡ 0 = omega arith in rw z refl);
   };
   singly-quiet = tt;
   singly-pressed = tt;

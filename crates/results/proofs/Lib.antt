@@ -4,6 +4,7 @@
 pub mod Refusals
 pub mod Causes
 pub mod PlanFiles
+pub mod Conversion
 pub mod Verdicts
 pub mod Amendments
 pub mod Ordering

@@ -41,14 +41,14 @@ pub guest-9-has-8 :
     (cs : List Call) (k : ℕ)
     → suc k * 20 ≤ ticksIn cs (start A)
     → share 9 (answers cs (start A)) (k * 20) 20 ≡ 8
-guest-9-has-8 = rw (computed .place-A) at (sure-of-capacity A 9 14 (numbers .second) (computed .periodic-A))
+guest-9-has-8 = rw (computed .place-A) at (sure-of-capacity A 9 14 (numbers .second) (computed .can-A))
 
 -- Guest 9 has had these 8 by the 14th tick of each 20, its response.
 pub guest-9-by-14 :
     (cs : List Call) (k : ℕ)
     → k * 20 + 14 ≤ ticksIn cs (start A)
     → share 9 (answers cs (start A)) (k * 20) 14 ≡ 8
-guest-9-by-14 = rw (computed .place-A) at (had-by-response A 9 14 (numbers .second) (computed .periodic-A))
+guest-9-by-14 = rw (computed .place-A) at (had-by-response A 9 14 (numbers .second) (computed .can-A))
 
 -- The second task of guest 9 being quoted, guest 7 above it is sure of 2 in each 5 ticks.
 pub guest-7-has-2 :
@@ -57,16 +57,16 @@ pub guest-7-has-2 :
     → share 7 (answers cs (start A)) (k * 5) 5 ≡ 2
 guest-7-has-2 =
     rw (computed .place-top) at
-    (quoted-sure A 9 2 80 second-80 7 (rw (computed .place-top, computed .place-A) (omega arith)) (computed .periodic-top))
+    (quoted-sure A 9 2 80 second-80 (computed .can-A) 7 (rw (computed .place-top, computed .place-A) (omega arith)))
 
 -- In every history an unfinished job of guest 9's second task is younger than 80.
 pub second-below-80 : (cs : List Call) → 0 < restBy A 9 2 (play cs (start A)) → ageBy A 9 2 (play cs (start A)) < 80
-second-below-80 = younger A 9 2 80 second-80
+second-below-80 = younger A 9 2 80 second-80 (computed .can-A)
 
 -- Whatever is called before, the first release of that task is taken.
 pub second-taken : (cs : List Call) → NoneTaken 9 2 cs (start A) → release (play cs (start A)) 9 2 .refusal .number ≡ 0
 second-taken cs none =
-    first-taken A 9 2 80 second-80 cs none (unbound-here A 9 2 (play cs (start A)) (computed .unbound-A))
+    first-taken A 9 2 80 second-80 (computed .can-A) cs none (unbound-here A 9 2 (play cs (start A)) (computed .unbound-A))
 
 -- Released at the start, it has been told finished after 80 ticks, however they are called for, 20 ticks or more
 -- before its deadline.
@@ -74,7 +74,7 @@ pub second-finished :
     (ds : List Call)
     → 80 ≤ ticksIn ds (released A 9 2 [])
     → FinishedBy 80 100 9 2 ds (released A 9 2 [])
-second-finished = rw (computed .place-A) at (finished-by-R A 9 2 80 second-80 [] (computed .taken-A))
+second-finished = rw (computed .place-A) at (finished-by-R A 9 2 80 second-80 (computed .can-A) [] (computed .taken-A))
 
 -- Released at the start, that task is refused by 9 exactly before 100 ticks are done.
 pub second-nine :
@@ -83,7 +83,7 @@ pub second-nine :
     → (release (play ds (released A 9 2 [])) 9 2 .refusal .number ≡ 9)
     exactlyWhen (ticksIn ds (released A 9 2 []) < 100)
 second-nine ds none =
-    let N = nine-exactly A (computed .there-A .order) 9 2 [] (computed .taken-A) ds none in
+    let N = nine-exactly A (computed .can-A) 9 2 [] (computed .taken-A) ds none in
     let here = unbound-here A 9 2 (play ds (released A 9 2 [])) (computed .unbound-A) in
     rw (computed .place-A) at (without here N)
 
@@ -96,7 +96,7 @@ pub late-finished :
     (ds : List Call)
     → 36 ≤ ticksIn ds (released A35 9 1 [])
     → FinishedBy 36 35 9 1 ds (released A35 9 1 [])
-late-finished = rw (computed .place-A35) at (finished-by-R A35 9 1 36 first-36 [] (computed .taken-A35))
+late-finished = rw (computed .place-A35) at (finished-by-R A35 9 1 36 first-36 (computed .can-A35) [] (computed .taken-A35))
 
 -- Its margin there is -1 or more: the deadline 35 less 36.
 pub late-margin : marginOf 35 36 ≡ negsuc 0
@@ -110,7 +110,7 @@ pub case-7-ten :
     → (release (play ds (released planD 7 1 [])) 7 1 .refusal .number ≡ 10)
     exactlyWhen ((10 ≤ ticksIn ds (released planD 7 1 [])) × (0 < restAt (play ds (released planD 7 1 [])) 0 0))
 case-7-ten ds none =
-    let N = ten-exactly planD (computed .there-gap .order) 7 1 [] (computed .taken-gap) ds none in
+    let N = ten-exactly planD (computed .can-gap) 7 1 [] (computed .taken-gap) ds none in
     let here = unbound-here planD 7 1 (play ds (released planD 7 1 [])) (computed .unbound-gap) in
     rw (computed .place-gap) at (without here N)
 

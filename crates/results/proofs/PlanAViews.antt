@@ -8,10 +8,9 @@ use lib.ListN.{getD}
 use Rattle.history.specs.Calls.{releasing, running, start, times}
 use Rattle.independence.specs.Event.{Event, answered, elsewhere, idled, worked, finished}
 use Rattle.independence.specs.Own.{only}
-use Rattle.independence.specs.SameFor.{SameFor}
 use Rattle.independence.specs.View.{view}
 use Rattle.worked.specs.Plans.{A}
-use Rattle.results.specs.Views.{Views, planWith, crowded, quiet, pressed, beset, sheeted, shown, deferring}
+use Rattle.results.specs.Views.{Views, planWith, crowded, quiet, pressed, beset, sheeted, shown}
 use Rattle.independence.proofs.Independence.{same-itself}
 use Rattle.results.proofs.ComputedViews.{computed}
 use Rattle.results.proofs.Independence.{independence, alone}
@@ -20,14 +19,10 @@ use Rattle.results.proofs.Independence.{independence, alone}
 pub views : Views
 views = computed .views
 
--- Plan A is the same as itself for guest 9, whose guest above is Periodic.
-itself : SameFor 9 1 A A
-itself = same-itself (computed .same-crowded .here) (computed .same-crowded .periodic-here)
-
 -- Beside a guest 7 whose task is released at every chance, guest 9 can tell the same.
 pub beside-pressed : view 9 pressed (start A) ≡ shown
 beside-pressed =
-    independence 9 1 A A itself pressed quiet (computed .singly-pressed)
+    independence 9 1 A A (same-itself (computed .same-crowded .here) (computed .same-crowded .starts)) pressed quiet (computed .singly-pressed)
     (computed .singly-quiet) (computed .asked-pressed)
     ∙ views .unreleased
 
@@ -44,14 +39,14 @@ in-the-crowd =
 -- single releases.
 pub on-sheets : view 9 sheeted (start A) ≡ shown
 on-sheets =
-    independence 9 1 A A itself sheeted quiet (computed .singly-sheeted)
+    independence 9 1 A A (same-itself (computed .same-crowded .here) (computed .same-crowded .starts)) sheeted quiet (computed .singly-sheeted)
     (computed .singly-quiet) (computed .asked-sheeted)
     ∙ views .unreleased
 
 -- With all releases of guest 7 taken away, guest 9 can tell the same.
 pub without-the-pressed : view 9 (only 9 pressed) (start A) ≡ shown
 without-the-pressed =
-    alone 9 1 A (computed .same-crowded .here) (computed .same-crowded .periodic-here) pressed (computed .singly-pressed)
+    alone 9 1 A (computed .same-crowded .here) (computed .same-crowded .starts) pressed (computed .singly-pressed)
     ∙ beside-pressed
 
 -- ---- what does show
@@ -94,12 +89,6 @@ record-shows = differ 3 (views .own-8) (views .own-1) refl refl
 pub release-shows : view 9 (releasing 9 1 ∷ times 3) (start A) ≡ view 9 (times 3 ++ (releasing 9 1 ∷ [])) (start A) → ⊥
 unfolding isElsewhere
 release-shows = differ 0 (views .sooner) (views .later) refl refl
-
--- A Deferrable guest above shows by its releases: why independence is for guests under Periodic ones.
-pub deferrable-shows :
-    view 9 (times 1) (start deferring) ≡ view 9 (releasing 7 1 ∷ times 1) (start deferring) → ⊥
-unfolding isElsewhere
-deferrable-shows = differ 0 (views .left-to-it) (views .taken-away) refl refl
 
 -- Another guest's release shows in a run of several ticks, which stops at that guest's finish.
 pub run-shows : view 9 (running 4 ∷ []) (start A) ≡ view 9 (releasing 7 1 ∷ running 4 ∷ []) (start A) → ⊥

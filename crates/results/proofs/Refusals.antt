@@ -5,7 +5,7 @@ use mathlib.Core.Path.{_≡_}
 use mathlib.Core.List.{List}
 use Prim.Native.Nat.{ℕ, _<_}
 use lib.ListN.{length}
-use Rattle.plan.specs.Order.{planRefusal}
+use Rattle.plan.specs.Periodic.{startRefusal}
 use Rattle.plan.specs.declared.Guest.{Guest}
 use Rattle.plan.specs.declared.Plan.{Plan}
 use Rattle.blockwriter.specs.Writing.{writeRefusal, written}
@@ -28,7 +28,7 @@ call-alters-nothing = refusals.alters-nothing
 -- A refused start gives a state that every call refuses as 14, whatever is called before.
 pub refused-start :
     (p : Plan)
-    → 0 < planRefusal p .number
+    → 0 < startRefusal p .number
     → (cs : List Call) (c : Call)
     → callNumber c (play cs (start p)) ≡ 14
 refused-start = refusals.refused-start

@@ -14,7 +14,7 @@ use Rattle.dispatcher.specs.declared.Dispatcher.{Dispatcher}
 use Rattle.dispatcher.specs.Release.{release}
 use Rattle.dispatcher.specs.Valid.{stateOk}
 use Rattle.sheet.specs.Sheet.{mostPairs, pairGuest, pairTask, answerTo, sheet, answered}
-use Rattle.history.specs.Calls.{Call, sheeting, start, after, play, released, ticksIn, NoneTaken}
+use Rattle.history.specs.Calls.{Call, sheeting, start, after, play, released, ticksIn, NoneTaken, CanStart}
 use Rattle.history.specs.Finished.{FinishedBy}
 use Rattle.history.specs.Named.{everyBy, deadlineBy, StartsHere}
 use Rattle.history.specs.Sheets.{releases, upToPair, PairOf, NotBefore}
@@ -71,7 +71,7 @@ twelve-exactly = causes.twelve-exactly
 -- Our word covers each pair: `PairOf d pairs room i id number` says that the sheet is not refused whole in the state
 -- d and that its pair i is a release of that task, and `NotBefore` that no earlier pair of the sheet that is one was
 -- taken.
-module _ (p : Plan) (id number R : ℕ) (quoted : Quoted p id number R) where
+module _ (p : Plan) (id number R : ℕ) (quoted : Quoted p id number R) (can : CanStart p) where
   module _ (cs : List Call) (ps : List ℕ) (room i : ℕ) (Q : PairOf (play cs (start p)) ps room i id number) where
     -- A pair that is taken is finished by the R-th tick after the sheet.
     pub pair-finished-by-R :
@@ -79,7 +79,7 @@ module _ (p : Plan) (id number R : ℕ) (quoted : Quoted p id number R) where
         → (ds : List Call)
         → R ≤ ticksIn ds (after (sheeting ps room) (play cs (start p)))
         → FinishedBy R (deadlineBy p id number) id number ds (after (sheeting ps room) (play cs (start p)))
-    pair-finished-by-R = pairs.pair-finished-by-R p id number R quoted cs ps room i Q
+    pair-finished-by-R = pairs.pair-finished-by-R p id number R quoted can cs ps room i Q
 
     -- A pair is taken if no release of the task was taken before, where it may start.
     pub pair-first-taken :
@@ -87,11 +87,11 @@ module _ (p : Plan) (id number R : ℕ) (quoted : Quoted p id number R) where
         → StartsHere p id number (play cs (start p))
         → NotBefore (play cs (start p)) ps i id number
         → answerTo (play cs (start p)) ps i ≡ 0
-    pair-first-taken = pairs.pair-first-taken p id number R quoted cs ps room i Q
+    pair-first-taken = pairs.pair-first-taken p id number R quoted can cs ps room i Q
 
     -- A pair is never refused by 10.
     pub pair-never-10 : answerTo (play cs (start p)) ps i ≡ 10 → ⊥
-    pair-never-10 = pairs.pair-never-10 p id number R quoted cs ps room i Q
+    pair-never-10 = pairs.pair-never-10 p id number R quoted can cs ps room i Q
 
   -- A pair is taken if at least the task's period of ticks was done since the last release of it that was taken, where
   -- it may start.
@@ -106,4 +106,4 @@ module _ (p : Plan) (id number R : ℕ) (quoted : Quoted p id number R) where
       → PairOf (play ds (released p id number cs)) ps room i id number
       → NotBefore (play ds (released p id number cs)) ps i id number
       → answerTo (play ds (released p id number cs)) ps i ≡ 0
-  pair-next-taken = pairs.pair-next-taken p id number R quoted
+  pair-next-taken = pairs.pair-next-taken p id number R quoted can

@@ -29,6 +29,7 @@ use Rattle.statement_laws.specs.Taken.{statementAfter, countedEntries, countedB
 use Rattle.statement_laws.specs.Told.{EachTold, toldMargins}
 use Rattle.logblock_laws.specs.Entries.{JobsInTypes, ReadBack, entriesIn}
 use Rattle.logblock_laws.specs.Table.{LogInBytes}
+use Rattle.history.specs.Calls.{CanStart}
 use Rattle.logblock_laws.proofs.Back as back
 use Rattle.logblock_laws.proofs.Only as only
 use Rattle.logblock_laws.proofs.Table as table
@@ -72,25 +73,26 @@ module _ (plan : List ℕ) (logs : List (List ℕ)) where
 
   -- What makes a statement worth having. Let each entry that was counted be a finish that the dispatcher told, in some
   -- history from a fresh start of the plan.
-  module _ (told : EachTold (readOf plan .plan) (countedEntries plan logs empty)) (id number R : ℕ) where
+  module _ (can : CanStart (readOf plan .plan))
+      (told : EachTold (readOf plan .plan) (countedEntries plan logs empty)) (id number R : ℕ) where
     -- The longest age of a task that is quoted R is at most R.
     pub longest-within-R :
         Quoted (readOf plan .plan) id number R
         → nth (statementAfter plan logs empty .longest) (taskLine (readOf plan .plan) id number) ≤ R
-    longest-within-R = telling.longest-within-R plan logs told id number R
+    longest-within-R = telling.longest-within-R plan logs can told id number R
 
     -- The sum in its line is that of the margins that the dispatcher told.
     pub sum-as-told :
         Quoted (readOf plan .plan) id number R
         → marginsAt (statementAfter plan logs empty) (taskLine (readOf plan .plan) id number)
         ≡ toldMargins (readOf plan .plan) id number (countedEntries plan logs empty) told
-    sum-as-told = telling.sum-as-told plan logs told id number R
+    sum-as-told = telling.sum-as-told plan logs can told id number R
 
     -- A task that is met has none late.
     pub met-none-late :
         taskVerdict (readOf plan .plan) id number ≡ Met R
         → nth (statementAfter plan logs empty .late) (taskLine (readOf plan .plan) id number) ≡ 0
-    met-none-late = telling.met-none-late plan logs told id number R
+    met-none-late = telling.met-none-late plan logs can told id number R
 
 -- A log cut between blocks: the outcome of the whole is that of its two parts told as one, with the same statement, as
 -- many passed over, and the first of them at its position in the whole.

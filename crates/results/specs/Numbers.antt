@@ -3,6 +3,8 @@ use mathlib.Core.Path.{_≡_}
 use mathlib.Core.List.{[], _∷_}
 use lib.IntN.{pos, negsuc}
 use Rattle.worked.specs.Plans.{planOf, top, nine, planA, A, A35, planB, planC, planD, planE, planF, planG}
+use Rattle.plan.specs.First.{refused}
+use Rattle.plan.specs.Periodic.{converted}
 use Rattle.blockwriter.specs.Writing.{blockOf}
 use Rattle.planfile_laws.specs.File.{fileOf}
 use Rattle.amendment.specs.Pair.{inPlan, inSheet, pairRefusal}
@@ -16,7 +18,8 @@ use Rattle.verdict.specs.Verdict.{guestVerdict, taskVerdict, acceptance}
 use Rattle.capacity.specs.declared.CapacityAnswer.the-variants.{Refused, Smallest}
 use Rattle.capacity.specs.Capacity.{withCapacity}
 use Rattle.capacity.specs.Answer.{smallestCapacity}
-use Rattle.dispatcher.specs.declared.Answer.the-variants.{Nobody, Worked, Finished}
+use Rattle.dispatcher.specs.declared.Answer.the-variants.{Finished}
+use Rattle.dispatcher.specs.Fresh.{idle, fresh}
 use Rattle.dispatcher.specs.Release.{release}
 use Rattle.dispatcher.specs.Entries.{tick, run}
 use Rattle.sheet.specs.Sheet.{answered}
@@ -115,10 +118,12 @@ pub record Numbers : Type 0 where
   pub deferrable-second-bound-second : taskVerdict (planG 60 2) 9 2 ≡ Met 46
   pub deferrable-both-bound-first : taskVerdict (planG 60 3) 9 1 ≡ Met 26
   pub deferrable-both-bound-second : taskVerdict (planG 60 3) 9 2 ≡ Met 46
-  -- A Deferrable guest without work is passed over, and has no idled tick: nobody has the first tick; released before
-  -- the third, guest 9's first task has it.
-  pub deferrable-passed-over : tick (start (planG 50 0)) .answer ≡ Nobody
-  pub deferrable-works : tick (released (planG 50 0) 9 1 (times 2)) .answer ≡ Worked 9 1
+  -- P13: such a plan is not started, a state that holds it is refused, and converted it has plan A's responses.
+  pub deferrable-start : fresh (planG 50 0) .refusal ≡ refused 23 0
+  pub deferrable-state : tick (idle (planG 50 0)) .refusal ≡ refused 14 0
+  pub converted-second : guestVerdict (converted (planG 50 0)) 9 ≡ Fitted 14
+  pub converted-first-task : taskVerdict (converted (planG 50 0)) 9 1 ≡ Met 36
+  pub converted-second-task : taskVerdict (converted (planG 50 0)) 9 2 ≡ Met 80
   -- P10: The two finishes of case 8, logged: 2 jobs, the longest age 30, none late, margins 26 and 20. Then five jobs of
   -- guest 9, with a block of zeros behind them, which is passed over at position 1 by 3: of its first task one is late
   -- by a tick, of its second one by 60.

@@ -10,7 +10,7 @@ use Rattle.history.specs.Calls.{Call, releasing, ticking, running, sheeting, st
 use Rattle.independence.specs.Event.{Event, answered, elsewhere, idled, worked, finished}
 use Rattle.independence.specs.Own.{own}
 use Rattle.independence.specs.View.{view}
-use Rattle.worked.specs.Plans.{A, anyGuest, guest, planOf}
+use Rattle.worked.specs.Plans.{A, guest, planOf}
 
 -- Plan A with this capacity and period of guest 7, and this capacity of guest 9.
 abbrev pub planWith : (capacity period below : ℕ) → Plan
@@ -28,14 +28,6 @@ crowded =
     (guest 8 2 5 9 (40 ∷ 3 ∷ []) (50 ∷ 5 ∷ []) (41 ∷ 4 ∷ [])
     ∷ guest 9 8 20 0 (10 ∷ 8 ∷ []) (50 ∷ 100 ∷ []) (50 ∷ 100 ∷ [])
     ∷ guest 11 6 10 0 (5 ∷ []) (5 ∷ []) (5 ∷ [])
-    ∷ [])
-
--- Plan A with a Deferrable guest 7.
-abbrev pub deferring : Plan
-deferring =
-    planOf
-    (anyGuest 7 2 5 0 0 1 (1 ∷ []) (20 ∷ []) (20 ∷ [])
-    ∷ guest 9 8 20 0 (10 ∷ 8 ∷ []) (50 ∷ 100 ∷ []) (50 ∷ 100 ∷ [])
     ∷ [])
 
 -- These calls before each of n ticks.
@@ -115,6 +107,3 @@ pub record Views : Type 0 where
   pub same-run : own 9 (releasing 7 1 ∷ running 4 ∷ []) ≡ own 9 (running 4 ∷ [])
   pub stopped : view 9 (releasing 7 1 ∷ running 4 ∷ []) (start A) ≡ elsewhere ∷ []
   pub not-stopped : view 9 (running 4 ∷ []) (start A) ≡ elsewhere ∷ elsewhere ∷ idled ∷ idled ∷ []
-  -- A Deferrable guest 7 above shows: without a release it leaves the first tick to guest 9, and has it with one.
-  pub left-to-it : view 9 (times 1) (start deferring) ≡ idled ∷ []
-  pub taken-away : view 9 (releasing 7 1 ∷ times 1) (start deferring) ≡ elsewhere ∷ []

@@ -1,13 +1,13 @@
 -- A block moved, word by word, and how the code comes to it. Assumes nothing.
 use mathlib.Core.Path.{_≡_, refl, sym, ap, _∙_}
 use mathlib.Core.Bool.{true}
-use mathlib.Core.List.{List, [], _∷_, _++_, append-nil, append-assoc}
-use Prim.Native.Nat.{ℕ, zero, suc, _+_, _*_, _-_, _/_, _%_, _≤_, _<_}
+use mathlib.Core.List.{List, [], _∷_, _++_}
+use Prim.Native.Nat.{ℕ, zero, suc, _+_, _*_, _/_, _%_, _≤_, _<_}
 use native.Mathlib.Nat.{mod-eq-of-lt}
 use native.Mathlib.Numerals.{add-one}
 use native.Mathlib.Omega.{arith}
-use lib.ListN.{length, set, take, drop, length-append, length-drop}
-use lib.Seq.{length-take-le, take-all, take-at, drop-at, drop-drop, drop-length}
+use lib.ListN.{length, set, take, drop}
+use lib.Seq.{take-all}
 use borrow.Author.Tests.{eqb-true}
 use Rattle.lists.specs.Places.{nth}
 use Rattle.lists.specs.Sum.{sumTo}
@@ -17,7 +17,6 @@ use Rattle.words.specs.Wrap.{wrapped, complement}
 use Rattle.block.specs.Layout.{blockSize, blockWords, kindPlaceWord, lastPlace, checkWord, halves}
 use Rattle.block.specs.Reading.{kindIn, sumsToZero}
 use Rattle.blockfile.specs.File.{blockAt, blocksIn}
-use Rattle.blockfile.specs.Joined.{joined}
 use Rattle.salvage.specs.Keeping.{keptPlaces, newPlace}
 use Rattle.salvage.specs.Moving.{placedAt, moved, movedUp}
 use Rattle.lists.proofs.Sum.{sum-last, sum-change}
@@ -102,43 +101,6 @@ moved-laid b t x y z p opening check long e f g o c =
     g
     ∙ rw (one, c, o)
     (with-front (placedAt b p) (4 * checkWord) (complement (wrapped (word (placedAt b p)) checkWord)) t (omega arith))
-
--- The part behind j parts has room for one more.
-pub part-room : (j : ℕ) (x : List ℕ) → blockSize * j + blockSize ≤ length x
-    → blockSize ≤ length (take (length x - blockSize * j) (drop (blockSize * j) x))
-part-room j x h =
-    let d = length-drop (blockSize * j) x in
-    let l = length-take-le (length x - blockSize * j) (drop (blockSize * j) x) (omega arith) in
-    omega arith
-
--- A loop's turn: one part more is put in behind those that stand, into a part that reaches to the end.
-pub part-next : (f : ℕ → List ℕ) (j : ℕ) (o x part : List ℕ) → ((k : ℕ) → k < j → length (f k) ≡ blockSize)
-    → blockSize * j ≤ length o → x ≡ joined f j ++ drop (blockSize * j) o
-    → part ≡ f j ++ drop blockSize (take (length x - blockSize * j) (drop (blockSize * j) x))
-    → take (blockSize * j) x ++ (part ++ drop (length x - blockSize * j) (drop (blockSize * j) x))
-    ≡ joined f (j + 1) ++ drop (blockSize * (j + 1)) o
-unfolding joined
-part-next f j o x part long room e q =
-    let h = joined-length f j long in
-    let front : take (blockSize * j) x ≡ joined f j = rw e (take-at (joined f j) (drop (blockSize * j) o) _ h) in
-    let back : drop (blockSize * j) x ≡ drop (blockSize * j) o =
-    rw e (drop-at (joined f j) (drop (blockSize * j) o) _ h) in
-    let m : length x - blockSize * j ≡ length (drop (blockSize * j) o) =
-    omega (arith, ap length e, length-append (joined f j) (drop (blockSize * j) o), h) in
-    let n : blockSize * suc j ≡ blockSize * j + blockSize = omega arith in
-    rw (
-      q,
-      front,
-      back,
-      m,
-      take-all (length (drop (blockSize * j) o)) (drop (blockSize * j) o) (omega arith),
-      drop-length (drop (blockSize * j) o),
-      append-nil,
-      drop-drop,
-      add-one j,
-      n,
-      append-assoc,
-    )
 
 -- The words of a moved block.
 module _ (b : List ℕ) (p : ℕ) (long : length b ≡ blockSize) (low : p ≤ lastPlace) where

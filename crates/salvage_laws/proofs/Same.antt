@@ -2,11 +2,10 @@
 use mathlib.Core.Path.{_≡_, refl, sym, ap, _∙_}
 use mathlib.Core.Bool.{true, not}
 use mathlib.Core.List.{List, _∷_, [], _++_}
-use Prim.Native.Nat.{ℕ, zero, suc, _+_, _*_, _-_, _≤_, _<_}
-use native.Mathlib.Decide.{decLt}
+use Prim.Native.Nat.{ℕ, zero, suc, _*_, _≤_, _<_}
 use native.Mathlib.Omega.{arith}
-use lib.ListN.{length, drop, List·getD-append}
-use lib.Seq.{take-all, getD-append-add}
+use lib.ListN.{length, drop}
+use lib.Seq.{take-all}
 use lib.Dec.{eqb}
 use borrow.Author.Tests.{eqb-true}
 use Rattle.lists.specs.Places.{nth}
@@ -18,7 +17,6 @@ use Rattle.plan.specs.Order.{newId}
 use Rattle.block.specs.Layout.{blockSize}
 use Rattle.block.specs.Reading.{placeIn, guestOf, kindOk, ownPlace}
 use Rattle.blockfile.specs.File.{blockAt, idAt, blocksIn, numberAt, fileRefusal}
-use Rattle.blockfile.specs.Joined.{joined}
 use Rattle.salvage.specs.Keeping.{newAmong, numberAfter, keptPlaces, dropNumber}
 use Rattle.salvage.specs.Fates.{fate}
 use Rattle.salvage.specs.Moving.{moved, movedUp}
@@ -29,6 +27,7 @@ use Rattle.lists.proofs.Table.{table-length, table-at}
 use Rattle.block.proofs.Reading.{BlockIn, block-in, passes-too}
 use Rattle.blockfile.proofs.File.{FileIn, file-in}
 use Rattle.blockfile.proofs.Joined.{joined-ext, blocks-joined}
+use Rattle.planfile_laws.proofs.Joined.{joined-bytes}
 use Rattle.planfile_laws.proofs.OnlyOurs.{block-bytes}
 use Rattle.salvage.proofs.Keeping.{none-kept, kept-on}
 use Rattle.salvage.proofs.Outcome.{listed-whole, none}
@@ -116,20 +115,6 @@ pub nothing-wrong-same : (s before : List ℕ) → Bytes s → fileRefusal s .nu
 nothing-wrong-same s before bytes ok room =
     output-is s before (same-fine s ok (length before) room)
     ∙ ap (λ (x : List ℕ). x ++ drop (length x) before) (saved-same s ok bytes)
-
--- Two parts of bytes are bytes.
-append-bytes : (a b : List ℕ) → Bytes a → Bytes b → Bytes (a ++ b)
-append-bytes a b f g i =
-    elim (decLt i (length a)) [
-      | yes h ↦ rw (List·getD-append a b 0 i h) (f i)
-      | no h ↦ let e : i ≡ length a + (i - length a) = omega arith in
-          rw (e, getD-append-add a b (i - length a) 0) (g (i - length a))
-    ]
-
-joined-bytes : (f : ℕ → List ℕ) (n : ℕ) → ((k : ℕ) → Bytes (f k)) → Bytes (joined f n)
-unfolding joined
-joined-bytes f zero h = λ i. omega arith
-joined-bytes f (suc n) h = append-bytes (joined f n) (f n) (joined-bytes f n h) (h n)
 
 saved-bytes : (s : List ℕ) → Bytes s → Bytes (saved s)
 unfolding movedUp

@@ -18,7 +18,7 @@ use Rattle.verdict.specs.declared.TaskVerdict.the-variants.{Met}
 use Rattle.verdict.specs.Verdict.{taskVerdict}
 use Rattle.verdict.specs.Quoted.{Quoted}
 use Rattle.logblock.specs.declared.Entry.{Entry}
-use Rattle.history.specs.Calls.{start, play, answerOf}
+use Rattle.history.specs.Calls.{start, play, answerOf, CanStart}
 use Rattle.dispatcher.specs.declared.Answer.the-variants.{Finished}
 use Rattle.history.specs.Named.{guestBy, deadlineBy}
 use Rattle.statement.specs.Lines.{marginsAt, empty}
@@ -29,7 +29,7 @@ use Rattle.statement_laws.specs.Told.{ToldFinish, EachTold, toldMargins}
 use Rattle.lists.proofs.All.{and-left, and-right}
 use Rattle.plan.proofs.RangesLaws.{within-right}
 use Rattle.verdict.proofs.Quoted.{met-quoted}
-use Rattle.verdict_laws.proofs.Quoted.{quoted-judged}
+use Rattle.verdict_laws.proofs.Tasks.{quoted-means}
 use Rattle.history.proofs.NeverLate.{never-late, met-not-late}
 use Rattle.statement_laws.proofs.Counts.{statement-counts}
 
@@ -38,7 +38,7 @@ quoted-there : (p : Plan) (id number R : ℕ) → Quoted p id number R
     → (hasGuest p id ≡ true) × (hasTask p id number ≡ true)
 unfolding hasGuest hasTask
 quoted-there p id number R quoted =
-    let t = quoted-judged p id number R quoted .task in (
+    let t = quoted-means p id number R quoted .0 in (
       lt-ltb (placeOf p id) (p .count) (t .there .place),
       within-right (guestBy p id .tasks) number (omega (arith, t .from-1)) (omega (arith, t .from-1, t .in-guest)),
     )
@@ -91,14 +91,14 @@ module _ (p : Plan) (id number : ℕ) where
       by true q h = rw (h, is e q (told .0)) refl
       by false q h = h
 
-module _ (plan : List ℕ) (logs : List (List ℕ)) (told : EachTold (readOf plan .plan) (countedEntries plan logs empty))
-    (id number R : ℕ) where
+module _ (plan : List ℕ) (logs : List (List ℕ)) (can : CanStart (readOf plan .plan))
+    (told : EachTold (readOf plan .plan) (countedEntries plan logs empty)) (id number R : ℕ) where
   -- What was told of a quoted task is in time for R, and has its margin.
   as-told : Quoted (readOf plan .plan) id number R
       → (e : Entry) → names id number e ≡ true → (t : ToldFinish (readOf plan .plan) e)
       → (e .age ≤ R) × (t .margin ≡ marginOf (deadlineBy (readOf plan .plan) id number) (e .age))
   as-told quoted e n t =
-      never-late (readOf plan .plan) id number R quoted (t .before) (t .call) (e .age) (t .margin)
+      never-late (readOf plan .plan) id number R quoted can (t .before) (t .call) (e .age) (t .margin)
       (named-told (readOf plan .plan) id number e n t)
 
   -- 4. A task is quoted R, and what was counted is what the dispatcher told: the longest age in the task's line is at
@@ -137,6 +137,6 @@ module _ (plan : List ℕ) (logs : List (List ℕ)) (told : EachTold (readOf pla
       statement-counts plan logs id number (there .0) (there .1) .late
       ∙ none-late (deadlineBy p id number) (agesOf id number (countedEntries plan logs empty))
       (told-most p id number (deadlineBy p id number)
-      (λ e n t. met-not-late p id number R met (t .before) (t .call) (e .age) (t .margin)
+      (λ e n t. met-not-late p id number R met can (t .before) (t .call) (e .age) (t .margin)
       (named-told p id number e n t) .0)
       (countedEntries plan logs empty) told)

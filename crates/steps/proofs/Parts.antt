@@ -9,20 +9,13 @@ use Rattle.lists.specs.Places.{nth}
 use Rattle.lists.specs.Search.{firstFrom}
 use Rattle.arrays.specs.Place.{placeAt}
 use Rattle.arrays.specs.Parts.{hasLeft, hasRun}
-use Rattle.arrays.specs.Claims.{wants, isClaimant, firstClaimant}
-use Rattle.lists.proofs.All.{and-left}
 use Rattle.lists.proofs.Search.{first-found}
 
 -- The guest that was found has capacity left.
-pub has-left :
-    (left rest tasks deferrable : List ℕ) (n k : ℕ)
-    → k ≡ firstClaimant left rest tasks deferrable n
-    → k < n
-    → 1 ≤ nth left k
-has-left left rest tasks deferrable n k e h =
-    let f = isClaimant left rest tasks deferrable in
-    let p : f k ≡ true = rw e (first-found f n 0 (omega arith)) in
-    omega (arith, ltb-true 0 (nth left k) (and-left (hasLeft left k) (wants rest tasks deferrable k) p))
+pub has-left : (left : List ℕ) (n k : ℕ) → k ≡ firstFrom (hasLeft left) n 0 → k < n → 1 ≤ nth left k
+has-left left n k e h =
+    let p : hasLeft left k ≡ true = rw e (first-found (hasLeft left) n 0 (omega arith)) in
+    omega (arith, ltb-true 0 (nth left k) p)
 
 -- The task that was found has run left.
 pub has-run : (rest : List ℕ) (k n t : ℕ) → t ≡ firstFrom (hasRun rest k) n 0 → t < n → 1 ≤ nth rest (placeAt k t)

@@ -16,13 +16,12 @@ pub fn steps(
     capacities: &[u32; 16],
     periods: &[u32; 16],
     tasks: &[u32; 16],
-    deferrable: &[u32; 16],
     n: usize,
     ticks: u32,
 ) -> Went
     requires { ⌜ Small n (now tasks) ⌝ }
     ensures { λ r. ⌜
-        StepsOn n (now (capacities .entry)) (now (periods .entry)) (now (tasks .entry)) (now (deferrable .entry))
+        StepsOn n (now (capacities .entry)) (now (periods .entry)) (now (tasks .entry))
         (record {
           left = now (left .entry);
           position = now (position .entry);
@@ -59,7 +58,6 @@ pub fn steps(
             capacities,
             periods,
             tasks,
-            deferrable,
             n,
         );
         done += 1;

@@ -10,21 +10,14 @@ use arrays::refill;
 use arrays::tally;
 use arrays::worker;
 
-// The first guest that claims the tick has it, inside it the first task with run left: each loses one.
-fn serve(
-    left: &mut [u32; 8],
-    rest: &mut [u32; 128],
-    tasks: &[u32; 16],
-    deferrable: &[u32; 16],
-    n: usize,
-) -> Turn
+// The first guest with capacity left has the tick, inside it the first task with run left: each loses one.
+fn serve(left: &mut [u32; 8], rest: &mut [u32; 128], tasks: &[u32; 16], n: usize) -> Turn
     requires { ⌜ Small n (now tasks) ⌝ }
     ensures { λ r. ⌜
-        Serves n (now (tasks .entry)) (now (deferrable .entry)) (now (left .entry)) (now (rest .entry))
-        (now (left .exit)) (now (rest .exit)) r
+        Serves n (now (tasks .entry)) (now (left .entry)) (now (rest .entry)) (now (left .exit)) (now (rest .exit)) r
         ⌝ }
 {
-    let k = holder(left, rest, tasks, deferrable, n);
+    let k = holder(left, n);
     if n <= k {
         return Turn {
             guest: k,
@@ -64,13 +57,12 @@ pub fn step(
     capacities: &[u32; 16],
     periods: &[u32; 16],
     tasks: &[u32; 16],
-    deferrable: &[u32; 16],
     n: usize,
 ) -> Turn
     requires { ⌜ Small n (now tasks) ⌝ }
     ensures { λ r. ⌜
         Steps n
-        (now (capacities .entry)) (now (periods .entry)) (now (tasks .entry)) (now (deferrable .entry))
+        (now (capacities .entry)) (now (periods .entry)) (now (tasks .entry))
         (record {
           left = now (left .entry);
           position = now (position .entry);
@@ -94,7 +86,7 @@ pub fn step(
     grow(age, rest, n);
     fall(wait, n);
     advance(position, periods, n);
-    let turn = serve(left, rest, tasks, deferrable, n);
+    let turn = serve(left, rest, tasks, n);
     tally(usage, n, turn.guest, turn.had);
     turn
 }

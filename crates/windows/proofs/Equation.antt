@@ -35,8 +35,8 @@ lies S i w pos le some e = go (whole S i w) (parts S i w pos le (load-some S i w
       solves = omega (arith, P .is);
     }
 
--- The heart: e ticks early, k periods begun and p ticks into the last, together the window and one period; h is counted
--- of the last capacity. Then s, all that the guest had, is the whole load.
+-- The heart: e ticks early, k periods begun and p ticks into the last, together the window and one period; h of the
+-- last capacity is left. Then s, all that the guest had, is the whole load.
 pub enough :
     (S : System) (i w x k e p h s : ℕ) (P : Lies S i w)
     → S .capacity ≤ S .period
@@ -46,7 +46,7 @@ pub enough :
     → h ≤ S .capacity
     → h ≤ x - p
     → P .l + h ≤ S .capacity + (P .v - p)
-    → e + k * S .capacity ≤ s + h
+    → s + h ≡ e + k * S .capacity
     → e + k * S .period + p ≡ S .period + w
     → load S i w ≤ s
 enough S i w x k e p h s P ct xt ec pt hc full sup had z =

@@ -1,35 +1,40 @@
--- Laws of a guest's move, and of a fitted guest. Assumes nothing.
+-- Laws of a guest's move. Assumes nothing.
 use mathlib.Core.Path.{_≡_}
-use Prim.Native.Nat.{ℕ, suc, _+_, _≤_, _<_}
+use Prim.Native.Nat.{ℕ, zero, suc, _+_, _*_, _≤_, _<_}
 use native.Mathlib.Omega.{arith}
-use Rattle.equation.specs.Guest.{guestSide}
-use Rattle.windows.specs.Equation.{above}
-use Rattle.windows.specs.GuestTick.{Moved, GuestFits}
+use Rattle.windows.specs.GuestTick.{Moved}
 use Rattle.windows.specs.GuestTick.Moved.{on, over}
-
--- before its move a position is inside the period
-pub moved-from : {cap per p l q h : ℕ} → Moved cap per p l q h → p < per
-moved-from (on a b e) = omega arith
-moved-from (over a b e) = omega arith
 
 -- after its move a position is inside the period
 pub moved-inside : {cap per p l q h : ℕ} → Moved cap per p l q h → q < per
 moved-inside (on a b e) = omega arith
 moved-inside (over a b e) = omega arith
 
--- a part of what a guest has left moves with the whole, and stays a part of it
-pub part-moves : {cap per p left q held : ℕ} (l : ℕ) → l ≤ left → Moved cap per p left q held
-    → (h : ℕ) × Moved cap per p l q h × (h ≤ held)
-part-moves l i (on a b e) = (l, on a b (omega arith), omega arith)
-part-moves {held = h} l i (over a b e) = (h, over a b e, omega arith)
+-- how many periods begin at a position: 1 at a period's start, else 0
+unfoldable pub begun : ℕ → ℕ
+begun zero = 1
+begun (suc p) = 0
 
--- the same number left moves to the same number to hold; at a period's start any two do
-pub moves-same : {cap per p l left q h held : ℕ} → Moved cap per p l q h → Moved cap per p left q held
-    → (0 < q → l ≡ left) → h ≡ held
-moves-same (on a b e) (on c d f) i = omega (arith, i (omega arith))
-moves-same (on a b e) (over c d f) i = absurd (omega arith)
-moves-same (over a b e) (on c d f) i = absurd (omega arith)
-moves-same (over a b e) (over c d f) i = omega arith
+-- what a guest may hold after its move: what it had left, and a whole capacity more at a period's start
+pub held-le : {cap per p l q h : ℕ} → Moved cap per p l q h → h ≤ l + begun q * cap
+unfolding begun
+held-le (on a b e) = omega arith
+held-le {cap = c} (over a b e) = rw b (omega arith)
+
+-- a window of y ticks with its count goes on, and counts a period's start
+pub count-on : {cap per p l q h : ℕ} (m y : ℕ) → Moved cap per p l q h → m * per + p ≤ y + per
+    → (m + begun q) * per + q ≤ suc y + per
+unfolding begun
+count-on {q = zero} m y (on a b e) i = absurd (omega arith)
+count-on {q = suc q} m y (on a b e) i = omega arith
+count-on m y (over a b e) i = rw b (omega arith)
+
+-- a window that starts now counts a period's start alone
+pub count-new : {cap per p l q h : ℕ} → Moved cap per p l q h → begun q * per + q ≤ 0 + per
+unfolding begun
+count-new {q = zero} (on a b e) = absurd (omega arith)
+count-new {q = suc q} (on a b e) = omega arith
+count-new (over a b e) = rw b (omega arith)
 
 -- a guest keeps its ranges
 pub most-on : {cap per p l q h : ℕ} → Moved cap per p l q h → l ≤ cap → h ≤ cap
@@ -50,8 +55,3 @@ owed-on y (over a b e) i s = omega arith
 pub owed-new : {cap per p l q h : ℕ} → Moved cap per p l q h → l ≡ 0 → 0 < h → q ≤ 0
 owed-new (on a b e) i s = absurd (omega arith)
 owed-new (over a b e) i s = omega arith
-
--- the equation of a fitted guest, as a sum
-pub fits-sum : {cap per jit : ℕ → ℕ} {g x : ℕ} → GuestFits cap per jit g x → x ≡ cap g + above cap per jit g x
-unfolding guestSide
-fits-sum F = F .solves

@@ -1,10 +1,7 @@
 -- Laws, each file named after the definitions that it is about; Release has the window's laws of a taken release.
 pub mod Served
 pub mod GuestTick
-pub mod Claim
-pub mod Spent
 pub mod Supply
-pub mod Assured
 pub mod Equation
 pub mod Clock
 pub mod Window

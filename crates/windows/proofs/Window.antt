@@ -37,7 +37,7 @@ opened :
     → e ≤ S .capacity
     → S .period ≤ k * S .period + p + d
     → (p ≡ 0 → 0 < k)
-    → e + k * S .capacity ≤ h
+    → h ≡ e + k * S .capacity
     → e + k * S .period + p < S .period + w
     → sumTo (v .rest) (suc i) ≡ 0
     → Window S isBound i w p h v
@@ -72,26 +72,25 @@ restart {S} {p = p} {h = h} v G z =
           opened v 0 h (S .period - p) (omega arith) (G .most) (omega arith) (λ q. absurd (omega arith)) (omega arith)
           (omega arith) z
       | no m ↦
-          opened v 1 0 0 (omega arith) (omega arith) (omega arith) (λ q. omega arith) (omega (arith, G .pace))
+          opened v 1 0 0 (omega arith) (omega arith) (omega arith) (λ q. omega arith) (omega (arith, G .most, G .pace))
           (omega (arith, G .some)) z
     ]
 
--- a guest's move, in the window's terms: the ticks since it began rise by one, what the guest had rises by a, and what
--- is counted of what it holds falls by no more, and a period that starts is counted
+-- a guest's move, in the window's terms: the ticks since it began rise by one, what the guest had rises by a, and a
+-- period that starts is counted
 turned :
     {C T p l q h' : ℕ} (h a k s e : ℕ)
     → Moved C T p l q h'
-    → h ≤ l + a
+    → l + a ≡ h
     → (p + 1 ≡ T → l ≡ 0)
-    → e + k * C ≤ s + h
-    → (k' : ℕ) × (k' * T + q ≡ k * T + p + 1) × (e + k' * C ≤ s + a + h') × (q ≡ 0 → 0 < k')
+    → s + h ≡ e + k * C
+    → (k' : ℕ) × (k' * T + q ≡ k * T + p + 1) × (s + a + h' ≡ e + k' * C) × (q ≡ 0 → 0 < k')
 turned h a k s e (on u v z) la dr had = (k, omega arith, omega arith, λ o. absurd (omega arith))
 turned h a k s e (over u v z) la dr had = (suc k, omega arith, omega (arith, dr u), λ o. omega arith)
 
 -- A tick keeps the invariant.
 module _ {S : System} (isBound : ℕ → Bool) {w x p l p' h' : ℕ} (h a i : ℕ) (v v' : Tasks)
-    (M : Moved (S .capacity) (S .period) p l p' h') (la : 0 < sumTo (v .rest) (suc i) → h ≤ l + a)
-    (dr : p + 1 ≡ S .period → l ≡ 0)
+    (M : Moved (S .capacity) (S .period) p l p' h') (la : l + a ≡ h) (dr : p + 1 ≡ S .period → l ≡ 0)
     (G : Given S i w x p' h')
     (gaps : (j : ℕ) → j < i → gapFor (isBound j) (S .period - S .capacity) ≤ S .gap j)
     (pos : (j : ℕ) → j < i → 0 < S .every j)
@@ -134,7 +133,7 @@ module _ {S : System} (isBound : ℕ → Bool) {w x p l p' h' : ℕ} (h a i : �
 
   -- the window goes on
   go-on : 0 < sumTo (v' .rest) (suc i) → Window S isBound i w p h v → Window S isBound i w p' h' v'
-  go-on some W = by (turned h a (W .k) (W .s) (W .e) M (la busy) dr (W .had))
+  go-on some W = by (turned h a (W .k) (W .s) (W .e) M la dr (W .had))
     where
       busy : 0 < sumTo (v .rest) (suc i)
       busy =
@@ -143,7 +142,7 @@ module _ {S : System} (isBound : ℕ → Bool) {w x p l p' h' : ℕ} (h a i : �
             | no q ↦ absurd (omega (arith, sum-le (v' .rest) (v .rest) (suc i) (λ j r. t .less j (omega arith))))
           ]
 
-      by : (k' : ℕ) × (k' * S .period + p' ≡ W .k * S .period + p + 1) × (W .e + k' * S .capacity ≤ W .s + a + h')
+      by : (k' : ℕ) × (k' * S .period + p' ≡ W .k * S .period + p + 1) × (W .s + a + h' ≡ W .e + k' * S .capacity)
           × (p' ≡ 0 → 0 < k')
           → Window S isBound i w p' h' v'
       by (k', el, had, starts) = record {

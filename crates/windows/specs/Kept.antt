@@ -23,16 +23,15 @@ pub record TaskSolved (S : System) (i w : ℕ) : Type 0 where
   pub in-period : responseOf (S .gap i) w ≤ S .every i
 
 -- Guest g is fitted with response x, and w solves the equation of its task i in time.
-pub record Bounded (cap per jit : ℕ → ℕ) (g x : ℕ) (run every : ℕ → ℕ) (isBound : ℕ → Bool) (i w : ℕ) : Type 0 where
-  pub fitted : GuestFits cap per jit g x
+pub record Bounded (cap per : ℕ → ℕ) (g x : ℕ) (run every : ℕ → ℕ) (isBound : ℕ → Bool) (i w : ℕ) : Type 0 where
+  pub fitted : GuestFits cap per g x
   pub cap-per : cap g ≤ per g
-  pub solves : TaskSolved (systemAt cap per jit g run every isBound) i w
+  pub solves : TaskSolved (systemAt cap per g run every isBound) i w
 
 -- The invariant of a state, seen from task i of guest g.
-pub record Kept (cap per jit : ℕ → ℕ) (g x : ℕ) (run every : ℕ → ℕ) (isBound : ℕ → Bool) (i w : ℕ)
+pub record Kept (cap per : ℕ → ℕ) (g x : ℕ) (run every : ℕ → ℕ) (isBound : ℕ → Bool) (i w : ℕ)
     (held pos : ℕ → ℕ) (v : Tasks) : Type 0 where
-  pub h : ℕ
-  pub supply : Supply cap per jit g x held pos h
+  pub supply : Supply cap per g x held pos
   pub place : pos g < per g
-  pub window : Window (systemAt cap per jit g run every isBound) isBound i w (pos g) h v
+  pub window : Window (systemAt cap per g run every isBound) isBound i w (pos g) (held g) v
   pub clock : Clock i every v

@@ -1,10 +1,7 @@
 pub mod Served
 pub mod Equation
-pub mod Claim
 pub mod GuestTick
-pub mod Spent
 pub mod Supply
-pub mod Assured
 pub mod TaskTick
 pub mod Clock
 pub mod Window

@@ -1,8 +1,8 @@
 -- The task part of the invariant: while tasks up to i have run left, the guest's ticks since the window began are what
 -- these tasks lost.
 -- Inner: no promise of an entry names this.
--- The window began d ticks before a period's end, with e counted of the capacity left; k periods began since; the guest
--- had s ticks; n j releases of task j were taken.
+-- The window began d ticks before a period's end, with e capacity left; k periods began since; the guest had s ticks;
+-- n j releases of task j were taken.
 -- A release of a bound task is taken at a period's start alone, and a period that starts now is among the k: so none
 -- of the d ticks before the first of them count for it.
 use mathlib.Core.Path.{_≡_}
@@ -12,7 +12,7 @@ use Rattle.lists.specs.Sum.{sumTo}
 use Rattle.equation.specs.System.{gapFor, System}
 use Rattle.windows.specs.TaskTick.{Tasks}
 
--- The invariant, for task i with a solution w, in a guest at position p, where h is counted of what it holds.
+-- The invariant, for task i with a solution w, in a guest that holds h at position p.
 pub record Window (S : System) (isBound : ℕ → Bool) (i w p h : ℕ) (v : Tasks) : Type 0 where
   pub k : ℕ
   pub e : ℕ
@@ -23,7 +23,7 @@ pub record Window (S : System) (isBound : ℕ → Bool) (i w p h : ℕ) (v : Tas
   pub early : e ≤ S .capacity
   pub begins : S .period ≤ k * S .period + p + d
   pub starts : p ≡ 0 → 0 < k
-  pub had : e + k * S .capacity ≤ s + h
+  pub had : s + h ≡ e + k * S .capacity
   pub jobs : s + sumTo (v .rest) (suc i) ≡ sumTo (λ j. n j * S .run j) (suc i)
   pub counts : (j : ℕ) → j < i → 0 < n j
       → n j * S .every j + S .period ≤ k * S .period + p + gapFor (isBound j) d + v .wait j

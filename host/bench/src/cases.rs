@@ -2,6 +2,7 @@
 //! interface, and of plain Rust by reference and in place.
 
 mod amended;
+mod convert;
 mod dispatcher;
 mod order;
 mod salvage;
@@ -48,6 +49,7 @@ pub fn all() -> Vec<Case> {
     all.extend(dispatching());
     all.extend(statements::all());
     all.extend(salvage::all());
+    all.extend(convert::all());
     all
 }
 
@@ -99,18 +101,14 @@ fn dispatching() -> Vec<Case> {
         sheet("sheet-16", inputs::endless(), inputs::last_guests()),
         tick("tick-plan-a", inputs::plan_a()),
         tick("tick-full", inputs::endless()),
-        tick("tick-deferrable", inputs::endless_deferrable()),
         run("run-million-plan-a-idle", inputs::plan_a(), false),
         run("run-million-full", inputs::endless(), true),
-        run(
-            "run-million-passed-over",
-            inputs::endless_deferrable(),
-            false,
-        ),
+        run("run-million-full-idle", inputs::endless(), false),
     ]
 }
 
-/// The aim for plan files, verdicts, capacities, orders, statements and salvages, and the one for the dispatcher.
+/// The aim for plan files, verdicts, capacities, orders, statements, salvages and conversions, and the one for the
+/// dispatcher.
 const FILES: f64 = 1.2;
 const DISPATCHER: f64 = 1.5;
 

@@ -1,11 +1,13 @@
 //! The plans that are measured, as blocks: each side reads them by its own reader. Beside them the sheets, of
-//! amendments and of releases, the logs, and the damaged files.
+//! amendments and of releases, the logs, and the damaged and old files.
 
 mod damaged;
+mod deferrable;
 mod logs;
 mod unordered;
 
 pub use damaged::half_damaged;
+pub use deferrable::{deferrable_near_a_million, deferrable_plan_a};
 pub use logs::{jobs, log};
 pub use unordered::{descending, no_order, plan_a_exchanged};
 
@@ -54,15 +56,6 @@ pub fn near_a_million() -> Vec<u8> {
 /// The same with every second task bound.
 pub fn bound_near_a_million() -> Vec<u8> {
     bound(EVERY_SECOND, task_near_a_million)
-}
-
-/// The same with no task bound and every guest Deferrable, with half of the capacities and runs: all are met again.
-pub fn deferrable_near_a_million() -> Vec<u8> {
-    deferrable(guests(task_near_a_million).map(|guest| Guest {
-        capacity: guest.capacity / 2,
-        run: guest.run.map(|run| run / 2),
-        ..guest
-    }))
 }
 
 fn task_near_a_million(guest: u32, task: u32) -> [u32; 3] {
@@ -157,19 +150,11 @@ fn short_guests() -> Vec<Guest> {
 
 /// 8 guests of 16 tasks with jobs that last longer than any run.
 pub fn endless() -> Vec<u8> {
-    blocks(&endless_guests().collect::<Vec<_>>())
-}
-
-/// The same with every guest Deferrable.
-pub fn endless_deferrable() -> Vec<u8> {
-    deferrable(endless_guests())
-}
-
-fn endless_guests() -> impl Iterator<Item = Guest> {
-    guests(|_, _| [1_000_000, 1_000_000, 1_000_000]).map(|guest| Guest {
-        charge: 65_535,
-        ..guest
-    })
+    let mut guests: Vec<Guest> = guests(|_, _| [1_000_000, 1_000_000, 1_000_000]).collect();
+    for guest in &mut guests {
+        guest.charge = 65_535;
+    }
+    blocks(&guests)
 }
 
 /// 8 guests of 16 tasks, all of them bound.
@@ -202,15 +187,6 @@ fn bound(marks: u16, task: impl Fn(u32, u32) -> [u32; 3]) -> Vec<u8> {
         }
     }
     blocks(&guests)
-}
-
-/// The blocks of guests that are made Deferrable.
-fn deferrable(guests: impl Iterator<Item = Guest>) -> Vec<u8> {
-    let made = guests.map(|guest| Guest {
-        deferrable: 1,
-        ..guest
-    });
-    blocks(&made.collect::<Vec<_>>())
 }
 
 fn full(task: impl Fn(u32, u32) -> [u32; 3]) -> Vec<u8> {

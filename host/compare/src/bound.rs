@@ -22,7 +22,7 @@ pub fn compare(session: &mut Session) {
 }
 
 /// Each mark by itself, two of them together, all of them, and none.
-fn each_marks() -> Vec<u16> {
+pub(crate) fn each_marks() -> Vec<u16> {
     let mut all = vec![0, u16::MAX, 0x5555];
     for task in 0..MOST_TASKS {
         all.extend([1 << task, 1 | 1 << task]);

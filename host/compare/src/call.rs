@@ -10,7 +10,7 @@ use reference::plan::{Guest, Plan, Refusal};
 use reference::statement::Statement;
 
 /// The exports' names, in the order of [`Call`].
-pub const EXPORTS: [&str; 22] = [
+pub const EXPORTS: [&str; 23] = [
     "cs_read",
     "cs_check",
     "cs_write",
@@ -33,6 +33,7 @@ pub const EXPORTS: [&str; 22] = [
     "cs_write_log",
     "cs_salvage",
     "cs_order",
+    "cs_convert",
 ];
 
 #[derive(Clone, Debug, PartialEq)]
@@ -55,6 +56,7 @@ pub enum Call {
     WriteLog(Box<LogEntries>, Vec<u8>),
     Salvage(Vec<u8>, Vec<u8>),
     Order(Box<Plan>, u32),
+    Convert(Vec<u8>, Vec<u8>),
 }
 
 /// A plan's blocks and a log.
@@ -107,6 +109,7 @@ impl Call {
             Call::WriteLog(..) => 19,
             Call::Salvage(..) => 20,
             Call::Order(..) => 21,
+            Call::Convert(..) => 22,
         }
     }
 
@@ -141,6 +144,7 @@ impl Call {
             Call::WriteLog(jobs, buffer) => written(buffer, |lent| (side.write_log)(jobs, lent)),
             Call::Salvage(file, out) => salvaged(side, file, out),
             Call::Order(plan, id) => Outcome::Ordered((side.order)(plan, *id).into()),
+            Call::Convert(plan, out) => converted(side, plan, out),
         }
     }
 
@@ -188,9 +192,19 @@ fn answered(side: &Side, state: &Dispatcher, pairs: &[u64], answers: &[u32]) -> 
     Outcome::Sheet(outcome.into(), kept)
 }
 
+/// Bytes behind a lent output that no call may write.
+const BEHIND: [u8; 16] = [0xA5; 16];
+
+/// The output is a part of a longer list of bytes, and the whole list is kept.
+fn converted(side: &Side, plan: &[u8], out: &[u8]) -> Outcome {
+    let mut kept = [out, &BEHIND].concat();
+    let refusal = (side.convert)(plan, &mut kept[..out.len()]);
+    Outcome::Written(refusal, kept)
+}
+
 /// The output is a part of a longer list of bytes, and the whole list is kept.
 fn salvaged(side: &Side, file: &[u8], out: &[u8]) -> Outcome {
-    let mut kept = [out, &[0xA5; 16]].concat();
+    let mut kept = [out, &BEHIND].concat();
     let outcome = (side.salvage)(file, &mut kept[..out.len()]);
     Outcome::Salvaged(outcome.into(), kept)
 }

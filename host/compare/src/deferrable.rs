@@ -1,11 +1,14 @@
-//! Small inputs with Deferrable guests, all of them: blocks and records, verdicts below them, and ticks.
+//! Small inputs with Deferrable guests, all of them: blocks and records, verdicts below them, and what is refused since
+//! such guests are written and started no more.
+
+mod refused;
 
 use crate::bound::{put, read_and_find, written};
 use crate::call::Call;
 use crate::exhaustive::{every_call, flipped_bits, servers, tasks};
 use crate::random_calls::every_verdict;
 use crate::session::Session;
-use reference::dispatcher::{COUNTED, Dispatcher, place_of};
+use reference::dispatcher::Dispatcher;
 use reference::plan::{Guest, Plan, blocks_of};
 use reference::samples::{deferrable, plan_a, plan_a_bound};
 
@@ -28,8 +31,7 @@ pub fn compare(session: &mut Session) {
     numbers_of_records(session);
     plans_of_two_guests(session);
     plans_of_three_guests(session);
-    states_of_two_guests(session);
-    states_of_two_tasks(session);
+    refused::compare(session);
 }
 
 /// The plan with these kinds of its first guests.
@@ -114,48 +116,6 @@ fn plans_of_three_guests(session: &mut Session) {
                     every_verdict(session, &of_kinds(plan, &kinds));
                 }
             }
-        }
-    }
-}
-
-/// Every state without waits and ages of guests 2/3 and 2/4, each with one task 2/9/9, in each mix of kinds; whatever a
-/// tick counts wraps.
-fn states_of_two_guests(session: &mut Session) {
-    let guest = |id, period| Guest::new(id, 2, period, &[[2, 9, 9]]);
-    for kinds in TWO_KINDS {
-        let plan = Plan::new(&[guest(1, 3), guest(2, 4)]);
-        let mut fresh = Dispatcher::with(of_kinds(plan, &kinds));
-        fresh.usage = [u64::MAX; COUNTED];
-        for number in 0..3 * 3 * 3 * 4 * 3 * 3 {
-            let mut state = fresh;
-            state.left[..2].copy_from_slice(&[number % 3, number / 3 % 3]);
-            state.position[..2].copy_from_slice(&[number / 9 % 3, number / 27 % 4]);
-            state.rest[place_of(0, 0)] = number / 108 % 3;
-            state.rest[place_of(1, 0)] = number / 324;
-            every_call(session, &state);
-            session.compare(Call::Run(Box::new(state), 40));
-        }
-    }
-}
-
-/// Every state without waits and ages of a Deferrable guest 2/3 with two tasks, one above it and one below, where a job
-/// of either task is work for it.
-fn states_of_two_tasks(session: &mut Session) {
-    let middle = Guest::new(2, 2, 3, &[[1, 9, 9], [2, 9, 9]]);
-    let other = |id| Guest::new(id, 1, 2, &[[1, 9, 9]]);
-    for kinds in [[0, 1, 0], [1, 1, 0], [1, 1, 1], [0, 7, 1]] {
-        let plan = Plan::new(&[other(1), middle, other(3)]);
-        let fresh = Dispatcher::with(of_kinds(plan, &kinds));
-        for number in 0..3 * 3 * 2 * 2 * 3 * 2 {
-            let mut state = fresh;
-            state.left[..3].copy_from_slice(&[number % 2, number % 3, 1]);
-            state.position[..3].copy_from_slice(&[1, number / 3 % 3, 1]);
-            state.rest[place_of(0, 0)] = number / 9 % 2;
-            state.rest[place_of(1, 0)] = number / 18 % 2;
-            state.rest[place_of(1, 1)] = number / 36 % 3;
-            state.rest[place_of(2, 0)] = number / 108;
-            every_call(session, &state);
-            session.compare(Call::Run(Box::new(state), 12));
         }
     }
 }

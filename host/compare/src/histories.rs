@@ -8,11 +8,12 @@ use crate::session::Session;
 use crate::sheets;
 use crate::states;
 use reference::dispatcher::Dispatcher;
+use reference::samples::periodic;
 
-/// One history from a fresh state.
+/// One history from a fresh state of a plan without Deferrable guests.
 pub fn history(session: &mut Session) {
     let size = session.random.pick(&[TINY, TINY, SMALL, FULL]);
-    let plan = plans::plan(&mut session.random, size);
+    let plan = periodic(plans::plan(&mut session.random, size));
     let start = session.compare(Call::Fresh(Box::new(plan)));
     let Some(mut state) = start.state().copied() else {
         return;

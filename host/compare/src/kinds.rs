@@ -1,7 +1,6 @@
 //! The kinds of guests: Periodic, or Deferrable by any number but 0.
 
 use crate::random::Random;
-use reference::plan::Guest;
 
 /// The number of a guest's kind: mostly Periodic, or Deferrable by 1 or by another number.
 pub fn some(random: &mut Random) -> u32 {
@@ -9,12 +8,5 @@ pub fn some(random: &mut Random) -> u32 {
         0..=2 => 0,
         3 | 4 => 1,
         _ => random.edge(),
-    }
-}
-
-/// Makes guests Periodic.
-pub fn periodic(guests: &mut [Guest]) {
-    for guest in guests {
-        guest.deferrable = 0;
     }
 }

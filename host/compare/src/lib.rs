@@ -5,6 +5,7 @@ pub mod amendments;
 mod blocks;
 pub mod bound;
 mod call;
+pub mod convert;
 pub mod deferrable;
 mod exhaustive;
 mod histories;
@@ -41,6 +42,7 @@ pub fn everything(session: &mut Session, budget: Duration) {
     statements::compare(session);
     salvage::compare(session);
     order::compare(session);
+    convert::compare(session);
     let end = Instant::now() + budget;
     while Instant::now() < end {
         random_calls::round(session);
@@ -48,6 +50,7 @@ pub fn everything(session: &mut Session, budget: Duration) {
         statements::round(session);
         salvage::round(session);
         order::round(session);
+        convert::round(session);
         histories::history(session);
         promise::histories(session);
         independence::histories(session);

@@ -40,6 +40,7 @@ pub const PRODUCT: Side = Side {
     write_log: |jobs, buffer| refusal(exports::write_log(&jobs_in(jobs), buffer)),
     salvage: |file, out| salvaged(exports::salvage(file, out)),
     order: |plan, id| ordered(exports::order(&plan_in(plan), id)),
+    convert: |plan, out| refusal(exports::convert(plan, out)),
 };
 
 fn guest_in(guest: &Guest) -> coreshare::Guest {

@@ -9,23 +9,19 @@ mod script;
 mod tests;
 
 use crate::plans::{self, SMALL, TINY};
-use crate::random::Random;
 use crate::session::Session;
 use crate::show;
 use crate::side::Side;
 use crate::tries::{Script, fewest};
 use play::{Quoted, Seen, play};
-use reference::plan::{Guest, Plan};
+use reference::plan::Plan;
+use reference::samples::periodic;
 use script::script;
 
-/// One plan with quoted tasks, and some histories against it.
+/// One plan of Periodic guests with quoted tasks, and some histories against it.
 pub fn histories(session: &mut Session) {
-    let random = &mut session.random;
-    let plan = match random.below(4) {
-        0 => below_a_busy_guest(random),
-        1 => plans::clean(random, SMALL),
-        _ => plans::clean(random, TINY),
-    };
+    let size = session.random.pick(&[TINY, TINY, SMALL]);
+    let plan = periodic(plans::clean(&mut session.random, size));
     let quoted = quoted(&session.subject, &plan);
     if quoted.is_empty() {
         return;
@@ -37,27 +33,6 @@ pub fn histories(session: &mut Session) {
             Err(_) => broken(session, &plan, &quoted, script),
         }
     }
-}
-
-/// A guest with some tasks below a Deferrable one that has as much to do as it can ever do, so that all it keeps is
-/// used, and its jitter shows where the periods let it.
-fn below_a_busy_guest(random: &mut Random) -> Plan {
-    let [above, period] = [random.from(1, 2), random.from(3, 6)];
-    let [capacity, own] = [random.from(1, 3), random.from(4, 9)];
-    let tasks: [[u32; 3]; 2] = std::array::from_fn(|_| {
-        let every = own * random.from(3, 6);
-        [random.from(1, 3), every, every]
-    });
-    Plan::new(&[
-        Guest {
-            deferrable: 1,
-            ..Guest::new(1, above, period, &[[14, 14, 14]])
-        },
-        Guest {
-            marks: random.from(0, 3) as u16,
-            ..Guest::new(2, capacity, own, &tasks)
-        },
-    ])
 }
 
 /// The tasks that are quoted a response: met R or unmet R.
@@ -84,9 +59,6 @@ fn note(session: &mut Session, seen: &Seen) {
     session.count("promise: of them took R", seen.jobs.at_the_response);
     session.count("promise: of them bound", seen.bound.finished);
     session.count("promise: bound and took R", seen.bound.at_the_response);
-    let below = &seen.below_deferrable;
-    session.count("promise: below Deferrable", below.finished);
-    session.count("promise: below and took R", below.at_the_response);
     session.count("promise: sheets", seen.sheets);
     session.count("promise: refused whole", seen.refused_whole);
 }

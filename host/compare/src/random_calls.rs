@@ -8,6 +8,7 @@ use crate::sheets;
 use crate::states;
 use reference::dispatcher::Dispatcher;
 use reference::plan::{MOST_GUESTS, Plan, blocks_of};
+use reference::samples::periodic;
 use reference::verdict::works;
 
 /// One round: some of each kind.
@@ -115,11 +116,16 @@ fn write(session: &mut Session) {
     session.compare(Call::Write(Box::new(guest), place, buffer));
 }
 
-/// Calls of the dispatcher on a state that no history may have reached.
+/// Calls of the dispatcher on a state that no history may have reached; now and then it holds a Deferrable guest.
 fn state_calls(session: &mut Session) {
     let random = &mut session.random;
     let size = random.pick(&[TINY, SMALL, FULL, LARGE]);
     let plan = plans::plan(random, size);
+    let plan = if random.once_in(8) {
+        plan
+    } else {
+        periodic(plan)
+    };
     let mut state = states::in_range(random, plan);
     if random.once_in(2) {
         state = states::hostile(random, &state);
@@ -156,7 +162,7 @@ fn large(session: &mut Session) {
     let task = some_task(&mut session.random, &plan, id);
     session.compare(Call::GuestVerdict(Box::new(plan), id));
     session.compare(Call::TaskVerdict(Box::new(plan), id, task));
-    let state = states::in_range(&mut session.random, plan);
+    let state = states::in_range(&mut session.random, periodic(plan));
     session.compare(Call::Run(Box::new(state), 1_000_000));
 }
 

@@ -36,7 +36,7 @@ pub fn round(session: &mut Session) {
 }
 
 /// Something in every place of an output.
-fn output(room: usize) -> Vec<u8> {
+pub(crate) fn output(room: usize) -> Vec<u8> {
     (0..room).map(|at| 0xC3 ^ at as u8).collect()
 }
 
@@ -84,7 +84,7 @@ fn held(session: &mut Session, name: &'static str, held: bool, file: &[u8]) {
 }
 
 /// A full plan whose guests are of all sorts: kind 1, and kind 2 with marks, Deferrable, or both.
-fn mixed() -> Plan {
+pub(crate) fn mixed() -> Plan {
     let mut plan = full();
     for (at, guest) in plan.guests.iter_mut().enumerate() {
         guest.tasks = 16 - at as u32;
@@ -96,7 +96,7 @@ fn mixed() -> Plan {
 }
 
 /// Plan A with a bound task and Deferrable guests in each way.
-fn small_plans() -> Vec<Plan> {
+pub(crate) fn small_plans() -> Vec<Plan> {
     let mut plans = Vec::new();
     for marks in 0..4 {
         for kinds in 0..4 {

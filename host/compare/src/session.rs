@@ -9,7 +9,7 @@ use crate::shrink::shrink;
 use crate::side::{REFERENCE, Side};
 
 /// The numbers of document 01's refusals and document 02's as far as it has landed, and 0 for none.
-const NUMBERS: usize = 23;
+const NUMBERS: usize = 24;
 
 /// Verdicts, and kinds of answers, and 0 for none.
 const KINDS: usize = 5;

@@ -43,7 +43,9 @@ fn input(call: &Call) -> String {
         Call::Amended(of, question) => format!("{name} {} {}", asked(*question), amended(of)),
         Call::State(running, of) => format!("{name} {} {}", statement(running), logged(of)),
         Call::WriteLog(of, buffer) => format!("{name} length {} {}", buffer.len(), jobs(of)),
-        Call::Salvage(file, out) => format!("{name} room {} {}", out.len(), blocks(file)),
+        Call::Salvage(bytes, out) | Call::Convert(bytes, out) => {
+            format!("{name} room {} {}", out.len(), blocks(bytes))
+        }
     }
 }
 

@@ -1,7 +1,7 @@
 //! Makes an input smaller as long as the two sides still differ.
 
 mod amended;
-mod salvage;
+mod files;
 mod sheets;
 mod statements;
 mod states;
@@ -50,8 +50,9 @@ fn smaller(call: &Call) -> Vec<Call> {
         }
         Call::State(running, of) => statements::smaller(running, of),
         Call::WriteLog(jobs, buffer) => statements::smaller_writes(jobs, buffer),
-        Call::Salvage(file, out) => salvage::smaller(file, out),
+        Call::Salvage(file, out) => files::smaller(file, out, Call::Salvage),
         Call::Order(plan, id) => of_plan(plan, |plan| Call::Order(plan, *id)),
+        Call::Convert(plan, out) => files::smaller(plan, out, Call::Convert),
     }
 }
 

@@ -1,6 +1,7 @@
 //! The two sides that are compared, behind the same signatures.
 
 use reference::amendment::{self, Located};
+use reference::convert;
 use reference::dispatcher::{self, Dispatcher, Released, Run, Start, Ticked};
 use reference::log::{self, LogEntries};
 use reference::order::{self, Ordered};
@@ -34,6 +35,7 @@ pub struct Side {
     pub write_log: fn(&LogEntries, &mut [u8]) -> Refusal,
     pub salvage: fn(&[u8], &mut [u8]) -> Salvaged,
     pub order: fn(&Plan, u32) -> Ordered,
+    pub convert: fn(&[u8], &mut [u8]) -> Refusal,
 }
 
 /// The reference: the documents' sentences in plain Rust.
@@ -60,4 +62,5 @@ pub const REFERENCE: Side = Side {
     write_log: log::write,
     salvage: salvage::salvage,
     order: order::order,
+    convert: convert::convert,
 };

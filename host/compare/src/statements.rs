@@ -86,9 +86,12 @@ fn with_blocks(blocks: u64) -> Statement {
 }
 
 /// All guests and tasks that a plan can have, each task with a deadline of its own: 100 for the first line, one more
-/// for each next.
+/// for each next. Every other guest is Deferrable, as in an old plan.
 fn ladder() -> Plan {
     let mut plan = full();
+    for guest in plan.guests.iter_mut().skip(1).step_by(2) {
+        guest.deferrable = 1;
+    }
     for (line, deadline) in
         (100..).zip(plan.guests.iter_mut().flat_map(|guest| &mut guest.deadline))
     {

@@ -5,7 +5,8 @@ use crate::random::Random;
 use reference::dispatcher::{COUNTED, Dispatcher, PLACES, place_of};
 use reference::plan::{MOST_GUESTS, Plan};
 
-/// A state in its ranges, which a history may reach or not, with any numbers for where the ticks went.
+/// A state in its ranges, if the plan has no Deferrable guest, which a history may reach or not, with any numbers for
+/// where the ticks went.
 pub fn in_range(random: &mut Random, plan: Plan) -> Dispatcher {
     let mut state = Dispatcher::with(plan);
     state.usage = counts(random);

@@ -109,9 +109,9 @@ impl Dispatcher {
     }
 }
 
-/// Fresh start: the records' order; a refused start gives a state that is zero throughout.
+/// Fresh start: the records' order, then 23; a refused start gives a state that is zero throughout.
 pub fn fresh(plan: &Plan) -> Start {
-    let result = well_formed(plan);
+    let result = may_start(plan);
     let records = if result.is_ok() {
         *plan
     } else {
@@ -120,6 +120,15 @@ pub fn fresh(plan: &Plan) -> Start {
     Start {
         refusal: Refusal::of(&result),
         dispatcher: Dispatcher::with(records),
+    }
+}
+
+/// After the other checks on the plan comes 23, a Deferrable guest.
+fn may_start(plan: &Plan) -> Result<(), Refusal> {
+    well_formed(plan)?;
+    match plan.has_deferrable() {
+        true => Err(Refusal::new(23, 0)),
+        false => Ok(()),
     }
 }
 
@@ -196,11 +205,12 @@ fn released(state: &Dispatcher, id: u32, task: u32) -> Result<Dispatcher, Refusa
     Ok(next)
 }
 
-/// Refusal 14: a state whose plan fails the records' order, or with a number outside its range, or
-/// with anything but 0 past its guests and tasks. It ignores where the ticks went.
+/// Refusal 14: a state whose plan fails the records' order or holds a Deferrable guest, or with a number outside its
+/// range, or with anything but 0 past its guests and tasks. It ignores where the ticks went.
 fn in_range(state: &Dispatcher) -> Result<(), Refusal> {
+    let plan_in_range = || well_formed(&state.plan).is_ok() && !state.plan.has_deferrable();
     let guests_in_range = || (0..MOST_GUESTS).all(|guest| guest_in_range(state, guest));
-    if well_formed(&state.plan).is_ok() && guests_in_range() {
+    if plan_in_range() && guests_in_range() {
         Ok(())
     } else {
         Err(Refusal::new(14, 0))

@@ -7,6 +7,7 @@
 #![forbid(unsafe_code)]
 
 pub mod amendment;
+pub mod convert;
 pub mod dispatcher;
 pub mod log;
 pub mod order;

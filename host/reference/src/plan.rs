@@ -5,10 +5,10 @@ mod block;
 #[cfg(test)]
 mod tests;
 
-pub use block::{BLOCK, LONGEST_PLAN, Read, blocks_of, find, found, read, seal, write};
+pub use block::{BLOCK, LONGEST_PLAN, Read, block_of, blocks_of, find, found, read, seal, write};
 pub(crate) use block::{
-    PLACE, carried_place, length_in_range, put_short, put_word, read_block, short, sum_of_words,
-    word,
+    DEFERRABLE, KIND, MARKS, PERIODIC, PLACE, PLAIN, SERVER, carried_place, length_in_range,
+    put_short, put_word, read_block, short, sum_of_words, word,
 };
 
 /// The most guests in a plan.
@@ -126,6 +126,11 @@ impl Plan {
     /// The guests that count.
     pub fn listed(&self) -> &[Guest] {
         &self.guests[..self.count as usize]
+    }
+
+    /// Whether any of the guests that count is Deferrable.
+    pub fn has_deferrable(&self) -> bool {
+        self.listed().iter().any(Guest::is_deferrable)
     }
 
     /// The place of the guest with this id; else refusal 7.

@@ -1,5 +1,5 @@
 //! Plans that document 01 works out by hand, plan A with tasks exchanged and with bound ones, a plan with a fitted
-//! guest below an unfit one, and one that is full; and any of them with Deferrable guests.
+//! guest below an unfit one, and one that is full; and any of them with all guests Deferrable, or all Periodic.
 
 use crate::plan::{Guest, Plan};
 
@@ -32,6 +32,14 @@ pub fn plan_a_bound(marks: u16) -> Plan {
 pub fn deferrable(mut plan: Plan) -> Plan {
     for guest in &mut plan.guests[..plan.count as usize] {
         guest.deferrable = 1;
+    }
+    plan
+}
+
+/// The plan with all its guests Periodic.
+pub fn periodic(mut plan: Plan) -> Plan {
+    for guest in &mut plan.guests[..plan.count as usize] {
+        guest.deferrable = 0;
     }
     plan
 }

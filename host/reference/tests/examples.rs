@@ -1,19 +1,22 @@
-//! The plan files of the folder `examples`: each is made of the text beside it, and prints what the folder's page says.
+//! The plan files of the folder `examples`: each is made of the text beside it, if it has one, and prints what the
+//! folder's page says.
 
+use reference::convert::convert;
 use reference::order::order;
 use reference::plan::{Guest, Plan, Refusal, blocks_of};
 use reference::salvage::{Fate, salvage};
+use reference::samples::deferrable;
 use reference::show::text;
 use std::fs;
 use std::path::PathBuf;
 
-/// The plan files, by their names.
+/// The plan files that have a text, by their names.
 const NAMES: [&str; 7] = [
     "plan-a",
     "unfit",
     "unmet",
     "bound",
-    "deferrable",
+    "converted",
     "unordered",
     "refused",
 ];
@@ -46,7 +49,6 @@ fn plan_of(name: &str) -> Plan {
             (Some("guest"), [id, capacity, period, charge]) => {
                 let mut guest = Guest::new(*id, *capacity, *period, &[]);
                 guest.charge = *charge as u16;
-                guest.deferrable = u32::from(line.ends_with(" deferrable"));
                 guests.push((guest, Vec::new()));
             }
             (Some("task"), [run, every, deadline]) => {
@@ -61,7 +63,6 @@ fn plan_of(name: &str) -> Plan {
     let with_tasks = |(guest, tasks): &(Guest, Vec<[u32; 3]>)| Guest {
         charge: guest.charge,
         marks: guest.marks,
-        deferrable: guest.deferrable,
         ..Guest::new(guest.id, guest.capacity, guest.period, tasks)
     };
     Plan::new(&guests.iter().map(with_tasks).collect::<Vec<_>>())
@@ -100,6 +101,17 @@ fn the_order_proposed_for_the_unordered_plan_file_is_plan_as() {
     let ordered = order(&plan_of("unordered"), 9);
     assert_eq!(ordered.refusal, Refusal::NONE);
     assert_eq!(blocks_of(&ordered.plan), plan_file("plan-a"));
+}
+
+#[test]
+fn the_old_card_is_converted_as_the_page_says() {
+    let old = plan_file("old-card");
+    assert_eq!(old, blocks_of(&deferrable(plan_of("plan-a"))));
+    assert_eq!(text(&old), printed("old-card"));
+    let mut out = [0; 1024];
+    assert_eq!(convert(&old, &mut out), Refusal::NONE);
+    assert_eq!(out[..], plan_file("converted"));
+    assert_eq!(out[..], plan_file("plan-a"));
 }
 
 #[test]

@@ -5,9 +5,9 @@ use crate::{Answer, Dispatcher, Plan, Refusal, exports};
 /// What had a tick: guests by their id, tasks by their number from 1.
 #[derive(Clone, Copy, Debug, PartialEq, Eq)]
 pub enum Tick {
-    /// No guest had capacity left, but for Deferrable ones with nothing to do.
+    /// No guest had capacity left.
     Nobody,
-    /// The guest, a Periodic one, had nothing to do and idled the tick away: it loses one of its capacity.
+    /// The guest had nothing to do and idled the tick away: it loses one of its capacity.
     Idled { guest: u32 },
     /// The task ran and has run left.
     Ran { guest: u32, task: u32 },
@@ -62,7 +62,8 @@ impl Answer {
 }
 
 impl Dispatcher {
-    /// A fresh state: no job, all positions 0, and no tick counted. The plan need not be an accepted one.
+    /// A fresh state: no job, all positions 0, and no tick counted. The plan need not be an accepted one, but its
+    /// guests must be Periodic ones: else it is refused by 23.
     ///
     /// ```
     /// use coreshare::{Dispatcher, Guest, Plan};
@@ -70,6 +71,8 @@ impl Dispatcher {
     /// let plan = Plan::new(&[Guest::new(7, 2, 5, &[[1, 20, 20]])]);
     /// assert_eq!(Dispatcher::fresh(&plan)?.plan, plan);
     /// assert_eq!(Dispatcher::fresh(&Plan::default()).unwrap_err().number, 1);
+    /// let deferrable = Plan::new(&[Guest { deferrable: 1, ..plan.guests[0] }]);
+    /// assert_eq!(Dispatcher::fresh(&deferrable).unwrap_err().number, 23);
     /// # Ok::<(), coreshare::Refusal>(())
     /// ```
     pub fn fresh(plan: &Plan) -> Result<Dispatcher, Refusal> {
@@ -123,7 +126,8 @@ impl Dispatcher {
         outcome.refusal.or(())
     }
 
-    /// Goes on by one tick.
+    /// Goes on by one tick. A state outside its ranges is refused by 14, here as in every call, and so is one with a
+    /// Deferrable guest.
     ///
     /// ```
     /// use coreshare::{Dispatcher, Guest, Plan, Tick};
@@ -135,10 +139,8 @@ impl Dispatcher {
     /// dispatcher.release(7, 1)?;
     /// let finished = Tick::Finished { guest: 7, task: 1, age: 1, margin: 19 };
     /// assert_eq!(dispatcher.tick()?, finished);
-    /// let deferrable = Guest { deferrable: 1, ..plan.guests[0] };
-    /// let mut dispatcher = Dispatcher::fresh(&Plan::new(&[deferrable]))?;
-    /// assert_eq!(dispatcher.tick()?, Tick::Nobody);
-    /// assert_eq!(dispatcher.left[0], 1);
+    /// dispatcher.plan.guests[0].deferrable = 1;
+    /// assert_eq!(dispatcher.tick().unwrap_err().number, 14);
     /// # Ok::<(), coreshare::Refusal>(())
     /// ```
     pub fn tick(&mut self) -> Result<Tick, Refusal> {

@@ -1,6 +1,7 @@
 //! One safe function for each export, with its outcome whole.
 
 mod amended;
+mod convert;
 mod salvage;
 mod statement;
 
@@ -8,6 +9,7 @@ pub use amended::{
     amended_accept, amended_find, amended_guest_verdict, amended_smallest_capacity,
     amended_task_verdict,
 };
+pub use convert::convert;
 pub use salvage::salvage;
 pub use statement::{statement, write_log};
 
@@ -15,7 +17,7 @@ use crate::{
     Dispatcher, Guest, Ordered, Plan, Read, Refusal, Released, Run, Start, Ticked, Verdict,
 };
 
-/// The library's declarations: all that is unsafe is here, in `amended`, in `statement` and in `salvage`.
+/// The library's declarations: all that is unsafe is here, in `amended`, in `statement`, in `salvage` and in `convert`.
 #[allow(unsafe_code)]
 mod library {
     use super::*;
@@ -79,7 +81,7 @@ pub fn check(plan: &Plan) -> Refusal {
     library::cs_check(*plan)
 }
 
-/// Writes one guest's block to the first 512 bytes. Refusals: 12, 3, 4, 6.
+/// Writes one guest's block to the first 512 bytes. Refusals: 12, 3, 4, 6, 23.
 pub fn write(guest: &Guest, place: u32, buffer: &mut [u8]) -> Refusal {
     library::write(*guest, place, buffer)
 }
@@ -116,7 +118,7 @@ pub fn order(plan: &Plan, id: u32) -> Ordered {
     library::cs_order(*plan, id)
 }
 
-/// A fresh state. Refusals: those of the records.
+/// A fresh state. Refusals: those of the records, then 23.
 pub fn fresh(plan: &Plan) -> Start {
     library::cs_fresh(*plan)
 }

@@ -3,8 +3,8 @@
 //! On one core, up to 8 guests share the time, each with up to 16 tasks. The library reads and
 //! writes plan blocks, judges guests and tasks, searches the smallest capacity, does the same for a
 //! standing plan with amendments, proposes an order for a guest's tasks, dispatches, states the
-//! finished jobs of a log, and salvages a damaged plan file.
-//! Every rule stands in document 01, as the requests P1 to P12 of document 02 change it; a refusal carries
+//! finished jobs of a log, salvages a damaged plan file, and converts an old plan's Deferrable guests.
+//! Every rule stands in document 01, as the requests P1 to P13 of document 02 change it; a refusal carries
 //! document 01's number and place.
 //!
 //! The root of this crate has the calls as Rust has them, with `Result` and enums. [`exports`] has
@@ -25,6 +25,7 @@
 #![deny(unsafe_code)]
 
 mod amended;
+mod convert;
 mod dispatcher;
 pub mod exports;
 mod order;
@@ -37,6 +38,7 @@ pub use amended::{
     Of, amended_accept, amended_block, amended_find, amended_guest_verdict,
     amended_smallest_capacity, amended_task_verdict,
 };
+pub use convert::convert;
 pub use dispatcher::{Progress, Tick, pair};
 pub use plan::{BLOCK, GuestVerdict, TaskVerdict, find, mark};
 pub use records::{

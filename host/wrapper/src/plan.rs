@@ -84,7 +84,8 @@ impl Guest {
         guest
     }
 
-    /// Writes the guest's block to the first 512 bytes of the buffer, and to no others.
+    /// Writes the guest's block to the first 512 bytes of the buffer, and to no others. A Deferrable guest is refused
+    /// by 23.
     ///
     /// ```
     /// use coreshare::Guest;

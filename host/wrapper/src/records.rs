@@ -14,17 +14,19 @@ use core::fmt;
 /// its release is taken only while the guest's position is 0, and its response has no gap of period less capacity
 /// in it.
 ///
-/// A Deferrable guest is passed over while none of its tasks has run left, and keeps its capacity until its period
-/// ends; guests and tasks below it are judged with its jitter of period less capacity.
+/// A Deferrable guest is one of an old plan. It is still read and judged, guests and tasks below it with its jitter of
+/// period less capacity, but no longer written or started: [`convert`](crate::convert) makes a Periodic guest of it.
 ///
 /// ```
-/// use coreshare::{Guest, GuestVerdict, Plan, TaskVerdict};
+/// use coreshare::{BLOCK, Dispatcher, Guest, GuestVerdict, Plan, TaskVerdict};
 ///
 /// let above = Guest { deferrable: 1, ..Guest::new(7, 2, 5, &[[1, 20, 20]]) };
 /// let plan = Plan::new(&[above, Guest::new(9, 8, 20, &[[10, 50, 50], [8, 100, 100]])]);
 /// assert_eq!(plan.guest_verdict(9), Ok(GuestVerdict::Fitted(16)));
 /// assert_eq!(plan.task_verdict(9, 1), Ok(TaskVerdict::Met(38)));
 /// assert_eq!(plan.task_verdict(9, 2), Ok(TaskVerdict::Met(82)));
+/// assert_eq!(above.write(0, &mut [0; BLOCK]).unwrap_err().number, 23);
+/// assert_eq!(Dispatcher::fresh(&plan).unwrap_err().number, 23);
 /// ```
 #[repr(C)]
 #[derive(Clone, Copy, Debug, Default, PartialEq, Eq)]
@@ -201,9 +203,9 @@ impl Refusal {
             9 => "release before the task's period has passed",
             10 => "release while the task's last job is unfinished",
             11 => "no capacity works",
-            12 => "a buffer shorter than 512 or than the kept blocks, or fewer answer places than pairs",
+            12 => "a buffer too short for the blocks to write, or fewer answer places than pairs",
             13 => "a run of more than 1,000,000 ticks",
-            14 => "a state or a running statement outside its ranges",
+            14 => "a state, as with a Deferrable guest, or a running statement outside its ranges",
             15 => "a sheet of more than 256 pairs",
             16 => "an amendment whose id is not in the plan, or whose place is not its guest's",
             17 => "release of a bound task while its guest's position is not 0",
@@ -212,6 +214,7 @@ impl Refusal {
             20 => "no block of the file is kept",
             21 => "a guest whose tasks are to be ordered is Deferrable, or a task of it is bound",
             22 => "no order of the guest's tasks works",
+            23 => "a Deferrable guest handed to the writer or to a fresh start",
             _ => "no number of document 01 or 02",
         }
     }

@@ -124,8 +124,14 @@ exchanged, task 1 of guest 9 is met 26, and task 2 is unmet
 in the order proposed they are met 36 and 80, which is plan A
 task 1 has 36, and bound 24
 bound, it is answered 0 at position 0 and 17 at position 1
-Deferrable, guest 9 is fitted 16 and its tasks are met 38 and 82
-guest 9 has the first tick, and guest 7 has 2 left
+guest 9 fitted 16
+task 1 met 38
+task 2 met 82
+the old card's start is refused as 23
+guest 9 fitted 14
+task 1 met 36
+task 2 met 80
+converted it is plan A
 after 24 ticks guest 9 finished task 1: age 24, margin 26
 guest 7 had 10 ticks and idled 10 of them away
 guest 9 had 10 ticks and idled 0 of them away

@@ -19,7 +19,7 @@ none : (c : tie.Else1)
     → writeNumber (start c .args .guest) (start c .args .place) (length (start c .args .buf .now)) ≡ 0
 none c = let e = c .before .write-number .ensures in omega arith
 
--- The record is in its ranges there, and the buffer has room for its block.
+-- The record is a Periodic guest's in its ranges there, and the buffer has room for its block.
 inside : (c : tie.Else1) → WriteIn (start c .args .guest) (start c .args .place) (length (start c .args .buf .now))
 inside c = write-in _ _ _ (none c)
 
@@ -39,7 +39,8 @@ returns c =
     )
 
 put-block-requires : tie.Need-put-block-requires
-put-block-requires c κs = let i = inside (c .before) in (i .room, (i .low, head-says _ _ _ _ (i .head) .few))
+put-block-requires c κs =
+    let i = inside (c .before) in (i .room, (i .low, (head-says _ _ _ _ (i .head) .few, i .periodic)))
 
 with-place-requires-2 : tie.Need-with-place-requires-2
 with-place-requires-2 c κs = search needs

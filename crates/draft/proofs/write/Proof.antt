@@ -8,10 +8,10 @@ use Rattle.draft.proofs.write.Statement.{statement}
 use Rattle.draft.proofs.write.Tie as tie
 
 abbrev Inv-loop : tie.InvT-loop
-Inv-loop buf₀ guests count k₀ buf k = (k ≤ count) × (length buf ≡ length buf₀)
+Inv-loop buf₀ old guests count k₀ buf k = (k ≤ count) × (length buf ≡ length buf₀)
 
 abbrev μ-loop : tie.MeasureT-loop
-μ-loop buf₀ guests count k₀ buf k = count - k
+μ-loop buf₀ old guests count k₀ buf k = count - k
 
 cast-count : tie.Need-cast-count Inv-loop μ-loop
 cast-count c = search needs

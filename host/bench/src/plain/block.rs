@@ -47,6 +47,9 @@ pub fn write(guest: &Guest, place: u32, buffer: &mut [u8]) -> Result<(), Refusal
     if !guest.tasks_in_range() {
         return Err(Refusal::new(6, place));
     }
+    if guest.is_deferrable() {
+        return Err(Refusal::new(23, 0));
+    }
     encode(guest, place, block);
     Ok(())
 }
@@ -106,10 +109,9 @@ pub(crate) fn carried_place(block: &[u8; BLOCK]) -> usize {
 }
 
 fn encode(guest: &Guest, place: u32, block: &mut [u8; BLOCK]) {
-    let (marks, deferrable) = (guest.live_marks(), guest.is_deferrable());
-    let is_plain = marks == 0 && !deferrable;
+    let marks = guest.live_marks();
     block.fill(0);
-    put_short(block, 0, if is_plain { 1 } else { 2 });
+    put_short(block, 0, if marks == 0 { 1 } else { 2 });
     put_short(block, 2, place as u16);
     put_word(block, 4, guest.id);
     put_word(block, 8, guest.capacity);
@@ -117,12 +119,17 @@ fn encode(guest: &Guest, place: u32, block: &mut [u8; BLOCK]) {
     put_short(block, 16, guest.tasks as u16);
     put_short(block, 18, guest.charge);
     put_short(block, 20, marks);
-    block[22] = deferrable.into();
     for task in 0..guest.tasks as usize {
         put_word(block, 32 + 12 * task, guest.run[task]);
         put_word(block, 36 + 12 * task, guest.every[task]);
         put_word(block, 40 + 12 * task, guest.deadline[task]);
     }
+    seal(block);
+}
+
+/// Writes the check anew.
+pub fn seal(block: &mut [u8; BLOCK]) {
+    put_word(block, 508, 0);
     put_word(block, 508, sum(block).wrapping_neg());
 }
 

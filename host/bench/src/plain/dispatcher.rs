@@ -34,6 +34,9 @@ pub enum Tick {
 impl Dispatcher {
     pub fn fresh(plan: &Plan) -> Result<Dispatcher, Refusal> {
         plan.check()?;
+        if plan.has_deferrable() {
+            return Err(Refusal::new(23, 0));
+        }
         Ok(Dispatcher {
             plan: *plan,
             left: [0; 8],
@@ -126,7 +129,8 @@ impl Dispatcher {
 
     fn guests_in_range(&self) -> bool {
         self.plan.listed().iter().enumerate().all(|(at, guest)| {
-            self.left[at] <= guest.capacity
+            !guest.is_deferrable()
+                && self.left[at] <= guest.capacity
                 && self.position[at] < guest.period
                 && self.tasks_in_range(guest, 16 * at)
         })
@@ -188,16 +192,9 @@ impl Dispatcher {
         self.usage[at] = self.usage[at].wrapping_add(1);
     }
 
-    /// Whether a guest has the tick if those above it have not: a Deferrable one has it for its work alone.
-    fn claims(&self, at: usize) -> bool {
-        let guest = &self.plan.guests[at];
-        let mut rest = self.rest[16 * at..16 * at + 16].iter();
-        self.left[at] > 0 && (!guest.is_deferrable() || rest.any(|rest| *rest > 0))
-    }
-
-    /// Hands the tick to the first guest that claims it, and in it to the first task with run left.
+    /// Hands the tick to the first guest with capacity left, and in it to the first task with run left.
     fn serve(&mut self, count: usize) -> Tick {
-        let Some(at) = (0..count).find(|at| self.claims(*at)) else {
+        let Some(at) = self.left[..count].iter().position(|left| *left > 0) else {
             self.count(16);
             return Tick::Nobody;
         };

@@ -3,6 +3,7 @@
 #![allow(improper_ctypes_definitions)] // slices, as the library takes them: a pointer and a length
 
 mod amended;
+mod convert;
 mod order;
 mod salvage;
 mod statement;
@@ -11,6 +12,7 @@ pub use amended::{
     Located, amended_accept, amended_find, amended_guest_verdict, amended_smallest_capacity,
     amended_task_verdict,
 };
+pub use convert::convert;
 pub use order::{Ordered, order};
 pub use salvage::{Salvaged, salvage};
 pub use statement::{Stated, statement, write_log};

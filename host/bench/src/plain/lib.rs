@@ -5,6 +5,7 @@
 pub mod amended;
 pub mod block;
 pub mod capacity;
+pub mod convert;
 pub mod dispatcher;
 pub mod exports;
 pub mod log;

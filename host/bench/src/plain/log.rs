@@ -1,7 +1,7 @@
 //! Log blocks read and written.
 
 use crate::Refusal;
-use crate::block::{BLOCK, put_short, put_word, short, sum};
+use crate::block::{BLOCK, put_short, put_word, seal, short, sum};
 use crate::records::LONGEST;
 
 /// The most jobs in a block.
@@ -86,5 +86,5 @@ fn encode(jobs: &[LogEntry], block: &mut [u8; BLOCK]) {
         put_word(block, 12 + 12 * at, job.task);
         put_word(block, 16 + 12 * at, job.age);
     }
-    put_word(block, 508, sum(block).wrapping_neg());
+    seal(block);
 }

@@ -126,6 +126,11 @@ impl Plan {
         Ok(())
     }
 
+    /// Whether a guest of a plan that is checked is Deferrable.
+    pub fn has_deferrable(&self) -> bool {
+        self.listed().iter().any(Guest::is_deferrable)
+    }
+
     pub fn place_of(&self, id: u32) -> Result<usize, Refusal> {
         self.listed()
             .iter()

@@ -1,6 +1,6 @@
 //! A damaged plan file salvaged.
 
-use crate::block::{BLOCK, carried_place, decode, put_short, put_word, sum, zeros_and_tasks};
+use crate::block::{BLOCK, carried_place, decode, put_short, seal, zeros_and_tasks};
 use crate::{Guest, Refusal};
 
 /// What became of a block: number 0 and its new place, or the number that it is dropped by.
@@ -37,8 +37,7 @@ pub fn salvage(file: &[u8], out: &mut [u8], list: &mut List) -> Result<u32, Refu
     for ((fate, block), to) in right.zip(out.as_chunks_mut::<BLOCK>().0) {
         *to = *block;
         put_short(to, 2, fate.place as u16);
-        put_word(to, 508, 0);
-        put_word(to, 508, sum(to).wrapping_neg());
+        seal(to);
     }
     Ok((BLOCK * kept) as u32)
 }

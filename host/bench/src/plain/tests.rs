@@ -1,5 +1,6 @@
 //! Holds plain Rust to the reference, as the library is held: what is measured must be right.
 
+mod convert;
 mod order;
 mod salvage;
 mod statement;
@@ -43,6 +44,7 @@ const PLAIN: Side = Side {
     write_log: statement::write_log,
     salvage: salvage::salvage,
     order: order::order,
+    convert: convert::convert,
 };
 
 #[test]

@@ -4,7 +4,7 @@ use crate::blocks;
 use crate::call::Amended;
 use crate::plans::{self, Size, some_id};
 use crate::random::Random;
-use reference::plan::{BLOCK, Guest, MOST_GUESTS, Plan, blocks_of, seal, write};
+use reference::plan::{BLOCK, MOST_GUESTS, Plan, block_of, blocks_of, seal};
 
 /// Where a block has its place and its guest's id.
 const PLACE: usize = 2;
@@ -38,16 +38,9 @@ fn sheet(random: &mut Random, size: Size, standing: &Plan) -> Vec<u8> {
         .into_iter()
         .flat_map(|place| {
             let id = standing.guests[place].id;
-            block_of(&plans::guest(random, size, id, share), place)
+            block_of(&plans::guest(random, size, id, share), place as u16)
         })
         .collect()
-}
-
-/// A guest's block at a place of the standing plan.
-pub fn block_of(guest: &Guest, place: usize) -> [u8; BLOCK] {
-    let mut block = [0; BLOCK];
-    write(guest, place as u32, &mut block);
-    block
 }
 
 /// Makes a sheet of whole blocks one that is refused, or by luck not: a block is changed and its check made anew, or

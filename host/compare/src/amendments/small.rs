@@ -1,11 +1,10 @@
 //! Small plans with amendment sheets, all of them.
 
-use super::made::block_of;
 use super::questions;
 use crate::call::{Amended, Call, Question};
 use crate::pairs::{pairs, wrong_words};
 use crate::session::Session;
-use reference::plan::{BLOCK, Guest, LONGEST_PLAN, MOST_GUESTS, Plan, blocks_of, seal};
+use reference::plan::{BLOCK, Guest, LONGEST_PLAN, MOST_GUESTS, Plan, block_of, blocks_of, seal};
 use reference::samples::{deferrable, full, plan_a, plan_a_bound};
 
 pub fn compare(session: &mut Session) {
@@ -43,7 +42,7 @@ fn orders(session: &mut Session) {
     for places in some_in_each_order(4) {
         let blocks = places.iter().map(|place| {
             let id = *place as u32 + 1;
-            block_of(&of_bits(id, 2, !id), *place)
+            block_of(&of_bits(id, 2, !id), *place as u16)
         });
         let sheet = blocks.collect::<Vec<_>>().concat();
         let of = Amended {

@@ -2,15 +2,15 @@
 
 use super::calls::{filled, own_releases};
 use super::view::{View, is_own, view};
-use crate::kinds;
 use crate::marks;
 use crate::plans::{self, Size};
 use crate::random::Random;
 use crate::side::Side;
 use crate::tries::{Script, Tried, fewest, is_refused_whole};
 use reference::plan::{Guest, Plan};
+use reference::samples::periodic;
 
-/// Two plans with the same record of a guest at the same place, below Periodic guests of the same capacities and
+/// Two plans of Periodic guests with the same record of a guest at the same place, below the same capacities and
 /// periods, and for each what is tried before each tick, with the same releases of that guest.
 #[derive(Clone)]
 pub struct Twins {
@@ -21,13 +21,11 @@ pub struct Twins {
 
 /// Two such plans that the side takes, and no history yet; or none where an id comes twice.
 pub fn twins(random: &mut Random, side: &Side, size: Size) -> Option<Twins> {
-    let mut first = plans::plan(random, size);
-    let mut second = plans::plan(random, size);
+    let first = periodic(plans::plan(random, size));
+    let mut second = periodic(plans::plan(random, size));
     let places = first.count.min(second.count) as usize;
     let any = random.below(places);
     let place = random.pick(&[any, places - 1]);
-    kinds::periodic(&mut first.guests[..place]);
-    kinds::periodic(&mut second.guests[..place]);
     for (above, same) in second.guests[..place].iter_mut().zip(&first.guests) {
         above.capacity = same.capacity;
         above.period = same.period;

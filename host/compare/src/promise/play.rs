@@ -6,7 +6,7 @@ use reference::dispatcher::{
     Answer, COUNTED, Dispatcher, FINISHED, IDLED, IDLED_FROM, NOBODY, NOBODYS, PLACES, parts,
     place_of,
 };
-use reference::plan::{Guest, MOST_TASKS, Plan};
+use reference::plan::{MOST_TASKS, Plan};
 
 /// A task that the subject quotes a response for, by places from 0.
 #[derive(Clone, Copy)]
@@ -16,13 +16,11 @@ pub struct Quoted {
     pub response: u32,
 }
 
-/// Jobs of quoted tasks, of bound ones alone, and of tasks below a Deferrable guest alone; sheets, and those of them
-/// that were refused whole.
+/// Jobs of quoted tasks, and of bound ones alone; sheets, and those of them that were refused whole.
 #[derive(Default)]
 pub struct Seen {
     pub jobs: Jobs,
     pub bound: Jobs,
-    pub below_deferrable: Jobs,
     pub sheets: u64,
     pub refused_whole: u64,
 }
@@ -41,9 +39,6 @@ impl Seen {
         self.jobs.note(at_the_response);
         if plan.guests[guest].is_bound(task) {
             self.bound.note(at_the_response);
-        }
-        if plan.guests[..guest].iter().any(Guest::is_deferrable) {
-            self.below_deferrable.note(at_the_response);
         }
     }
 }
@@ -207,15 +202,12 @@ impl Play<'_> {
         }
     }
 
-    /// Each number beside the state is the count of such ticks, all guests' ticks and nobody's are the ticks done,
-    /// and a Deferrable guest has no idled ticks.
+    /// Each number beside the state is the count of such ticks, and all guests' ticks and nobody's are the ticks done.
     fn accounts(&self, ticks: usize) -> Result<(), String> {
         let usage = &self.state.usage;
         let of_guests = usage[..self.plan.listed().len()].iter();
         let all = of_guests.fold(usage[NOBODYS], |sum, number| sum.wrapping_add(*number));
-        let mut idled = self.plan.listed().iter().zip(&usage[IDLED_FROM..]);
-        let none_deferrable = idled.all(|(guest, idled)| !guest.is_deferrable() || *idled == 0);
-        match *usage == self.counted && all == ticks as u64 && none_deferrable {
+        match *usage == self.counted && all == ticks as u64 {
             true => Ok(()),
             false => Err(format!(
                 "{ticks} ticks went {:?}, not {usage:?}",

@@ -18,7 +18,7 @@ pub fn script(session: &mut Session, plan: &Plan, quoted: &[Quoted]) -> Script {
     let seldom = random.pick(&[1, 1, 1, 2, 5]);
     let often_aside = random.pick(&[4, 4, 1000]);
     let mut releases = vec![Vec::new(); horizon as usize];
-    let begins = begins(random, plan, quoted, &used_up);
+    let begins = begins(random, plan, quoted, &used_up, horizon / 2);
     for (own, begin) in plan.listed().iter().zip(begins) {
         for task in 1..=own.tasks as u16 {
             let aside = if random.once_in(often_aside) {
@@ -79,49 +79,39 @@ fn longest_period(guest: &Guest) -> u32 {
         .unwrap_or(1)
 }
 
-/// When the tasks of each guest begin: those of a quoted task's guest and of the guests above it when they hurt that
-/// task, others just after their guest used up its capacity, and any now and then at another time.
-fn begins(random: &mut Random, plan: &Plan, quoted: &[Quoted], used_up: &[Vec<u32>]) -> Vec<u32> {
+/// When the tasks of each guest begin: just after it used up its capacity, for a quoted task's guest when that hurts
+/// the task, and for any now and then at another time up to the last.
+fn begins(
+    random: &mut Random,
+    plan: &Plan,
+    quoted: &[Quoted],
+    used_up: &[Vec<u32>],
+    last: u32,
+) -> Vec<u32> {
     let hurt = random.pick(quoted);
-    let (begin, last) = hurting(random, plan, hurt, &used_up[hurt.guest]);
     let mut begins = Vec::new();
     for (guest, times) in used_up.iter().enumerate() {
+        let time = random.pick(times);
         begins.push(match random.below(6) {
             0 => random.from(0, last),
-            1..=4 if guest < hurt.guest => last,
-            _ if guest == hurt.guest => begin,
-            _ => random.pick(times),
+            _ if guest == hurt.guest => hurting(plan, hurt, time),
+            _ => time,
         });
     }
     begins
 }
 
-/// When a quoted task is hurt: its release just after its guest used up its capacity, or with the period after that if
-/// it is bound, and the start of the last of the periods that its response takes. That start is one, if there is one,
-/// from which a Deferrable guest above has what it kept and then at once its full capacity.
-fn hurting(random: &mut Random, plan: &Plan, hurt: Quoted, used_up: &[u32]) -> (u32, u32) {
-    let (above, own) = (&plan.guests[..hurt.guest], &plan.guests[hurt.guest]);
-    let bound = own.is_bound(hurt.task);
-    let gap = if bound { 0 } else { own.period - own.capacity };
-    let window = hurt.response.saturating_sub(gap).max(1);
-    let times = |time: &u32| {
-        let next = time.next_multiple_of(own.period);
-        let last = next + (window - 1) / own.period * own.period;
-        (if bound { next } else { *time }, last)
-    };
-    let all: Vec<(u32, u32)> = used_up.iter().map(times).collect();
-    let meets = |guest: &Guest, time: u32| (time + guest.capacity).is_multiple_of(guest.period);
-    let twice = |time: u32| {
-        above
-            .iter()
-            .any(|guest| guest.is_deferrable() && meets(guest, time))
-    };
-    let worst: Vec<(u32, u32)> = all.iter().copied().filter(|both| twice(both.1)).collect();
-    random.pick(if worst.is_empty() { &all } else { &worst })
+/// When a quoted task is hurt by its release, its guest having used up its capacity: at once, or with the next period
+/// if it is bound.
+fn hurting(plan: &Plan, hurt: Quoted, used_up: u32) -> u32 {
+    let own = &plan.guests[hurt.guest];
+    match own.is_bound(hurt.task) {
+        true => used_up.next_multiple_of(own.period),
+        false => used_up,
+    }
 }
 
-/// For each guest the times up to a horizon at which it has just used up its capacity, and 0; a Deferrable guest never
-/// does so without jobs.
+/// For each guest the times up to a horizon at which it has just used up its capacity, and 0.
 fn used_up(side: &Side, plan: &Plan, horizon: u32) -> Vec<Vec<u32>> {
     let mut used_up = vec![vec![0]; plan.listed().len()];
     let mut state = (side.fresh)(plan).dispatcher;

@@ -1,9 +1,9 @@
-//! The check of the promise is tried by itself: sheets, verdicts and ticks that break it are found.
+//! The check of the promise is tried by itself: sheets and verdicts that break it are found.
 
 use super::histories;
 use crate::session::Session;
 use crate::side::{REFERENCE, Side};
-use reference::dispatcher::{Dispatcher, Released, Ticked, place_of, sheet, tick};
+use reference::dispatcher::{Dispatcher, Released, sheet};
 use reference::plan::{Plan, Refusal};
 use reference::verdict::{Verdict, task_verdict};
 
@@ -124,61 +124,6 @@ fn a_pair_of_a_bound_task_taken_at_any_position() {
         sheet: |state, pairs, answers| {
             let mut outcome = sheet(&unbound(state), pairs, answers);
             outcome.dispatcher.plan = state.plan;
-            outcome
-        },
-        ..REFERENCE
-    }));
-}
-
-/// The plan with all its guests Periodic.
-fn periodic(plan: &Plan) -> Plan {
-    let mut plan = *plan;
-    crate::kinds::periodic(&mut plan.guests);
-    plan
-}
-
-/// The jitter left out where a response is quoted, though every guest is judged with it.
-#[test]
-fn a_task_below_a_deferrable_guest_quoted_as_below_a_periodic_one() {
-    assert!(!holds(Side {
-        task_verdict: |plan, id, task| match task_verdict(plan, id, task) {
-            quoted if quoted.ticks > 0 => task_verdict(&periodic(plan), id, task),
-            right => right,
-        },
-        ..REFERENCE
-    }));
-}
-
-#[test]
-fn a_deferrable_guest_that_idles_ticks_away() {
-    assert!(!holds(Side {
-        tick: |state| {
-            let plan = periodic(&state.plan);
-            let outcome = tick(&Dispatcher { plan, ..*state });
-            let dispatcher = Dispatcher {
-                plan: state.plan,
-                ..outcome.dispatcher
-            };
-            Ticked {
-                dispatcher,
-                ..outcome
-            }
-        },
-        ..REFERENCE
-    }));
-}
-
-#[test]
-fn a_deferrable_guest_that_drops_its_capacity_without_work() {
-    assert!(!holds(Side {
-        tick: |state| {
-            let mut outcome = tick(state);
-            for (at, guest) in state.plan.listed().iter().enumerate() {
-                let mut places = guest.places().map(|task| place_of(at, task));
-                if guest.is_deferrable() && places.all(|place| state.rest[place] == 0) {
-                    outcome.dispatcher.left[at] = 0;
-                }
-            }
             outcome
         },
         ..REFERENCE

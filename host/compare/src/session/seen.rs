@@ -5,7 +5,7 @@ use crate::call::EXPORTS;
 use std::ops::RangeInclusive;
 
 /// The numbers that whole calls are refused by; 19 is given of a log's block alone.
-const REFUSALS: [RangeInclusive<usize>; 2] = [1..=18, 20..=22];
+const REFUSALS: [RangeInclusive<usize>; 2] = [1..=18, 20..=23];
 
 /// The numbers that a pair of a sheet is answered by.
 const ANSWERS: [usize; 6] = [0, 7, 8, 9, 10, 17];
@@ -34,6 +34,14 @@ const FATES: [usize; 6] = [0, 2, 3, 4, 5, 6];
 const ORDER: usize = 21;
 const ORDERED: [usize; 7] = [0, 1, 4, 6, 7, 21, 22];
 
+/// The export that converts, and what it gives.
+const CONVERT: usize = 22;
+const CONVERTED: [usize; 8] = [0, 1, 2, 3, 4, 5, 6, 12];
+
+/// The exports that a Deferrable guest must not be handed to, and the number that they refuse it by.
+const NO_DEFERRABLE: [usize; 2] = [2, 8];
+const IS_DEFERRABLE: usize = 23;
+
 impl Session {
     /// Notes for each number whether it was seen, and prints those that were not.
     pub(super) fn each_number_seen(&mut self) {
@@ -54,6 +62,12 @@ impl Session {
         self.each_number_of_files_seen();
         for number in ORDERED {
             self.demand_of(ORDER, number, "each number of orders seen");
+        }
+        for number in CONVERTED {
+            self.demand_of(CONVERT, number, "each old plan's number seen");
+        }
+        for export in NO_DEFERRABLE {
+            self.demand_of(export, IS_DEFERRABLE, "each old plan's number seen");
         }
     }
 

@@ -4,10 +4,12 @@
 mod amendments;
 #[path = "deferrable/blocks.rs"]
 mod blocks;
-#[path = "deferrable/records.rs"]
-mod records;
-#[path = "deferrable/ticks.rs"]
-mod ticks;
+#[path = "deferrable/old.rs"]
+mod old;
+#[path = "deferrable/starts.rs"]
+mod starts;
+#[path = "deferrable/states.rs"]
+mod states;
 #[path = "deferrable/verdicts.rs"]
 mod verdicts;
 #[path = "deferrable/writer.rs"]
@@ -26,7 +28,7 @@ fn passes(side: Side) -> bool {
 }
 
 /// The plan with another number for each guest's kind.
-pub fn of_kinds(plan: &Plan, kind: impl Fn(&Guest) -> u32) -> Plan {
+fn of_kinds(plan: &Plan, kind: impl Fn(&Guest) -> u32) -> Plan {
     let mut changed = *plan;
     for guest in &mut changed.guests {
         guest.deferrable = kind(guest);

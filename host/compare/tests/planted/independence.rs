@@ -1,12 +1,11 @@
 //! Wrong dispatchers in which one guest feels another, each of which the pairs of histories alone must find.
 
-use crate::deferrable::of_kinds;
 use crate::{passes, without_idle_capacity};
 use compare::independence::{HISTORIES, histories};
 use compare::session::Session;
 use compare::side::{REFERENCE, Side};
 use reference::dispatcher::{Dispatcher, FINISHED, IDLED, PLACES, RAN, Released, Ticked};
-use reference::dispatcher::{fresh, place_of, release, sheet, tick};
+use reference::dispatcher::{place_of, release, sheet, tick};
 use reference::plan::{MOST_GUESTS, MOST_TASKS};
 use std::ops::Range;
 
@@ -50,36 +49,6 @@ fn an_idle_guest_above_that_gives_its_tick_away() {
     assert!(!tick_is_independent(|state| tick(&without_idle_capacity(
         state
     ))));
-}
-
-/// With a Deferrable guest above, what that one does is felt: the pairs of histories have Periodic ones there.
-#[test]
-fn every_guest_started_as_deferrable() {
-    assert!(!is_independent(Side {
-        fresh: |plan| fresh(&of_kinds(plan, |_| 1)),
-        ..REFERENCE
-    }));
-}
-
-#[test]
-fn a_deferrable_guest_below_that_takes_the_tick_of_an_idle_one() {
-    assert!(!tick_is_independent(|state| {
-        let right = tick(state);
-        let guests = served(&right).map_or(0..0, |guest| guest + 1..MOST_GUESTS);
-        let deferrable = |job: &usize| state.plan.guests[job / MOST_TASKS].is_deferrable();
-        match first_job(state, guests).filter(deferrable) {
-            Some(job) if right.answer.kind == IDLED => {
-                let mut first = *state;
-                first.left[..job / MOST_TASKS].fill(0);
-                first.position[..job / MOST_TASKS].fill(1);
-                Ticked {
-                    answer: tick(&first).answer,
-                    ..right
-                }
-            }
-            _ => right,
-        }
-    }));
 }
 
 /// The first place of a job of some of the guests.

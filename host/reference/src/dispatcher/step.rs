@@ -25,29 +25,20 @@ fn fill(state: &mut Dispatcher) {
     }
 }
 
-/// The first guest with capacity left that is not passed over has the tick and loses one.
+/// The first guest with capacity left has the tick and loses one.
 fn serve(state: &mut Dispatcher) -> Option<usize> {
     let mut guests = 0..state.plan.listed().len();
-    let guest = guests.find(|guest| state.left[*guest] > 0 && !passed_over(state, *guest))?;
+    let guest = guests.find(|guest| state.left[*guest] > 0)?;
     state.left[guest] -= 1;
     Some(guest)
 }
 
-/// A Deferrable guest is passed over while none of its tasks has run left.
-fn passed_over(state: &Dispatcher, guest: usize) -> bool {
-    state.plan.guests[guest].is_deferrable() && task_with_run_left(state, guest).is_none()
-}
-
 /// Inside it the first task with run left loses one; if none has any the tick is idled away.
 fn work(state: &mut Dispatcher, guest: usize) -> Option<usize> {
-    let task = task_with_run_left(state, guest)?;
+    let mut tasks = state.plan.guests[guest].places();
+    let task = tasks.find(|task| state.rest[place_of(guest, *task)] > 0)?;
     state.rest[place_of(guest, task)] -= 1;
     Some(task)
-}
-
-fn task_with_run_left(state: &Dispatcher, guest: usize) -> Option<usize> {
-    let mut tasks = state.plan.guests[guest].places();
-    tasks.find(|task| state.rest[place_of(guest, *task)] > 0)
 }
 
 /// The age of every job unfinished at the tick's start rises by one, stopping at 1,000,000.

@@ -1,9 +1,11 @@
 //! The plan block: its layout, the reader, the writer and the finder.
 
 mod bytes;
+mod form;
 
 use super::{Guest, MOST_GUESTS, MOST_TASKS, Plan, Refusal, head_in_range, seen, tasks_in_range};
 pub(crate) use bytes::{put_short, put_word, short, word};
+pub use form::{block_of, blocks_of};
 use std::ops::Range;
 
 /// The bytes of one block.
@@ -12,27 +14,27 @@ pub const BLOCK: usize = 512;
 /// The bytes of the longest plan.
 pub const LONGEST_PLAN: usize = BLOCK * MOST_GUESTS;
 
-const KIND: usize = 0;
+pub(crate) const KIND: usize = 0;
 pub(crate) const PLACE: usize = 2;
 const ID: usize = 4;
 const CAPACITY: usize = 8;
 const PERIOD: usize = 12;
 const TASKS: usize = 16;
 const CHARGE: usize = 18;
-const MARKS: usize = 20;
-const SERVER: usize = 22;
+pub(crate) const MARKS: usize = 20;
+pub(crate) const SERVER: usize = 22;
 const ENTRIES: usize = 32;
 const ENTRY: usize = 12;
 const SECOND_GAP: Range<usize> = 224..508;
 const CHECK: usize = 508;
 
 /// The kind of a Periodic guest's block with no marks, and of one with marks or a Deferrable guest.
-const PLAIN: u16 = 1;
+pub(crate) const PLAIN: u16 = 1;
 const EXTENDED: u16 = 2;
 
 /// Byte 22 of a block of kind 2: Periodic or Deferrable.
-const PERIODIC: u8 = 0;
-const DEFERRABLE: u8 = 1;
+pub(crate) const PERIODIC: u8 = 0;
+pub(crate) const DEFERRABLE: u8 = 1;
 
 /// What reading gives: a refusal, or the plan. A refused plan is zero throughout.
 #[derive(Clone, Copy, Debug, Default, PartialEq, Eq)]
@@ -70,11 +72,11 @@ fn place_in(bytes: &[u8], id: u32) -> Result<usize, Refusal> {
     read_plan(bytes)?.place_of(id)
 }
 
-/// Writer: 12, 3, 4, 6; then the first 512 bytes of the lent buffer and no others.
+/// Writer: 12, 3, 4, 6, then 23, a Deferrable guest; then the first 512 bytes of the lent buffer and no others.
 pub fn write(guest: &Guest, place: u32, buffer: &mut [u8]) -> Refusal {
     let result = may_write(guest, place, buffer.len());
     if result.is_ok() {
-        buffer[..BLOCK].copy_from_slice(&block_of(guest, place as u16));
+        buffer[..BLOCK].copy_from_slice(&written(guest, place as u16));
     }
     Refusal::of(&result)
 }
@@ -91,6 +93,9 @@ fn may_write(guest: &Guest, place: u32, length: usize) -> Result<(), Refusal> {
     }
     if !tasks_in_range(guest) {
         return Err(Refusal::new(6, place));
+    }
+    if guest.is_deferrable() {
+        return Err(Refusal::new(23, 0));
     }
     Ok(())
 }
@@ -197,21 +202,12 @@ fn zero_where_it_must_be(block: &[u8], guest: &Guest) -> bool {
         && zero(SECOND_GAP)
 }
 
-/// A plan is its guests' blocks in order.
-pub fn blocks_of(plan: &Plan) -> Vec<u8> {
-    (0..)
-        .zip(plan.listed())
-        .flat_map(|(place, guest)| block_of(guest, place))
-        .collect()
-}
-
-/// Kind 1 is written when all marks of the tasks are zero and the guest is Periodic, else kind 2.
-fn block_of(guest: &Guest, place: u16) -> [u8; BLOCK] {
+/// The block that is written: kind 1 when all marks of the tasks are zero, else kind 2, and byte 22 is zero.
+fn written(guest: &Guest, place: u16) -> [u8; BLOCK] {
     let marks = guest.marks_of_tasks();
-    let (kind, server) = match (marks, guest.is_deferrable()) {
-        (0, false) => (PLAIN, PERIODIC),
-        (_, false) => (EXTENDED, PERIODIC),
-        (_, true) => (EXTENDED, DEFERRABLE),
+    let kind = match marks {
+        0 => PLAIN,
+        _ => EXTENDED,
     };
     let mut block = [0; BLOCK];
     put_short(&mut block, KIND, kind);
@@ -222,7 +218,7 @@ fn block_of(guest: &Guest, place: u16) -> [u8; BLOCK] {
     put_short(&mut block, TASKS, guest.tasks as u16);
     put_short(&mut block, CHARGE, guest.charge);
     put_short(&mut block, MARKS, marks);
-    block[SERVER] = server;
+    block[SERVER] = PERIODIC;
     for task in guest.places() {
         put_word(&mut block, entry(task), guest.run[task]);
         put_word(&mut block, entry(task) + 4, guest.every[task]);

@@ -73,7 +73,8 @@ loop-again c =
       (
         λ x t n e.
             p .put-entry .ensures
-            ∙ entries-laid firstTask _ _ _ (l .i) x (l .buf) t (omega (arith, s .pre .1 .1)) n (l .inv .1 .0 x t n e),
+            ∙ entries-laid firstTask _ _ _ (l .i) x (l .buf) t (omega (arith, s .pre .1 .1 .0)) n
+            (l .inv .1 .0 x t n e),
         p .put-entry .kept .0 ∙ l .inv .1 .1,
       ),
     )

@@ -42,9 +42,10 @@ returns c =
     let p1 = p2 .before .before .before .before in
     let k = p1 .before .before .before .before in
     let z = k .before .before .before .before in
-    let a = z .before .before .before .before .before .args in
+    let i = z .before .before .before .before .before in
+    let a = i .args in
     head-puts (a .g) (a .place) (a .buf .now) (z .put-zeros .last .0) (k .put-kind .last .0) (p1 .put-word .last .0)
-    (p2 .put-word2 .last .0) (p3 .put-word3 .last .0) _
+    (p2 .put-word2 .last .0) (p3 .put-word3 .last .0) _ (i .pre .1 .1 .1)
     (z .put-zeros .ensures) (k .put-kind .ensures) (p1 .put-word .ensures) (p2 .put-word2 .ensures)
     (p3 .put-word3 .ensures) (p4 .put-word4 .ensures)
 

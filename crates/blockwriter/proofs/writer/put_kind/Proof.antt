@@ -1,15 +1,11 @@
--- `blockwriter::writer::put_kind` meets its contract: the live marks and the server decide the kind. Assumes nothing.
-use native.Mathlib.Omega.{arith}
+-- `blockwriter::writer::put_kind` meets its contract: the live marks decide the kind. Assumes nothing.
 use borrow.Author.Needs.{needs}
-use Rattle.blockwriter.proofs.Writing.{live-fits, kind-puts}
+use Rattle.blockwriter.proofs.Writing.{kind-puts}
 use Rattle.blockwriter.proofs.writer.put_kind.Statement.{statement}
 use Rattle.blockwriter.proofs.writer.put_kind.Tie as tie
 
 live-marks-requires : tie.Need-live-marks-requires
 live-marks-requires c κs = search needs
-
-server-of-requires : tie.Need-server-of-requires
-server-of-requires c κs = search needs
 
 kind-for-requires : tie.Need-kind-for-requires
 kind-for-requires c κs = search needs
@@ -23,18 +19,6 @@ add-put-word c = search needs
 put-word-requires : tie.Need-put-word-requires
 put-word-requires c κs = search needs
 
-mul-put-word-2 : tie.Need-mul-put-word-2
-mul-put-word-2 c = search needs
-
--- The marks fit the low half.
-add-put-word-2 : tie.Need-add-put-word-2
-add-put-word-2 c =
-    let s = c .before .before .before .before .before .before in
-    let l = s .before in
-    let a = l .before .before in
-    let m = live-fits (a .args .marks) (a .args .tasks) (a .pre .1 .1) in
-    record { fits = omega (arith, l .live-marks .ensures, s .server-of .ensures .1, m) }
-
 put-word-requires-2 : tie.Need-put-word-requires-2
 put-word-requires-2 c κs = search needs
 
@@ -46,26 +30,20 @@ returns c =
     let p2 = c .before .before in
     let p1 = p2 .before .before .before .before in
     let k = p1 .before .before in
-    let s = k .before in
-    let l = s .before in
+    let l = k .before in
     let a = l .before .before .args in
-    kind-puts _ (l .live-marks .result) _ (s .server-of .result) (k .kind-for .result) (a .place) (a .buf .now)
-    (p1 .put-word .last .0) _
-    (l .live-marks .ensures) (s .server-of .ensures .0) (k .kind-for .ensures .0) (p1 .put-word .ensures)
-    (p2 .put-word2 .ensures)
+    kind-puts _ (l .live-marks .result) (k .kind-for .result) (a .place) (a .buf .now) (p1 .put-word .last .0) _
+    (l .live-marks .ensures) (k .kind-for .ensures .0) (p1 .put-word .ensures) (p2 .put-word2 .ensures)
 
 pub put-kind-spec : {M : Type 1} → statement M
 put-kind-spec =
     tie.close
     (tie.spec
     live-marks-requires
-    server-of-requires
     kind-for-requires
     mul-put-word
     add-put-word
     put-word-requires
-    mul-put-word-2
-    add-put-word-2
     put-word-requires-2
     same-length
     returns)

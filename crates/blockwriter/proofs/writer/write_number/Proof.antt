@@ -1,13 +1,13 @@
--- `blockwriter::writer::write_number` meets its contract: tests in the order 12, 3, 4, 6. Assumes nothing.
+-- `blockwriter::writer::write_number` meets its contract: tests in the order 12, 3, 4, 6, 23. Assumes nothing.
 use mathlib.Core.Path.{_≡_, sym, _∙_}
 use mathlib.Core.Bool.{true}
 use Prim.Native.Nat.{_≤_}
 use native.Mathlib.Omega.{arith}
 use borrow.Author.Needs.{needs}
-use borrow.Author.Tests.{not-true, not-false}
+use borrow.Author.Tests.{eq-eqb, ne-eqb, not-true, not-false}
 use Rattle.plan.specs.Ranges.{mostTasks, guestOk, tasksOk}
 use Rattle.plan.proofs.RangesLaws.{head-says}
-use Rattle.blockwriter.proofs.Writing.{twelve, three, four, six, none}
+use Rattle.blockwriter.proofs.Writing.{twelve, three, four, six, twenty-three, none}
 use Rattle.blockwriter.proofs.writer.write_number.Statement.{statement}
 use Rattle.blockwriter.proofs.writer.write_number.Tie as tie
 
@@ -59,9 +59,20 @@ returns-4 c =
 returns-5 : tie.Need-returns-5
 unfolding tasksOk
 returns-5 c =
-    let h = at3-too c in
+    let t = c .before .before in
+    let h = at3-too t in
+    twenty-three _ _ _ (h .before .before .before .if1 .left) (h .before .before .if2 .left) (head-is h)
+    (sym (t .before .tasks-ok .ensures) ∙ not-false _ (t .if4 .left))
+    (ne-eqb (start h .args .g .deferrable) 0 (λ e. omega arith))
+
+returns-6 : tie.Need-returns-6
+unfolding tasksOk
+returns-6 c =
+    let t = c .before .before in
+    let h = at3-too t in
     none _ _ _ (h .before .before .before .if1 .left) (h .before .before .if2 .left) (head-is h)
-    (sym (c .before .tasks-ok .ensures) ∙ not-false _ (c .if4 .left))
+    (sym (t .before .tasks-ok .ensures) ∙ not-false _ (t .if4 .left))
+    (eq-eqb (start h .args .g .deferrable) 0 (omega arith))
 
 pub write-number-spec : {M : Type 1} → statement M
 write-number-spec =
@@ -74,4 +85,5 @@ write-number-spec =
     cast-n
     tasks-ok-requires
     returns-4
-    returns-5)
+    returns-5
+    returns-6)

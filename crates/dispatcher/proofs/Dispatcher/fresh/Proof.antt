@@ -4,8 +4,8 @@ use Rattle.dispatcher.proofs.Fresh.{start-refused, start-fresh}
 use Rattle.dispatcher.proofs.Dispatcher.fresh.Statement.{statement}
 use Rattle.dispatcher.proofs.Dispatcher.fresh.Tie as tie
 
-check-requires : tie.Need-check-requires
-check-requires c κs = search needs
+start-refusal-requires : tie.Need-start-refusal-requires
+start-refusal-requires c κs = search needs
 
 blank-plan-requires : tie.Need-blank-plan-requires
 blank-plan-requires c κs = search needs
@@ -14,19 +14,19 @@ idle-of-requires : tie.Need-idle-of-requires
 idle-of-requires c κs = search needs
 
 returns : tie.Need-returns
-returns c = start-refused _ (c .before .before .before .check .ensures) (c .before .before .if1 .taken) (c .before .blank-plan .ensures) (c .idle-of .ensures)
+returns c = start-refused _ (c .before .before .before .start-refusal .ensures) (c .before .before .if1 .taken) (c .before .blank-plan .ensures) (c .idle-of .ensures)
 
 idle-of-requires-2 : tie.Need-idle-of-requires-2
 idle-of-requires-2 c κs = search needs
 
 returns-2 : tie.Need-returns-2
-returns-2 c = start-fresh _ (c .before .before .check .ensures) (c .before .if1 .left) (c .idle-of2 .ensures)
+returns-2 c = start-fresh _ (c .before .before .start-refusal .ensures) (c .before .if1 .left) (c .idle-of2 .ensures)
 
 pub fresh-spec : {M : Type 1} → statement M
 fresh-spec =
     tie.close
     (tie.spec
-    check-requires
+    start-refusal-requires
     blank-plan-requires
     idle-of-requires
     returns

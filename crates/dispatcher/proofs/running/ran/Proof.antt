@@ -36,7 +36,7 @@ cast-n c = search needs
 
 steps-requires : tie.Need-steps-requires
 steps-requires c κs =
-    let e = c .before .before .before .before .before .before .before .before .before .before .before .before .before .before .before .before .before .before in
+    let e = c .before .before .before .before .before .before .before .before .before .before .before .before .before .before .before .before in
     let a = e .before .before .before .before .before .before .before .before .args in
     let x = examines (e .before .before .examine .ensures) (a .usage .now) in
     let k = sym (x .okay) ∙ not-false _ (e .if1 .left) in
@@ -47,16 +47,16 @@ unmoved-requires-3 c κs = search needs
 
 returns-3 : tie.Need-returns-3
 returns-3 c =
-    let e = c .before .before .before .before .before .before .before .before .before .before .before .before .before .before .before .before .before .before .before .before .before .before in
+    let e = c .before .before .before .before .before .before .before .before .before .before .before .before .before .before .before .before .before .before .before .before in
     let a = e .before .before .before .before .before .before .before .before .args in
     let x = examines (e .before .before .examine .ensures) (a .usage .now) in
     let k = sym (x .okay) ∙ not-false _ (e .if1 .left) in
     let g = gone refl (x .columns k) (small-tasks (ok-plan _ k) (x .columns k)) _ (quiet _ k) (c .before .before .before .steps .ensures) in
-    rw (c .unmoved3 .ensures) (run-idle k (c .before .before .before .before .before .before .before .before .before .before .before .before .before .before .before .before .before .before .before .before .before .if2 .left) g (c .before .if3 .taken))
+    rw (c .unmoved3 .ensures) (run-idle k (c .before .before .before .before .before .before .before .before .before .before .before .before .before .before .before .before .before .before .before .if2 .left) g (c .before .if3 .taken))
 
 finished-requires : tie.Need-finished-requires
 finished-requires c κs =
-    let e = c .before .before .before .before .before .before .before .before .before .before .before .before .before .before .before .before .before .before .before .before .before .before .before .before in
+    let e = c .before .before .before .before .before .before .before .before .before .before .before .before .before .before .before .before .before .before .before .before .before .before in
     let a = e .before .before .before .before .before .before .before .before .args in
     let x = examines (e .before .before .examine .ensures) (a .usage .now) in
     let k = sym (x .okay) ∙ not-false _ (e .if1 .left) in
@@ -66,19 +66,19 @@ finished-requires c κs =
 
 returns-4 : tie.Need-returns-4
 returns-4 c =
-    let e = c .before .before .before .before .before .before .before .before .before .before .before .before .before .before .before .before .before .before .before .before .before .before .before .before .before in
+    let e = c .before .before .before .before .before .before .before .before .before .before .before .before .before .before .before .before .before .before .before .before .before .before .before in
     let a = e .before .before .before .before .before .before .before .before .args in
     let x = examines (e .before .before .examine .ensures) (a .usage .now) in
     let k = sym (x .okay) ∙ not-false _ (e .if1 .left) in
     let d = stateOf (a .plan) (a .left .now) (a .position .now) (a .rest .now) (a .wait .now) (a .age .now) (a .usage .now) in
     let t = c .before .before .before .before in
     let g = gone refl (x .columns k) (small-tasks (ok-plan _ k) (x .columns k)) _ (quiet _ k) (t .before .before .steps .ensures) in
-    run-done k (c .before .before .before .before .before .before .before .before .before .before .before .before .before .before .before .before .before .before .before .before .before .before .before .before .if2 .left) g (t .if3 .left)
+    run-done k (c .before .before .before .before .before .before .before .before .before .before .before .before .before .before .before .before .before .before .before .before .before .before .if2 .left) g (t .if3 .left)
     (c .finished .ensures (g .before) (ending (ok-plan d k) (g .last (t .if3 .left)) (c .before .before .if4 .taken)))
 
 unfinished-requires : tie.Need-unfinished-requires
 unfinished-requires c κs =
-    let e = c .before .before .before .before .before .before .before .before .before .before .before .before .before .before .before .before .before .before .before .before .before .before .before .before in
+    let e = c .before .before .before .before .before .before .before .before .before .before .before .before .before .before .before .before .before .before .before .before .before .before in
     let a = e .before .before .before .before .before .before .before .before .args in
     let x = examines (e .before .before .examine .ensures) (a .usage .now) in
     let k = sym (x .okay) ∙ not-false _ (e .if1 .left) in
@@ -88,14 +88,14 @@ unfinished-requires c κs =
 
 returns-5 : tie.Need-returns-5
 returns-5 c =
-    let e = c .before .before .before .before .before .before .before .before .before .before .before .before .before .before .before .before .before .before .before .before .before .before .before .before .before in
+    let e = c .before .before .before .before .before .before .before .before .before .before .before .before .before .before .before .before .before .before .before .before .before .before .before in
     let a = e .before .before .before .before .before .before .before .before .args in
     let x = examines (e .before .before .examine .ensures) (a .usage .now) in
     let k = sym (x .okay) ∙ not-false _ (e .if1 .left) in
     let d = stateOf (a .plan) (a .left .now) (a .position .now) (a .rest .now) (a .wait .now) (a .age .now) (a .usage .now) in
     let t = c .before .before .before .before in
     let g = gone refl (x .columns k) (small-tasks (ok-plan _ k) (x .columns k)) _ (quiet _ k) (t .before .before .steps .ensures) in
-    run-done k (c .before .before .before .before .before .before .before .before .before .before .before .before .before .before .before .before .before .before .before .before .before .before .before .before .if2 .left) g (t .if3 .left)
+    run-done k (c .before .before .before .before .before .before .before .before .before .before .before .before .before .before .before .before .before .before .before .before .before .before .if2 .left) g (t .if3 .left)
     (c .unfinished .ensures (g .before)
     (telling (ok-plan d k) (g .last (t .if3 .left)) (x .columns k) (c .before .before .if4 .left)))
 

@@ -33,13 +33,13 @@ returns-2 c =
 jobs-ok-requires : tie.Need-jobs-ok-requires
 unfolding tasksOk
 jobs-ok-requires c κs =
-    let e = c .before .before .before .before .before in
-    (search needs, runs-small (e .before .before .before .before .before .before .before .before .before .before .args .g) (sym (e .tasks-ok .ensures) ∙ not-false _ (c .before .before .before .before .if2 .left)))
+    let e = c .before .before .before .before .before .before in
+    (search needs, runs-small (e .before .before .before .before .before .before .before .before .before .before .args .g) (sym (e .tasks-ok .ensures) ∙ not-false _ (c .before .before .before .before .before .if2 .left)))
 
 returns-3 : tie.Need-returns-3
 unfolding tasksOk
 returns-3 c =
-    let e = c .before .before .before .before .before in
+    let e = c .before .before .before .before .before .before in
     let a = e .before .before .before .before .before .before .before .before .before .before .before .args in
     numbers-decide (a .g) (a .k) (a .left) (a .position) (a .rest .now) (a .wait .now) (a .age .now) (sym (e .before .before .before .before .before .before .head-ok .ensures) ∙ not-false _ (e .before .before .before .before .before .if1 .left)) (sym (e .before .tasks-ok .ensures) ∙ not-false _ (e .if2 .left)) (c .jobs-ok .ensures)
 

@@ -11,7 +11,8 @@ use Rattle.blockfile.specs.File.{blockAt}
 use Rattle.blockfile.specs.Joined.{joined}
 use Rattle.salvage.specs.Moving.{moved}
 use Rattle.blockfile.proofs.File.{part-long}
-use Rattle.salvage.proofs.Moving.{moved-length, part-room, part-next}
+use Rattle.blockfile.proofs.Joined.{part-room, part-next}
+use Rattle.salvage.proofs.Moving.{moved-length}
 use Rattle.salvage.proofs.mover.put_moved_up.Statement.{statement}
 use Rattle.salvage.proofs.mover.put_moved_up.Tie as tie
 

@@ -8,14 +8,14 @@ use Rattle.steps.proofs.running.steps.Statement.{statement}
 use Rattle.steps.proofs.running.steps.Tie as tie
 
 abbrev Inv-loop : tie.InvT-loop
-Inv-loop left₀ position₀ rest₀ wait₀ age₀ usage₀ capacities periods tasks deferrable n ticks turn₀ done₀ left position rest wait age usage turn done =
+Inv-loop left₀ position₀ rest₀ wait₀ age₀ usage₀ capacities periods tasks n ticks turn₀ done₀ left position rest wait age usage turn done =
     (done ≤ ticks)
     × ((turn .had ≡ 1 → ⊥)
-    × StepsTo n capacities periods tasks deferrable (record { left = left₀; position = position₀; rest = rest₀; wait = wait₀; age = age₀; usage = usage₀ }) done
+    × StepsTo n capacities periods tasks (record { left = left₀; position = position₀; rest = rest₀; wait = wait₀; age = age₀; usage = usage₀ }) done
     (record { left = left; position = position; rest = rest; wait = wait; age = age; usage = usage }) turn)
 
 abbrev μ-loop : tie.MeasureT-loop
-μ-loop left₀ position₀ rest₀ wait₀ age₀ usage₀ capacities periods tasks deferrable n ticks turn₀ done₀ left position rest wait age usage turn done = ticks - done
+μ-loop left₀ position₀ rest₀ wait₀ age₀ usage₀ capacities periods tasks n ticks turn₀ done₀ left position rest wait age usage turn done = ticks - done
 
 loop-holds : tie.Need-loop-holds Inv-loop μ-loop
 loop-holds c = (search needs, (λ e. omega arith, none))

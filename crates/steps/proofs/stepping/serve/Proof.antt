@@ -20,10 +20,7 @@ element-copy-out-left : tie.Need-element-copy-out-left
 element-copy-out-left c = search needs
 
 sub-left : tie.Need-sub-left
-sub-left c =
-    let a = c .before .before .before .before .before .args in
-    has-left (a .left .now) (a .rest .now) (a .tasks .now) (a .deferrable .now) _ _ (c .before .before .holder .ensures)
-    (c .before .if1 .left)
+sub-left c = has-left (c .before .before .before .before .args .left .now) _ _ (c .before .before .holder .ensures) (c .before .if1 .left)
 
 mul-left-2 : tie.Need-mul-left-2
 mul-left-2 c = search needs
@@ -38,12 +35,12 @@ element-copy-out-many : tie.Need-element-copy-out-many
 element-copy-out-many c = search needs
 
 cast-many : tie.Need-cast-many
-cast-many c = omega (arith, c .before .before .before .before .before .before .pre .each _ (c .before .before .if1 .left))
+cast-many c = omega (arith, c .before .before .before .before .before .pre .each _ (c .before .before .if1 .left))
 
 worker-requires : tie.Need-worker-requires
 worker-requires c κs =
     let s = c .before .before .before .before in
-    (search needs, s .before .before .before .pre .each _ (c .before .before .before .if1 .left))
+    (search needs, s .before .before .pre .each _ (c .before .before .before .if1 .left))
 
 returns-2 : tie.Need-returns-2
 returns-2 c =
@@ -56,32 +53,32 @@ mul-at c = search needs
 add-at : tie.Need-add-at
 add-at c =
     let s = c .before .before .before .before .before in
-    omega (arith, s .before .before .before .before .pre .each _ (s .if1 .left))
+    omega (arith, s .before .before .before .pre .each _ (s .if1 .left))
 
 mul-had : tie.Need-mul-had
 mul-had c =
     let s = c .before .before .before .before .before in
-    omega (arith, s .before .before .before .before .pre .each _ (s .if1 .left))
+    omega (arith, s .before .before .before .pre .each _ (s .if1 .left))
 
 element-copy-out-had : tie.Need-element-copy-out-had
 element-copy-out-had c =
     let s = c .before .before .before .before .before in
-    omega (arith, s .before .before .before .before .pre .each _ (s .if1 .left))
+    omega (arith, s .before .before .before .pre .each _ (s .if1 .left))
 
 sub-rest : tie.Need-sub-rest
 sub-rest c =
     let s = c .before .before .before .before .before .before in
-    has-run (s .before .before .before .before .args .rest .now) (s .before .holder .result) _ _ (c .before .before .worker .ensures) (c .before .if2 .left)
+    has-run (s .before .before .before .args .rest .now) (s .before .holder .result) _ _ (c .before .before .worker .ensures) (c .before .if2 .left)
 
 mul-rest : tie.Need-mul-rest
 mul-rest c =
     let s = c .before .before .before .before .before .before in
-    omega (arith, s .before .before .before .before .pre .each _ (s .if1 .left))
+    omega (arith, s .before .before .before .pre .each _ (s .if1 .left))
 
 element-write-rest : tie.Need-element-write-rest
 element-write-rest c =
     let s = c .before .before .before .before .before .before in
-    omega (arith, s .before .before .before .before .pre .each _ (s .if1 .left))
+    omega (arith, s .before .before .before .pre .each _ (s .if1 .left))
 
 returns-3 : tie.Need-returns-3
 returns-3 c =

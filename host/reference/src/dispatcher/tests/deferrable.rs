@@ -1,97 +1,105 @@
-//! Ticks of Deferrable guests: P9 of document 02.
+//! Deferrable guests, which are started no more: P13 of document 02.
 
 use super::*;
-use crate::samples::deferrable;
 
-/// Kind and guest of the next ticks' answers.
-fn answers<const N: usize>(mut state: Dispatcher) -> [(u32, u32); N] {
-    std::array::from_fn(|_| {
-        let outcome = tick(&state);
-        state = outcome.dispatcher;
-        (outcome.answer.kind, outcome.answer.guest)
-    })
+/// Plan A with these numbers for the kinds of its guests.
+fn of_kinds(kinds: [u32; 2]) -> Plan {
+    let mut plan = plan_a();
+    plan.guests[0].deferrable = kinds[0];
+    plan.guests[1].deferrable = kinds[1];
+    plan
+}
+
+/// The refusal of a start, which gives a state that is zero throughout.
+fn refused_start(plan: &Plan) -> Refusal {
+    let start = fresh(plan);
+    assert_eq!(start.dispatcher, Dispatcher::with(Plan::default()));
+    start.refusal
 }
 
 #[test]
-fn a_deferrable_guest_without_work_is_passed_over() {
-    let state = taken(&started(&deferrable(plan_a())), 9, 1);
-    assert_eq!(answers(state), [(RAN, 9); 8]);
-    let later = after(&state, 8);
-    assert_eq!(answers(later), [(NOBODY, 0); 12]);
-    assert_eq!(run(&state, 1000).answer, finished(9, 1, 22, 28));
-}
-
-#[test]
-fn any_number_but_0_says_deferrable() {
+fn a_deferrable_guest_is_not_started() {
     for number in [1, 2, 256, u32::MAX] {
-        let mut plan = plan_a();
-        plan.guests[0].deferrable = number;
-        let state = taken(&started(&plan), 9, 1);
-        assert_eq!(state.plan.guests[0].deferrable, number);
-        assert_eq!(answers(state), [(RAN, 9)]);
+        for kinds in [[number, 0], [0, number], [number, number]] {
+            assert_eq!(refused_start(&of_kinds(kinds)), Refusal::new(23, 0));
+        }
     }
 }
 
 #[test]
-fn it_keeps_its_capacity_until_its_period_ends() {
-    let state = started(&deferrable(plan_a()));
-    for ticks in 1..=12 {
-        assert_eq!(after(&state, ticks).left[..2], [2, 8]);
+fn refusal_23_comes_after_the_records_order() {
+    let mut plan = of_kinds([1, 0]);
+    plan.guests[1].id = 7;
+    assert_eq!(refused_start(&plan), Refusal::new(4, 1));
+    plan.guests[1].id = 9;
+    plan.guests[1].run[1] = 0;
+    assert_eq!(refused_start(&plan), Refusal::new(6, 1));
+    for count in [0, 9, u32::MAX] {
+        assert_eq!(refused_start(&Plan { count, ..plan }), Refusal::new(1, 0));
     }
-    let late = taken(&after(&state, 4), 7, 1);
-    let outcome = tick(&late);
-    assert_eq!(outcome.answer, finished(7, 1, 1, 19));
-    assert_eq!(outcome.dispatcher.left[..2], [1, 8]);
-    // At position 0 what was left is dropped, and the full capacity is no more than that.
-    assert_eq!(outcome.dispatcher.position[0], 0);
-    assert_eq!(after(&outcome.dispatcher, 1).left[..2], [2, 8]);
+    plan.guests[1].run[1] = 8;
+    assert_eq!(refused_start(&plan), Refusal::new(23, 0));
 }
 
 #[test]
-fn capacity_kept_and_capacity_refilled_meet() {
+fn guests_past_the_count_are_not_looked_at() {
     let mut plan = plan_a();
-    plan.guests[0] = Guest {
-        deferrable: 1,
-        ..Guest::new(7, 2, 5, &[[6, 40, 40]])
+    for guest in &mut plan.guests[2..] {
+        guest.deferrable = 1;
+    }
+    let state = taken(&started(&plan), 9, 1);
+    assert_eq!(state.plan, plan);
+    assert_eq!(run(&state, 1000).answer, finished(9, 1, 24, 26));
+    let one = Plan {
+        count: 1,
+        ..of_kinds([0, 1])
     };
-    let state = taken(&taken(&after(&started(&plan), 3), 7, 1), 9, 1);
-    let (seven, nine) = ((RAN, 7), (RAN, 9));
-    assert_eq!(answers(state), [seven, seven, seven, seven, nine]);
-    assert_eq!(after(&state, 4).left[0], 0);
+    assert_eq!(after(&started(&one), 3).plan, one);
+}
+
+/// Each call refuses the state as 14, before it looks at anything else, and changes nothing.
+fn refused_in_each_call(state: &Dispatcher) {
+    let (refusal, dispatcher) = (Refusal::new(14, 0), *state);
+    let refused = Released {
+        refusal,
+        dispatcher,
+    };
+    for (id, task) in [(9, 1), (7, 1), (9, 3), (8, 0)] {
+        assert_eq!(release(state, id, task), refused);
+    }
+    for count in [0, 1, 257] {
+        let mut answers = [0xA5; 2];
+        let pairs = vec![pair(9, 1); count];
+        assert_eq!(sheet(state, &pairs, &mut answers), refused);
+        assert_eq!(answers, [0xA5; 2]);
+    }
+    let answer = Answer::default();
+    let ticked = Ticked {
+        refusal,
+        answer,
+        dispatcher,
+    };
+    assert_eq!(tick(state), ticked);
+    for ticks in [0, 1, 1_000_001] {
+        let done = 0;
+        let refused = Run {
+            refusal,
+            done,
+            answer,
+            dispatcher,
+        };
+        assert_eq!(run(state, ticks), refused);
+    }
 }
 
 #[test]
-fn a_periodic_guest_idles_its_tick_away_beside_deferrable_ones() {
-    let mut plan = plan_a();
-    plan.guests[1].deferrable = 1;
-    let idled = (IDLED, 7);
-    let nobody = (NOBODY, 0);
-    let state = started(&plan);
-    assert_eq!(answers(state), [idled, idled, nobody, nobody, nobody]);
-    plan.guests[1].deferrable = 0;
-    plan.guests[0].deferrable = 1;
-    assert_eq!(answers(started(&plan)), [(IDLED, 9); 8]);
-}
-
-#[test]
-fn a_deferrable_guest_has_no_idled_ticks() {
-    let state = taken(&started(&deferrable(plan_a())), 9, 1);
-    assert_eq!(went(&after(&state, 40)), [0, 10, 0, 0, 30]);
-    let busy = taken(&state, 7, 1);
-    assert_eq!(went(&after(&busy, 40)), [1, 10, 0, 0, 29]);
-    let mut mixed = plan_a();
-    mixed.guests[0].deferrable = 1;
-    let state = taken(&started(&mixed), 9, 1);
-    assert_eq!(went(&after(&state, 40)), [0, 16, 0, 6, 24]);
-}
-
-#[test]
-fn a_run_equals_the_single_ticks_of_deferrable_guests() {
-    let state = taken(&taken(&started(&deferrable(plan_a())), 9, 2), 7, 1);
-    let first = run(&state, 1000);
-    assert_eq!((first.done, first.answer), (1, finished(7, 1, 1, 19)));
-    let second = run(&first.dispatcher, 1000);
-    assert_eq!((second.done, second.answer), (8, finished(9, 2, 9, 91)));
-    assert_eq!(second.dispatcher, after(&state, 9));
-    assert_eq!(run(&second.dispatcher, 1000).done, 1000);
+fn a_state_with_a_deferrable_guest_is_refused_in_each_call() {
+    let busy = after(&taken(&started(&plan_a()), 9, 1), 3);
+    for number in [1, 2, 256, u32::MAX] {
+        for kinds in [[number, 0], [0, number], [number, number]] {
+            let plan = of_kinds(kinds);
+            refused_in_each_call(&Dispatcher { plan, ..busy });
+            refused_in_each_call(&Dispatcher::with(plan));
+        }
+    }
 }

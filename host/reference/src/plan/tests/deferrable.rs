@@ -1,4 +1,4 @@
-//! The kind of a guest in records and blocks: P9 of document 02.
+//! The kind of a guest in records and blocks: P9 of document 02, and what the writer refuses by P13.
 
 use super::*;
 use crate::samples::{deferrable, plan_a_bound};
@@ -21,22 +21,69 @@ fn guest_9(marks: u16, deferrable: u32) -> Guest {
     }
 }
 
-/// Kind, marks and bytes 22 and 23 as the writer writes them.
-fn written(guest: &Guest) -> [u8; 5] {
-    let mut block = [0xA5; BLOCK];
-    assert_eq!(write(guest, 0, &mut block), Refusal::NONE);
+/// Kind, marks and bytes 22 and 23 in the one form of a guest's block.
+fn form(guest: &Guest) -> [u8; 5] {
+    let block = block_of(guest, 0);
     [0, 20, 21, 22, 23].map(|at| block[at])
 }
 
 #[test]
 fn one_plan_has_one_form() {
-    assert_eq!(written(&guest_9(0, 0)), [1, 0, 0, 0, 0]);
-    assert_eq!(written(&guest_9(2, 0)), [2, 2, 0, 0, 0]);
+    assert_eq!(form(&guest_9(0, 0)), [1, 0, 0, 0, 0]);
+    assert_eq!(form(&guest_9(2, 0)), [2, 2, 0, 0, 0]);
     for number in [1, 2, 256, u32::MAX] {
-        assert_eq!(written(&guest_9(0, number)), [2, 0, 0, 1, 0]);
-        assert_eq!(written(&guest_9(3, number)), [2, 3, 0, 1, 0]);
-        assert_eq!(written(&guest_9(0xFFFC, number)), [2, 0, 0, 1, 0]);
+        assert_eq!(form(&guest_9(0, number)), [2, 0, 0, 1, 0]);
+        assert_eq!(form(&guest_9(3, number)), [2, 3, 0, 1, 0]);
+        assert_eq!(form(&guest_9(0xFFFC, number)), [2, 0, 0, 1, 0]);
     }
+}
+
+#[test]
+fn the_writer_writes_that_form_of_periodic_guests() {
+    for marks in [0, 1, 2, 3, 0xFFFC, 0xFFFE] {
+        let guest = guest_9(marks, 0);
+        let mut buffer = [0xA5; BLOCK];
+        assert_eq!(write(&guest, 5, &mut buffer), Refusal::NONE);
+        assert_eq!(buffer, block_of(&guest, 5));
+        assert_eq!(buffer[22], 0);
+    }
+}
+
+/// The writer's refusal of a guest at a place, after which a buffer of so many bytes is as it was.
+fn refusal_to_write(guest: &Guest, place: u32, length: usize) -> Refusal {
+    let mut buffer = vec![0xA5; length];
+    let refusal = write(guest, place, &mut buffer);
+    assert!(buffer.iter().all(|byte| *byte == 0xA5));
+    refusal
+}
+
+#[test]
+fn a_deferrable_guest_is_not_written() {
+    for number in [1, 2, 256, u32::MAX] {
+        for marks in [0, 3, 0xFFFC] {
+            let guest = guest_9(marks, number);
+            assert_eq!(refusal_to_write(&guest, 6, 600), Refusal::new(23, 0));
+        }
+    }
+}
+
+#[test]
+fn a_deferrable_guest_is_refused_by_the_writers_other_checks_first() {
+    let guest = guest_9(0, 1);
+    let no_id = Guest { id: 0, ..guest };
+    let mut no_run = guest;
+    no_run.run[1] = 0;
+    let no_multiple = Guest {
+        marks: 1,
+        period: 19,
+        ..guest
+    };
+    assert_eq!(refusal_to_write(&no_id, 8, 511), Refusal::new(12, 0));
+    assert_eq!(refusal_to_write(&no_id, 8, 512), Refusal::new(3, 8));
+    assert_eq!(refusal_to_write(&no_id, 7, 512), Refusal::new(4, 7));
+    assert_eq!(refusal_to_write(&no_run, 7, 512), Refusal::new(6, 7));
+    assert_eq!(refusal_to_write(&no_multiple, 7, 512), Refusal::new(6, 7));
+    assert_eq!(refusal_to_write(&guest, 7, 512), Refusal::new(23, 0));
 }
 
 #[test]

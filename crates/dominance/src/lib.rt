@@ -1,0 +1,1 @@
+// Theorems of plans whose Deferrable guests are made Periodic, about the definitions alone.
