@@ -115,20 +115,20 @@ works-tried above period marks c run every deadline n f e =
     })
     ∙ e
 
--- what works off the column of charged runs is what the guest is accepted at
-pub works-off : (above : ℕ → ℕ) (g : Guest) {run : List ℕ} → Filled run (charged g) (g .tasks)
-    → worksAt above (g .period) (g .marks) (nth run) (everyOf g) (deadlineOf g) (g .tasks)
+-- what works by the charged runs is what the guest is accepted at
+pub works-by : (above : ℕ → ℕ) (g : Guest) (run : ℕ → ℕ) → ((j : ℕ) → j < g .tasks → run j ≡ charged g j)
+    → worksAt above (g .period) (g .marks) run (everyOf g) (deadlineOf g) (g .tasks)
     ≡ (λ c. acceptedUnder above (atCapacity g c))
 unfolding worksAt gap
-works-off above g {run} f =
+works-by above g run f =
     fun-ext (λ c.
-    accepted-alike (triedSystem above (g .period) (g .marks) (nth run) (everyOf g) c) (systemOf above (atCapacity g c))
+    accepted-alike (triedSystem above (g .period) (g .marks) run (everyOf g) c) (systemOf above (atCapacity g c))
     (deadlineOf g) (g .tasks)
     record {
       capacity = refl;
       period = refl;
       above = refl;
-      run = f .holds;
+      run = f;
       every = λ j h. refl;
       gap = λ j h. refl;
     })

@@ -3,3 +3,4 @@ pub mod Answer
 pub mod Promises
 pub mod Told
 pub mod Search
+pub mod Tries

@@ -1,8 +1,10 @@
 -- What the capacities of a guest come to, under guests that take `above v` from v ticks, and what a turn of the search
 -- leaves. Inner: no promise of an entry names this.
 use mathlib.Core.Path.{_≡_}
-use mathlib.Core.Bool.{Bool}
-use Prim.Native.Nat.{ℕ, zero, suc, _-_, _≤_, _<_}
+use mathlib.Core.Bool.{Bool, not, _&&_}
+use Prim.Native.Nat.{ℕ, zero, suc, min, _+_, _-_, _*_, _/_}
+use lib.Dec.{leb}
+use Rattle.lists.specs.Choice.{pick}
 use Rattle.lists.specs.Search.{least, isAt}
 use Rattle.lists.specs.declared.Found.{Found}
 use Rattle.lists.specs.declared.Found.the-variants.{At, Nothing}
@@ -45,9 +47,30 @@ abbrev pub foundAs : ℕ → Found
 foundAs zero = Nothing
 foundAs (suc c) = At (suc c)
 
--- A turn leaves fewer of the capacities to try, and the same answer.
-pub record Halves (works : ℕ → Bool) (lo hi best : ℕ) (r : Span) : Type 0 where
-  pub low : lo ≤ r .lo
-  pub high : r .hi ≤ hi
-  pub fewer : r .hi - r .lo < hi - lo
+-- the capacities up to this one are tried one by one
+abbrev pub few : ℕ
+few = 32
+
+-- The capacity to try next, of those from lo on and below hi: the lowest up to 32; then twice the lowest, until one was
+-- found that works or is unfit, so that hi is at most the period; then the middle.
+unfoldable pub nextTry : (period lo hi : ℕ) → ℕ
+nextTry period lo hi =
+    pick (leb lo few) lo (pick (leb hi period) (lo + (hi - lo) / 2) (min (2 * lo) (hi - 1)))
+
+-- whether capacity c is too small: fitted, and does not work
+abbrev pub tooSmall : (fit works : ℕ → Bool) → (c : ℕ) → Bool
+tooSmall fit works c = fit c && not (works c)
+
+-- where the capacities left to try begin after a turn: past the one tried where that is too small
+unfoldable pub loAfter : (fit works : ℕ → Bool) → (period lo hi : ℕ) → ℕ
+loAfter fit works period lo hi = let c = nextTry period lo hi in pick (tooSmall fit works c) (c + 1) lo
+
+-- where they end: at the one tried where that works or is unfit
+unfoldable pub hiAfter : (fit works : ℕ → Bool) → (period lo hi : ℕ) → ℕ
+hiAfter fit works period lo hi = let c = nextTry period lo hi in pick (tooSmall fit works c) hi c
+
+-- A turn leaves the capacities on the one side of the one that it tried, and the same answer.
+pub record Narrows (fit works : ℕ → Bool) (period lo hi best : ℕ) (r : Span) : Type 0 where
+  pub low : r .lo ≡ loAfter fit works period lo hi
+  pub high : r .hi ≡ hiAfter fit works period lo hi
   pub same : smallestOf works (r .lo) (r .hi) (r .best) ≡ smallestOf works lo hi best

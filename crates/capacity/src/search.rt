@@ -1,17 +1,16 @@
-// The search: an interval of capacities is halved, and each capacity is tried off columns that are lent.
+// The search: an interval of capacities is narrowed, and each capacity is tried off columns that are lent.
 ghost use mathlib.Core.Path.{_≡_};
 ghost use mathlib.Core.Bool.{_&&_};
 ghost use Prim.Native.Nat.{_+_, _≤_, _<_};
 ghost use Rattle.lists.specs.All.{allTo};
 ghost use Rattle.lists.specs.Places.{nth};
 ghost use Rattle.lists.specs.Search.{least};
-ghost use Rattle.rounding.specs.Cut.{bound};
 ghost use Rattle.plan.specs.Ranges.{longest};
 ghost use Rattle.response.specs.Columns.{guestsTake, fittedAt, acceptedUnder};
 ghost use Rattle.response.specs.Ready.{AboveIn, EachRuns, EachShort, Seated};
 ghost use Rattle.capacity.specs.Capacity.{atCapacity};
 ghost use Rattle.capacity.specs.Answer.{capacitySays};
-ghost use Rattle.capacity.specs.Search.{worksAt, smallestOf, foundAs, Halves};
+ghost use Rattle.capacity.specs.Search.{fitsAt, worksAt, smallestOf, foundAs, nextTry, Narrows};
 use crate::CapacityAnswer;
 use lists::Found;
 use plan::Guest;
@@ -21,6 +20,9 @@ use response::charged_of;
 use response::gaps_of;
 use response::guest_response;
 use response::try_guest;
+
+// The capacities up to this one are tried one by one.
+const FEW: u32 = 32;
 
 // The answer of a search.
 pub fn capacity_says(f: Found) -> CapacityAnswer
@@ -39,9 +41,25 @@ struct Span {
     best: u32,
 }
 
-// What is left after a try of the middle: nothing works from an unfit one on, nor up to a fitted one that does not
-// work.
-fn halved(
+// The capacity to try next: the lowest up to 32; then twice the lowest, until one was found that works or is unfit;
+// then the middle.
+fn next_try(lo: u32, hi: u32, period: u32) -> u32
+    requires { ⌜ (lo < hi) × ((hi ≤ period + 1) × (period ≤ longest)) ⌝ }
+    ensures { λ r. ⌜ (r ≡ nextTry period lo hi) × ((lo ≤ r) × (r < hi)) ⌝ }
+{
+    if lo <= FEW {
+        return lo;
+    }
+    if hi <= period {
+        return lo + (hi - lo) / 2;
+    }
+    let twice = 2 * lo;
+    let last = hi - 1;
+    if twice < last { twice } else { last }
+}
+
+// What is left after a try: nothing works from an unfit capacity on, nor up to a fitted one that does not work.
+fn narrowed(
     capacities: &[u32; 16],
     periods: &[u32; 16],
     jitters: &[u32; 16],
@@ -59,22 +77,24 @@ fn halved(
     requires { ⌜ (AboveIn (now jitters) k × (tasks ≤ 16)) × ((1 ≤ lo) × ((lo < hi) × (hi ≤ period + 1))) ⌝ }
     requires { ⌜ (period ≤ longest) × (EachRuns (now run) tasks × EachShort (now deadline) tasks) ⌝ }
     ensures { λ r. ⌜
-        Halves (worksAt (guestsTake (now (capacities .entry)) (now (periods .entry)) (now (jitters .entry)) k)
-        period marks (nth (now (run .entry))) (nth (now (every .entry))) (nth (now (deadline .entry))) tasks)
-        lo hi best r
+        (let above = guestsTake (now (capacities .entry)) (now (periods .entry)) (now (jitters .entry)) k in
+        Narrows (fitsAt above period)
+        (worksAt above period marks (nth (now (run .entry))) (nth (now (every .entry))) (nth (now (deadline .entry)))
+        tasks)
+        period lo hi best r)
         ⌝ }
 {
-    let mid = lo + (hi - lo) / 2;
-    let next = mid + 1;
-    let f = guest_response(capacities, periods, jitters, k, mid, period);
-    let late = gaps_of(marks, period - mid, tasks);
+    let c = next_try(lo, hi, period);
+    let next = c + 1;
+    let f = guest_response(capacities, periods, jitters, k, c, period);
+    let late = gaps_of(marks, period - c, tasks);
     let t = try_guest(
         f,
         capacities,
         periods,
         jitters,
         k,
-        mid,
+        c,
         period,
         run,
         every,
@@ -83,13 +103,9 @@ fn halved(
         tasks,
     );
     match t {
-        Trial::Unfit => Span { lo, hi: mid, best },
+        Trial::Unfit => Span { lo, hi: c, best },
         Trial::Unmet => Span { lo: next, hi, best },
-        Trial::Works => Span {
-            lo,
-            hi: mid,
-            best: mid,
-        },
+        Trial::Works => Span { lo, hi: c, best: c },
     }
 }
 
@@ -122,7 +138,7 @@ fn smallest_in(
     if hi <= lo {
         return best;
     }
-    let s = halved(
+    let s = narrowed(
         capacities,
         periods,
         jitters,
@@ -170,7 +186,7 @@ pub fn smallest_at(
     jitters: &[u32; 16],
     k: usize,
 ) -> Found
-    requires { ⌜ Seated g (now capacities) (now periods) (now jitters) k × (g .period + 1 < bound) ⌝ }
+    requires { ⌜ Seated g (now capacities) (now periods) (now jitters) k ⌝ }
     ensures { λ r. ⌜
         r
         ≡ least

@@ -1,7 +1,7 @@
 -- Demand 2, the verdicts and the smallest capacity, in terms of the equations themselves. `There p id k`: the records
 -- are in order, and the guest with that id stands at place k. Each verdict has its meaning, and is the only one that
 -- has it.
-use mathlib.Core.Path.{_≡_}
+use mathlib.Core.Path.{_≡_, sym, _∙_}
 use Prim.Native.Nat.{ℕ, suc, _-_, _≤_, _<_}
 use Rattle.plan.specs.Order.{planRefusal}
 use Rattle.plan.specs.Place.{placeOf}
@@ -16,12 +16,15 @@ use Rattle.verdict.specs.declared.TaskVerdict.{TaskVerdict}
 use Rattle.verdict.specs.Verdict.{guestVerdict, taskVerdict, acceptance}
 use Rattle.verdict.specs.Quoted.{Quoted}
 use Rattle.capacity.specs.declared.CapacityAnswer.{CapacityAnswer}
+use Rattle.capacity.specs.declared.CapacityAnswer.the-variants.{Smallest}
 use Rattle.capacity.specs.Answer.{smallestCapacity}
-use Rattle.capacity.specs.Capacity.{withCapacity}
+use Rattle.capacity.specs.Capacity.{withCapacity, smallest}
+use Rattle.capacity.specs.Tries.{triesOf, FewTries, mostTries}
 use Rattle.verdict_laws.specs.Capacities.{CapacityMeans}
 use Rattle.verdict_laws.specs.Guests.{There, AllFit, GuestMeans}
 use Rattle.verdict_laws.specs.Tasks.{TaskThere, TaskSolves, InPeriod, TaskQuoted, TaskMeans, SaysUnmet, SaysNotMet}
 use Rattle.verdict_laws.specs.Acceptances.{AcceptMeans, AllSaidMet}
+use Rattle.capacity.proofs.PlanTries as tries
 use Rattle.verdict_laws.proofs.Acceptances as acceptances
 use Rattle.verdict_laws.proofs.Capacities as capacities
 use Rattle.verdict_laws.proofs.Guests as guests
@@ -68,6 +71,17 @@ module _ (p : Plan) (id k : ℕ) (there : There p id k) where
   -- No other capacity answer means what holds.
   pub capacity-only : (v : CapacityAnswer) → CapacityMeans p k v → v ≡ smallestCapacity p id
   capacity-only = capacities.capacity-answer-only p id k there
+
+  -- P14: the search for a smallest capacity a tries few: at most a capacities where a is up to 32, else at most 1.2
+  -- times a.
+  pub capacity-tries : (a : ℕ) → smallestCapacity p id ≡ Smallest a → FewTries (triesOf p k) a
+  capacity-tries a e =
+      tries.capacity-tries p (there .order) k (there .place) a
+      (tries.said-found (smallest p k) a (sym (capacities.capacity-answer-is p id k there) ∙ e))
+
+  -- Whatever the answer, it tries at most 66.
+  pub capacity-tries-most : triesOf p k ≤ mostTries
+  capacity-tries-most = tries.capacity-tries-most p (there .order) k (there .place)
 
   -- A run longer than the deadline is well formed and unmet: where the charged run is past the deadline, the task is
   -- not met, and under fitted guests it is unmet. The run being past the deadline is such a case (`long-run`).

@@ -3,6 +3,7 @@
 
 mod amended;
 mod convert;
+pub mod desk;
 mod dispatcher;
 mod order;
 mod salvage;
@@ -108,7 +109,7 @@ fn dispatching() -> Vec<Case> {
 }
 
 /// The aim for plan files, verdicts, capacities, orders, statements, salvages and conversions, and the one for the
-/// dispatcher.
+/// dispatcher. The desk's are in `desk`.
 const FILES: f64 = 1.2;
 const DISPATCHER: f64 = 1.5;
 

@@ -1,8 +1,9 @@
 //! The plans that are measured, as blocks: each side reads them by its own reader. Beside them the sheets, of
-//! amendments and of releases, the logs, and the damaged and old files.
+//! amendments and of releases, the logs, the damaged and old files, and what the desk asks.
 
 mod damaged;
 mod deferrable;
+pub mod desk;
 mod logs;
 mod unordered;
 
@@ -13,7 +14,7 @@ pub use unordered::{descending, no_order, plan_a_exchanged};
 
 use coreshare::pair;
 use plain::Guest;
-use plain::block::{BLOCK, write};
+use plain::block::{BLOCK, blocks};
 
 /// Guests' periods with no common factor.
 const PERIODS: [u32; 8] = [
@@ -43,8 +44,8 @@ pub fn amended_plan_a() -> Amended {
 /// Plan A with this capacity for guest 9.
 fn plan_a_with(capacity: u32) -> Vec<u8> {
     blocks(&[
-        guest(7, 2, 5, &[[1, 20, 20]]),
-        guest(9, capacity, 20, &[[10, 50, 50], [8, 100, 100]]),
+        Guest::new(7, 2, 5, &[[1, 20, 20]]),
+        Guest::new(9, capacity, 20, &[[10, 50, 50], [8, 100, 100]]),
     ])
 }
 
@@ -93,9 +94,14 @@ pub fn last_unmet() -> Vec<u8> {
 /// 7 guests that leave one tick in 128, and below them a guest that has to climb for each of its own.
 pub fn long_climb() -> Vec<u8> {
     let mut guests: Vec<Guest> = (1..8)
-        .map(|id| guest(id, 1, 1 << id, &[[1, 1_000, 1_000]]))
+        .map(|id| Guest::new(id, 1, 1 << id, &[[1, 1_000, 1_000]]))
         .collect();
-    guests.push(guest(8, 700, 100_000, &[[100, 1_000_000, 1_000_000]; 16]));
+    guests.push(Guest::new(
+        8,
+        700,
+        100_000,
+        &[[100, 1_000_000, 1_000_000]; 16],
+    ));
     blocks(&guests)
 }
 
@@ -110,7 +116,7 @@ pub fn little_asked() -> Vec<u8> {
 /// A guest of period 1,000,000 under 3 short ones, with 16 tasks that need some half of it.
 pub fn half_a_million() -> Vec<u8> {
     let mut guests = short_guests();
-    guests.push(guest(
+    guests.push(Guest::new(
         4,
         1,
         1_000_000,
@@ -122,7 +128,7 @@ pub fn half_a_million() -> Vec<u8> {
 /// The same with every second task bound.
 pub fn bound_half_a_million() -> Vec<u8> {
     let tasks = [[26_600, 1_000_000, 1_000_000]; 16];
-    let mut last = guest(4, 1, 1_000_000, &tasks);
+    let mut last = Guest::new(4, 1, 1_000_000, &tasks);
     last.marks = EVERY_SECOND;
     let mut guests = short_guests();
     guests.push(last);
@@ -132,7 +138,7 @@ pub fn bound_half_a_million() -> Vec<u8> {
 /// The same unbound, with tasks that no capacity is enough for.
 pub fn no_capacity() -> Vec<u8> {
     let mut guests = short_guests();
-    guests.push(guest(
+    guests.push(Guest::new(
         4,
         1,
         1_000_000,
@@ -144,7 +150,7 @@ pub fn no_capacity() -> Vec<u8> {
 fn short_guests() -> Vec<Guest> {
     [(1, 997), (2, 1_999), (3, 4_001)]
         .iter()
-        .map(|(id, period)| guest(*id, period / 20, *period, &[[1, 900_000, 900_000]]))
+        .map(|(id, period)| Guest::new(*id, period / 20, *period, &[[1, 900_000, 900_000]]))
         .collect()
 }
 
@@ -198,30 +204,6 @@ fn guests(task: impl Fn(u32, u32) -> [u32; 3]) -> impl Iterator<Item = Guest> {
     (0..8).map(move |at| {
         let period = PERIODS[at as usize];
         let tasks: Vec<[u32; 3]> = (0..16).map(|number| task(at, number)).collect();
-        guest(at + 1, period / 10, period, &tasks)
+        Guest::new(at + 1, period / 10, period, &tasks)
     })
-}
-
-fn guest(id: u32, capacity: u32, period: u32, tasks: &[[u32; 3]]) -> Guest {
-    let mut guest = Guest {
-        id,
-        capacity,
-        period,
-        tasks: tasks.len() as u32,
-        ..Guest::default()
-    };
-    for (at, [run, every, deadline]) in tasks.iter().enumerate() {
-        guest.run[at] = *run;
-        guest.every[at] = *every;
-        guest.deadline[at] = *deadline;
-    }
-    guest
-}
-
-fn blocks(guests: &[Guest]) -> Vec<u8> {
-    let mut bytes = vec![0; BLOCK * guests.len()];
-    for ((place, guest), block) in (0..).zip(guests).zip(bytes.chunks_mut(BLOCK)) {
-        write(guest, place, block).expect("a well-formed guest");
-    }
-    bytes
 }

@@ -56,10 +56,7 @@ smallest-at-requires c κs =
     let columns = look .before .before .before .before .before in
     let l = look .look-up .ensures _ (lent (columns .before .check .ensures) (columns .columns-of .ensures)) in
     let h = found .if1 .left in
-    let order = look-order l h in (
-      seated-at _ _ (columns .columns-of .ensures) (jitters .jitters-of .ensures) order _ (look-here l h),
-      omega (arith, order .guests _ (look-here l h) .head .short),
-    )
+    seated-at _ _ (columns .columns-of .ensures) (jitters .jitters-of .ensures) (look-order l h) _ (look-here l h)
 
 capacity-says-requires : tie.Need-capacity-says-requires
 capacity-says-requires c κs = search needs

@@ -1,12 +1,13 @@
 //! Plans whose lowest guest's tasks are handed in from the latest deadline on.
 
-use super::{blocks, full, growing_task, guest};
+use super::{blocks, full, growing_task};
+use plain::Guest;
 
 /// Plan A with guest 9's tasks exchanged.
 pub fn plan_a_exchanged() -> Vec<u8> {
     blocks(&[
-        guest(7, 2, 5, &[[1, 20, 20]]),
-        guest(9, 8, 20, &[[8, 100, 100], [10, 50, 50]]),
+        Guest::new(7, 2, 5, &[[1, 20, 20]]),
+        Guest::new(9, 8, 20, &[[8, 100, 100], [10, 50, 50]]),
     ])
 }
 

@@ -54,6 +54,15 @@ pub fn write(guest: &Guest, place: u32, buffer: &mut [u8]) -> Result<(), Refusal
     Ok(())
 }
 
+/// The blocks of well-formed guests, as a plan.
+pub fn blocks(guests: &[Guest]) -> Vec<u8> {
+    let mut bytes = vec![0; BLOCK * guests.len()];
+    for ((place, guest), block) in (0..).zip(guests).zip(bytes.chunks_mut(BLOCK)) {
+        write(guest, place, block).expect("a well-formed guest");
+    }
+    bytes
+}
+
 /// The record of a block whose sum, kind, place and head are right, or the refusal's number.
 pub(crate) fn decode(block: &[u8; BLOCK], place: usize) -> Result<Guest, u32> {
     if sum(block) != 0 {

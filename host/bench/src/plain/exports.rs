@@ -109,6 +109,11 @@ pub extern "C" fn smallest_capacity(plan: Plan, id: u32) -> Verdict {
 }
 
 #[inline(never)]
+pub extern "C" fn smallest_capacity_upward(plan: Plan, id: u32) -> Verdict {
+    verdict(plan.smallest_capacity_upward(id).map(|ticks| (1, ticks)))
+}
+
+#[inline(never)]
 pub extern "C" fn release(mut dispatcher: Dispatcher, id: u32, task: u32) -> Released {
     let refusal = dispatcher.release(id, task).err().unwrap_or_default();
     Released {

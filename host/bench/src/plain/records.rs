@@ -40,6 +40,23 @@ impl Refusal {
 }
 
 impl Guest {
+    /// A record from its tasks' run, period and deadline: Periodic, with charge 0 and no task bound.
+    pub fn new(id: u32, capacity: u32, period: u32, tasks: &[[u32; 3]]) -> Guest {
+        let mut guest = Guest {
+            id,
+            capacity,
+            period,
+            tasks: tasks.len() as u32,
+            ..Guest::default()
+        };
+        for (at, [run, every, deadline]) in tasks.iter().enumerate() {
+            guest.run[at] = *run;
+            guest.every[at] = *every;
+            guest.deadline[at] = *deadline;
+        }
+        guest
+    }
+
     pub fn charged_run(&self, task: usize) -> u32 {
         self.run[task] + 2 * u32::from(self.charge)
     }

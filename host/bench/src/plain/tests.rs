@@ -1,11 +1,11 @@
 //! Holds plain Rust to the reference, as the library is held: what is measured must be right.
 
+mod capacity;
 mod convert;
 mod order;
 mod salvage;
 mod statement;
 
-use crate as plain;
 use crate::exports;
 use compare::session::Session;
 use compare::side::Side;

@@ -1,5 +1,5 @@
 -- `capacity::search::found_as` meets its contract, by whether the number is 0. Assumes nothing.
-use Rattle.capacity.proofs.Halving.{found-best, found-none}
+use Rattle.capacity.proofs.Narrowing.{found-best, found-none}
 use Rattle.capacity.proofs.search.found_as.Statement.{statement}
 use Rattle.capacity.proofs.search.found_as.Tie as tie
 

@@ -6,33 +6,33 @@ use borrow.Author.Needs.{needs}
 use borrow.Author.Tests.{not-true, not-false}
 use Rattle.response.specs.Columns.{guestsTake}
 use Rattle.response.proofs.ReadyLaws.{filled-runs, seated-server}
-use Rattle.capacity.proofs.SearchLaws.{works-off}
-use Rattle.capacity.proofs.Halving.{above-unfit, above-fitted}
+use Rattle.capacity.proofs.SearchLaws.{works-by}
+use Rattle.capacity.proofs.Narrowing.{above-unfit, above-fitted}
 use Rattle.capacity.proofs.search.smallest_at.Statement.{statement}
 use Rattle.capacity.proofs.search.smallest_at.Tie as tie
 
 all-fitted-requires : tie.Need-all-fitted-requires
 all-fitted-requires c κs =
-    let s = c .pre .0 in
+    let s = c .pre in
     ((omega (arith, s .place), λ j l. s .late j (omega arith)), λ j l. s .ranged j (omega arith))
 
 returns : tie.Need-returns
 returns c = above-unfit _ _ (sym (c .before .all-fitted .ensures) ∙ not-true _ (c .if1 .taken))
 
 add-end : tie.Need-add-end
-add-end c = search needs
+add-end c = omega (arith, seated-server _ _ _ _ _ (c .before .before .pre) .short)
 
 cast-tasks : tie.Need-cast-tasks
 cast-tasks c = search needs
 
 charged-of-requires : tie.Need-charged-of-requires
-charged-of-requires c κs = c .before .before .before .before .before .pre .0 .tasks
+charged-of-requires c κs = c .before .before .before .before .before .pre .tasks
 
 smallest-in-requires : tie.Need-smallest-in-requires
 smallest-in-requires c κs =
     let filled = c .before .before .before in
     let start = filled .before .before .before .before .before .before in
-    let s = start .pre .0 in (
+    let s = start .pre in (
       (
         ((omega (arith, s .place), λ j l. s .late j (omega arith)), s .tasks .few),
         (omega arith, omega arith),
@@ -52,7 +52,7 @@ returns-2 c =
     let test = filled .before .before .before .before in
     let g = test .before .before .args .g in
     above-fitted _ _ (g .period) (sym (test .before .all-fitted .ensures) ∙ not-false _ (test .if1 .left))
-    (works-off (guestsTake _ _ _ _) g (filled .charged-of .ensures)) (c .before .smallest-in .ensures)
+    (works-by (guestsTake _ _ _ _) g _ (filled .charged-of .ensures .holds)) (c .before .smallest-in .ensures)
     (c .found-as .ensures)
 
 pub smallest-at-spec : {M : Type 1} → statement M

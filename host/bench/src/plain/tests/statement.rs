@@ -1,7 +1,6 @@
 //! Statements and log blocks with the reference's types.
 
 use super::refusal;
-use crate as plain;
 use crate::exports;
 use reference::log::LogEntries;
 use reference::plan::Refusal;

@@ -1,6 +1,5 @@
--- `capacity::search::halved` meets its contract: what the trial of the middle says is one of the three turns of a
--- halving. Assumes nothing.
-use Prim.Native.Nat.{_+_, _-_, _/_}
+-- `capacity::search::narrowed` meets its contract: what the trial says is one of the three turns of the search. Assumes
+-- nothing.
 use native.Mathlib.Omega.{arith}
 use borrow.Author.Needs.{needs}
 use Rattle.lists.specs.Places.{nth}
@@ -10,15 +9,12 @@ use Rattle.response.proofs.GuestLaws.{take-grows}
 use Rattle.response.proofs.ReadyLaws.{filled-gaps}
 use Rattle.response.proofs.TrialLaws.{trial-unfit, trial-unmet, trial-works}
 use Rattle.capacity.proofs.SearchLaws.{halving, works-tried}
-use Rattle.capacity.proofs.Halving.{turn-left, turn-right, turn-here}
-use Rattle.capacity.proofs.search.halved.Statement.{statement}
-use Rattle.capacity.proofs.search.halved.Tie as tie
+use Rattle.capacity.proofs.Narrowing.{turn-left, turn-right, turn-here}
+use Rattle.capacity.proofs.search.narrowed.Statement.{statement}
+use Rattle.capacity.proofs.search.narrowed.Tie as tie
 
-sub-mid : tie.Need-sub-mid
-sub-mid c = search needs
-
-add-mid : tie.Need-add-mid
-add-mid c = search needs
+next-try-requires : tie.Need-next-try-requires
+next-try-requires c κs = search needs
 
 add-next : tie.Need-add-next
 add-next c = search needs
@@ -36,7 +32,7 @@ try-guest-requires : tie.Need-try-guest-requires
 try-guest-requires c κs =
     let gaps = c .before in
     let asked = gaps .before in
-    let s = asked .before in
+    let s = asked .before .before in
     let more = s .pre .1 in (
       (
         s .pre .0 .0,
@@ -64,13 +60,11 @@ unfolding fitsAt
 returns c =
     let tried = c .before .before in
     let gaps = tried .before .before in
-    let s = gaps .before .before in
+    let start = gaps .before .before in
+    let s = start .before in
     let a = s .args in
-    let lo = a .lo in
-    let hi = a .hi in
     let good = halving (guestsTake _ _ _ _) (take-grows _ _ _ _) _ (a .marks) _ _ _ _ (s .pre .1 .1 .0) in
-    turn-left _ _ good lo (lo + (hi - lo) / 2) hi _
-    (s .pre .0 .1 .0) (omega arith) (omega arith)
+    turn-left _ _ good _ (a .lo) (a .hi) _ _ (s .pre .0 .1 .0) (start .next-try .ensures)
     (trial-unfit _ _ _ (tried .try-guest .ensures) (c .enum-told .given .1))
 
 returns-2 : tie.Need-returns-2
@@ -78,14 +72,12 @@ unfolding fitsAt
 returns-2 c =
     let tried = c .before .before in
     let gaps = tried .before .before in
-    let s = gaps .before .before in
+    let start = gaps .before .before in
+    let s = start .before in
     let a = s .args in
-    let lo = a .lo in
-    let hi = a .hi in
     let good = halving (guestsTake _ _ _ _) (take-grows _ _ _ _) _ (a .marks) _ _ _ _ (s .pre .1 .1 .0) in
     let unmet = trial-unmet _ _ _ (tried .try-guest .ensures) (c .enum-told2 .given .1) in
-    turn-right _ _ good lo (lo + (hi - lo) / 2) hi _
-    (s .pre .0 .1 .0) (omega arith) (omega arith) (
+    turn-right _ _ good _ (a .lo) (a .hi) _ _ (s .pre .0 .1 .0) (start .next-try .ensures) (
       unmet .0,
       works-tried (guestsTake _ _ _ _) _ _ _ (a .run .now) (a .every .now) (nth (a .deadline .now)) _
           (gaps .gaps-of .ensures) (unmet .1),
@@ -95,22 +87,19 @@ returns-3 : tie.Need-returns-3
 returns-3 c =
     let tried = c .before .before in
     let gaps = tried .before .before in
-    let s = gaps .before .before in
+    let start = gaps .before .before in
+    let s = start .before in
     let a = s .args in
-    let lo = a .lo in
-    let hi = a .hi in
     let good = halving (guestsTake _ _ _ _) (take-grows _ _ _ _) _ (a .marks) _ _ _ _ (s .pre .1 .1 .0) in
-    turn-here _ _ good lo (lo + (hi - lo) / 2) hi _
-    (s .pre .0 .1 .0) (omega arith) (omega arith)
+    turn-here _ _ good _ (a .lo) (a .hi) _ _ (s .pre .0 .1 .0) (start .next-try .ensures)
     (works-tried (guestsTake _ _ _ _) _ _ _ (a .run .now) (a .every .now) (nth (a .deadline .now)) _
     (gaps .gaps-of .ensures) (trial-works _ _ _ (tried .try-guest .ensures) (c .enum-told3 .given .1)))
 
-pub halved-spec : {M : Type 1} → statement M
-halved-spec =
+pub narrowed-spec : {M : Type 1} → statement M
+narrowed-spec =
     tie.close
     (tie.spec
-    sub-mid
-    add-mid
+    next-try-requires
     add-next
     guest-response-requires
     sub-gaps-of
