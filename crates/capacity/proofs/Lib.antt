@@ -1,4 +1,5 @@
 -- Laws, each file named after the definition that it is about.
+pub mod Staged
 pub mod SearchLaws
 pub mod NextTry
 pub mod Narrowing

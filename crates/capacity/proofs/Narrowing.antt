@@ -1,15 +1,14 @@
 -- The turns of the search, over any numbers that can be halved, and its two ends. Assumes nothing.
-use mathlib.Core.Path.{_≡_, refl, sym, _∙_, ap}
+use mathlib.Core.Path.{_≡_, refl, _∙_, ap}
 use mathlib.Core.Bool.{Bool, true, false, _&&_}
-use Prim.Native.Nat.{ℕ, zero, suc, _+_, _-_, _≤_, _<_}
-use native.Mathlib.Omega.{arith}
+use Prim.Native.Nat.{ℕ, _+_, _-_, _≤_, _<_}
 use Rattle.lists.specs.Search.{least}
 use Rattle.lists.specs.declared.Found.{Found}
 use Rattle.lists.specs.declared.Found.the-variants.{At, Nothing}
 use Rattle.capacity.specs.declared.search.Span.{Span}
-use Rattle.capacity.specs.Search.{orBest, smallestOf, foundAs, nextTry, Narrows}
+use Rattle.capacity.specs.Search.{orBest, smallestOf, nextTry, Narrows}
 use Rattle.lists.proofs.All.{and-false-left}
-use Rattle.lists.proofs.Search.{First, least-says, least-is}
+use Rattle.lists.proofs.Search.{least-is}
 use Rattle.equation.proofs.Halve.{Halving, halve-none, halve-left, halve-right, halve-lower, halve-here}
 use Rattle.capacity.proofs.NextTry.{unfit-ends, working-ends, unmet-small, after-small, after-ends, Fewer, after-fewer}
 
@@ -63,34 +62,11 @@ pub narrows-fewer : {fit works : ℕ → Bool} {period lo hi best : ℕ} {r : Sp
     → lo < hi → Fewer lo hi (r .lo) (r .hi)
 narrows-fewer n h = rw (n .low, n .high) (after-fewer _ _ _ _ _ h)
 
--- a capacity from 1 on is an answer, and 0 is none
-pub found-best : (c : ℕ) → 1 ≤ c → At c ≡ foundAs c
-found-best zero h = absurd (omega arith)
-found-best (suc c) h = refl
-
-pub found-none : (c : ℕ) → c < 1 → Nothing ≡ foundAs c
-found-none zero h = refl
-found-none (suc c) h = absurd (omega arith)
-
--- so what was found from 1 on is found again
-found-again : (f : Found) → ((c : ℕ) → f ≡ At c → 1 ≤ c) → foundAs (orBest f 0) ≡ f
-found-again Nothing h = refl
-found-again (At c) h = sym (found-best c (h c refl))
-
--- what is found from 1 on is at least 1
-first-some : (f : ℕ → Bool) (n c : ℕ) → least f n 1 ≡ At c → 1 ≤ c
-first-some f n c e = let s : First f n 1 c = rw e at (least-says f n 1) in s .low
-
 -- a guest above is unfit: nothing works
 pub above-unfit : {b : Bool} (f : ℕ → Bool) (n : ℕ) → b ≡ false → Nothing ≡ least (λ c. b && f c) n 1
 above-unfit f n e = least-is _ n 1 Nothing record { never = λ z h k. and-false-left (f z) e }
 
--- all above are fitted: what works is what the search over all capacities finds
-pub above-fitted : {b : Bool} (f g : ℕ → Bool) {c : ℕ} {r : Found} (n : ℕ) → b ≡ true → f ≡ g
-    → c ≡ smallestOf f 1 (n + 1) 0 → r ≡ foundAs c → r ≡ least (λ c. b && g c) n 1
-unfolding smallestOf
-above-fitted {b} f g n e k q a =
-    let m : n + 1 - 1 ≡ n = omega arith in
-    rw e (a ∙ ap foundAs q ∙ found-again (least f (n + 1 - 1) 1) (first-some f (n + 1 - 1))
-    ∙ ap (λ (d : ℕ). least f d 1) m
-    ∙ ap (λ (t : ℕ → Bool). least t n 1) k)
+-- all above are fitted: what works is what the search finds
+pub above-fitted : {b : Bool} (f g : ℕ → Bool) {r : Found} (n : ℕ) → b ≡ true → f ≡ g → r ≡ least f n 1
+    → r ≡ least (λ c. b && g c) n 1
+above-fitted f g n e k a = rw e (a ∙ ap (λ (t : ℕ → Bool). least t n 1) k)

@@ -1,14 +1,14 @@
 -- Fitted capacities are closed downward, and below a fitted one more capacity is never worse; so capacities can be
 -- halved. Assumes nothing.
-use mathlib.Core.Path.{_≡_, refl, sym, _∙_, fun-ext}
-use mathlib.Core.Bool.{Bool, true}
+use mathlib.Core.Path.{_≡_, refl, sym, _∙_, ap, fun-ext}
+use mathlib.Core.Bool.{Bool, true, false}
 use mathlib.Core.List.{List}
-use Prim.Native.Nat.{ℕ, _-_, _≤_, _<_}
+use Prim.Native.Nat.{ℕ, _+_, _-_, _≤_, _<_}
 use native.Mathlib.Nat.{le-refl}
 use native.Mathlib.Omega.{arith}
 use Rattle.lists.specs.Places.{nth}
-use Rattle.lists.specs.Search.{isAt}
-use Rattle.lists.specs.declared.Found.the-variants.{At}
+use Rattle.lists.specs.Search.{isAt, least}
+use Rattle.lists.specs.declared.Found.the-variants.{At, Nothing}
 use Rattle.equation.specs.Guest.{guestSide, guestUnder}
 use Rattle.equation.specs.System.{System, gapFor, taskUnder}
 use Rattle.plan.specs.Charge.{charged}
@@ -19,17 +19,19 @@ use Rattle.plan.specs.declared.Guest.{Guest}
 use Rattle.response.specs.Task.{gap, systemOf}
 use Rattle.response.specs.Columns.{columnSystem, metUnder, acceptedIn, acceptedUnder}
 use Rattle.capacity.specs.Capacity.{atCapacity}
-use Rattle.capacity.specs.Search.{fitsAt, triedSystem, worksAt}
-use Rattle.lists.proofs.All.{and-left, and-right, and-true, all-at, all-by}
+use Rattle.capacity.specs.Search.{fitsAt, triedSystem, worksAt, metAt, meetsAt, smallestOf}
+use Rattle.lists.proofs.All.{and-left, and-right, and-true, all-at}
 use Rattle.lists.proofs.Search.{at-of, is-at}
 use Rattle.equation.proofs.Solve.{solve-at}
 use Rattle.equation.proofs.System.{gap-for-grows}
 use Rattle.equation.proofs.Rise.{Grows, rise-to, rise-under}
 use Rattle.equation.proofs.Respond.{Roomier, respond-sooner}
+use Rattle.equation.proofs.Alike.{task-alike}
 use Rattle.equation.proofs.Halve.{Halving}
 use Rattle.response.proofs.GuestLaws.{response-says}
 use Rattle.response.proofs.TaskLaws.{regular}
 use Rattle.response.proofs.ColumnsLaws.{accepted-alike}
+use Rattle.capacity.proofs.Staged.{Settled, settled-next, settled-nowhere, settled-all, none-fits}
 
 module _ (above : ℕ → ℕ) (grows : Grows above) (period : ℕ) where
   -- a guest that is fitted at a capacity is fitted at each smaller one
@@ -81,30 +83,29 @@ module _ (above : ℕ → ℕ) (grows : Grows above) (period marks : ℕ) (run e
       } in
       respond-sooner (at c) (at c′) i (sure .0) pos (sure .1) (roomier i c c′ le) d r e
 
--- capacities can be halved
-pub halving : (above : ℕ → ℕ) → Grows above → (period marks : ℕ) (run every deadline : ℕ → ℕ) (n : ℕ)
-    → ((i : ℕ) → i < n → 1 ≤ run i) → Halving (fitsAt above period) (worksAt above period marks run every deadline n)
-unfolding worksAt acceptedIn fitsAt metUnder
-halving above grows period marks run every deadline n runs = record {
+-- the capacities at which task i is met can be halved
+pub halving : (above : ℕ → ℕ) → Grows above → (period marks : ℕ) (run every deadline : ℕ → ℕ) (i : ℕ) → 1 ≤ run i
+    → Halving (fitsAt above period) (meetsAt above period marks run every deadline i)
+unfolding meetsAt
+halving above grows period marks run every deadline i runs = record {
   fits = λ a w. and-left (fitsAt above period a) _ w;
   down = fits-down above grows period;
-  grow = λ a b pos le w f. and-true f
-      (all-by (λ i. isAt (taskUnder (triedSystem above period marks run every b) i (deadline i))) n (λ i h. (
-      let m = at-of _
-      (all-at (λ i. isAt (taskUnder (triedSystem above period marks run every a) i (deadline i))) n i h
-      (and-right (fitsAt above period a) _ w)) in
-      is-at (met-up above grows period marks run every i a b (deadline i) (m .0) (runs i h) pos le f (m .1) .1))));
+  grow = λ a b pos le w f. (
+      let m = at-of _ (and-right (fitsAt above period a) _ w) in
+      and-true f
+      (is-at (met-up above grows period marks run every i a b (deadline i) (m .0) runs pos le f (m .1) .1)));
 }
 
--- a capacity is tried off the column of gaps that is made for it
-pub works-tried : (above : ℕ → ℕ) (period marks c : ℕ) (run every : List ℕ) (deadline : ℕ → ℕ) (n : ℕ) {late : List ℕ}
+-- a task is tried off the column of gaps that is made for the capacity, where that is fitted
+pub meets-tried : (above : ℕ → ℕ) (period marks c : ℕ) (run every : List ℕ) (deadline : ℕ → ℕ) (i : ℕ) {late : List ℕ}
     {b : Bool}
-    → Filled late (λ i. gapFor (marked marks i) (period - c)) n
-    → acceptedIn (columnSystem above c period run every late) deadline n ≡ b
-    → worksAt above period marks (nth run) (nth every) deadline n c ≡ b
-unfolding worksAt
-works-tried above period marks c run every deadline n f e =
-    sym (accepted-alike _ (triedSystem above period marks (nth run) (nth every) c) deadline n
+    → fitsAt above period c ≡ true → Filled late (λ j. gapFor (marked marks j) (period - c)) (i + 1)
+    → isAt (taskUnder (columnSystem above c period run every late) i (deadline i)) ≡ b
+    → meetsAt above period marks (nth run) (nth every) deadline i c ≡ b
+unfolding meetsAt
+meets-tried above period marks c run every deadline i fits f e =
+    rw fits
+    (sym (ap isAt (task-alike _ (triedSystem above period marks (nth run) (nth every) c) (i + 1) i (omega arith)
     record {
       capacity = refl;
       period = refl;
@@ -112,8 +113,55 @@ works-tried above period marks c run every deadline n f e =
       run = λ j h. refl;
       every = λ j h. refl;
       gap = f .holds;
-    })
-    ∙ e
+    }
+    (deadline i)))
+    ∙ e)
+
+-- the tasks before i are settled at c, and task i is met first at c′ from there on
+module _ (above : ℕ → ℕ) (period marks : ℕ) (run every deadline : ℕ → ℕ) (i c c′ : ℕ)
+    (s : Settled (fitsAt above period) (metAt above period marks run every deadline) period i c)
+    (e : c′ ≡ smallestOf (meetsAt above period marks run every deadline i) c (period + 1) 0) where
+  -- so task i is settled there with those before it
+  pub task-settled : Grows above → ((j : ℕ) → j < i → 1 ≤ run j) → 1 ≤ c′
+      → Settled (fitsAt above period) (metAt above period marks run every deadline) period (i + 1) c′
+  unfolding meetsAt
+  task-settled grows runs h =
+      settled-next (fitsAt above period) (metAt above period marks run every deadline) period i c c′ s e
+      (λ j l. halving above grows period marks run every deadline j (runs j l)) h
+
+  -- or nowhere: then no capacity works
+  pub task-nowhere : (n : ℕ) → i < n → c′ < 1
+      → Nothing ≡ least (worksAt above period marks run every deadline n) period 1
+  unfolding meetsAt worksAt acceptedIn metUnder fitsAt
+  task-nowhere n h k =
+      settled-nowhere (fitsAt above period) (metAt above period marks run every deadline) period i c c′ s e n h k
+
+-- where the guest is unfit at 1, no capacity works
+pub none-works : (above : ℕ → ℕ) → Grows above → (period marks : ℕ) (run every deadline : ℕ → ℕ) (n : ℕ)
+    → fitsAt above period 1 ≡ false → Nothing ≡ least (worksAt above period marks run every deadline n) period 1
+unfolding worksAt acceptedIn metUnder fitsAt
+none-works above grows period marks run every deadline n e =
+    none-fits (fitsAt above period) (metAt above period marks run every deadline) period n
+    (λ c pos f. fits-down above grows period 1 c (omega arith) pos f) e
+
+-- all tasks are settled at c: it is the smallest that works
+pub all-settled : (above : ℕ → ℕ) (period marks : ℕ) (run every deadline : ℕ → ℕ) (i n c : ℕ) → i ≡ n → 1 ≤ n
+    → Settled (fitsAt above period) (metAt above period marks run every deadline) period i c
+    → At c ≡ least (worksAt above period marks run every deadline n) period 1
+unfolding worksAt acceptedIn metUnder fitsAt
+all-settled above period marks run every deadline i n c e h s =
+    settled-all (fitsAt above period) (metAt above period marks run every deadline) period n c h (rw (← e) s)
+
+-- where a capacity works it is fitted and each task is met
+pub works-each : (above : ℕ → ℕ) (period marks : ℕ) (run every deadline : ℕ → ℕ) (n c : ℕ)
+    → worksAt above period marks run every deadline n c ≡ true
+    → (fitsAt above period c ≡ true)
+    × ((j : ℕ) → j < n → metAt above period marks run every deadline j c ≡ true)
+unfolding worksAt acceptedIn metUnder fitsAt
+works-each above period marks run every deadline n c w = (
+  and-left (fitsAt above period c) _ w,
+  λ j h. all-at (λ i. metAt above period marks run every deadline i c) n j h (and-right (fitsAt above period c) _ w),
+)
 
 -- what works by the charged runs is what the guest is accepted at
 pub works-by : (above : ℕ → ℕ) (g : Guest) (run : ℕ → ℕ) → ((j : ℕ) → j < g .tasks → run j ≡ charged g j)

@@ -2,14 +2,14 @@
 -- leaves. Inner: no promise of an entry names this.
 use mathlib.Core.Path.{_≡_}
 use mathlib.Core.Bool.{Bool, not, _&&_}
-use Prim.Native.Nat.{ℕ, zero, suc, min, _+_, _-_, _*_, _/_}
+use Prim.Native.Nat.{ℕ, min, _+_, _-_, _*_, _/_}
 use lib.Dec.{leb}
 use Rattle.lists.specs.Choice.{pick}
 use Rattle.lists.specs.Search.{least, isAt}
 use Rattle.lists.specs.declared.Found.{Found}
 use Rattle.lists.specs.declared.Found.the-variants.{At, Nothing}
 use Rattle.equation.specs.Guest.{guestUnder}
-use Rattle.equation.specs.System.{System, gapFor}
+use Rattle.equation.specs.System.{System, gapFor, taskUnder}
 use Rattle.plan.specs.Marks.{marked}
 use Rattle.response.specs.Columns.{acceptedIn}
 use Rattle.capacity.specs.declared.search.Span.{Span}
@@ -33,6 +33,16 @@ triedSystem above period marks run every c = record {
 unfoldable pub worksAt : (above : ℕ → ℕ) → (period marks : ℕ) → (run every deadline : ℕ → ℕ) → (n c : ℕ) → Bool
 worksAt above period marks run every deadline n c = acceptedIn (triedSystem above period marks run every c) deadline n
 
+-- whether task i is met there
+abbrev pub metAt : (above : ℕ → ℕ) → (period marks : ℕ) → (run every deadline : ℕ → ℕ) → (i c : ℕ) → Bool
+metAt above period marks run every deadline i c =
+    isAt (taskUnder (triedSystem above period marks run every c) i (deadline i))
+
+-- whether it is fitted there and task i is met
+unfoldable pub meetsAt : (above : ℕ → ℕ) → (period marks : ℕ) → (run every deadline : ℕ → ℕ) → (i c : ℕ) → Bool
+meetsAt above period marks run every deadline i c =
+    fitsAt above period c && metAt above period marks run every deadline i c
+
 -- the capacity that was found, or else the best before it
 abbrev pub orBest : Found → (best : ℕ) → ℕ
 orBest Nothing best = best
@@ -41,11 +51,6 @@ orBest (At c) best = c
 -- the smallest capacity from lo on and below hi that works, or else the best before it
 unfoldable pub smallestOf : (works : ℕ → Bool) → (lo hi best : ℕ) → ℕ
 smallestOf works lo hi best = orBest (least works (hi - lo) lo) best
-
--- what a capacity that was looked for is as an answer: 0 is none
-abbrev pub foundAs : ℕ → Found
-foundAs zero = Nothing
-foundAs (suc c) = At (suc c)
 
 -- the capacities up to this one are tried one by one
 abbrev pub few : ℕ

@@ -1,6 +1,6 @@
 // The search: an interval of capacities is narrowed, and each capacity is tried off columns that are lent.
 ghost use mathlib.Core.Path.{_≡_};
-ghost use mathlib.Core.Bool.{_&&_};
+ghost use mathlib.Core.Bool.{true, _&&_};
 ghost use Prim.Native.Nat.{_+_, _≤_, _<_};
 ghost use Rattle.lists.specs.All.{allTo};
 ghost use Rattle.lists.specs.Places.{nth};
@@ -10,16 +10,16 @@ ghost use Rattle.response.specs.Columns.{guestsTake, fittedAt, acceptedUnder};
 ghost use Rattle.response.specs.Ready.{AboveIn, EachRuns, EachShort, Seated};
 ghost use Rattle.capacity.specs.Capacity.{atCapacity};
 ghost use Rattle.capacity.specs.Answer.{capacitySays};
-ghost use Rattle.capacity.specs.Search.{fitsAt, worksAt, smallestOf, foundAs, nextTry, Narrows};
+ghost use Rattle.capacity.specs.Search.{fitsAt, meetsAt, worksAt, smallestOf, nextTry, Narrows};
 use crate::CapacityAnswer;
 use lists::Found;
+use lists::is_at;
 use plan::Guest;
-use response::Trial;
 use response::all_fitted;
 use response::charged_of;
 use response::gaps_of;
 use response::guest_response;
-use response::try_guest;
+use response::task_response;
 
 // The capacities up to this one are tried one by one.
 const FEW: u32 = 32;
@@ -58,7 +58,8 @@ fn next_try(lo: u32, hi: u32, period: u32) -> u32
     if twice < last { twice } else { last }
 }
 
-// What is left after a try: nothing works from an unfit capacity on, nor up to a fitted one that does not work.
+// What is left after a try for task i: no capacity meets it from an unfit one on, nor up to a fitted one at which it is
+// not met.
 fn narrowed(
     capacities: &[u32; 16],
     periods: &[u32; 16],
@@ -69,27 +70,26 @@ fn narrowed(
     run: &[u32; 16],
     every: &[u32; 16],
     deadline: &[u32; 16],
-    tasks: usize,
+    i: usize,
     lo: u32,
     hi: u32,
     best: u32,
 ) -> Span
-    requires { ⌜ (AboveIn (now jitters) k × (tasks ≤ 16)) × ((1 ≤ lo) × ((lo < hi) × (hi ≤ period + 1))) ⌝ }
-    requires { ⌜ (period ≤ longest) × (EachRuns (now run) tasks × EachShort (now deadline) tasks) ⌝ }
+    requires { ⌜ (AboveIn (now jitters) k × (i < 16)) × ((1 ≤ lo) × ((lo < hi) × (hi ≤ period + 1))) ⌝ }
+    requires { ⌜ (period ≤ longest) × ((1 ≤ nth (now run) i) × (nth (now deadline) i ≤ longest)) ⌝ }
     ensures { λ r. ⌜
         (let above = guestsTake (now (capacities .entry)) (now (periods .entry)) (now (jitters .entry)) k in
         Narrows (fitsAt above period)
-        (worksAt above period marks (nth (now (run .entry))) (nth (now (every .entry))) (nth (now (deadline .entry)))
-        tasks)
+        (meetsAt above period marks (nth (now (run .entry))) (nth (now (every .entry))) (nth (now (deadline .entry))) i)
         period lo hi best r)
         ⌝ }
 {
     let c = next_try(lo, hi, period);
-    let next = c + 1;
-    let f = guest_response(capacities, periods, jitters, k, c, period);
-    let late = gaps_of(marks, period - c, tasks);
-    let t = try_guest(
-        f,
+    if !is_at(guest_response(capacities, periods, jitters, k, c, period)) {
+        return Span { lo, hi: c, best };
+    }
+    let late = gaps_of(marks, period - c, i + 1);
+    if is_at(task_response(
         capacities,
         periods,
         jitters,
@@ -99,18 +99,20 @@ fn narrowed(
         run,
         every,
         &late,
-        deadline,
-        tasks,
-    );
-    match t {
-        Trial::Unfit => Span { lo, hi: c, best },
-        Trial::Unmet => Span { lo: next, hi, best },
-        Trial::Works => Span { lo, hi: c, best: c },
+        i,
+        deadline[i],
+    )) {
+        return Span { lo, hi: c, best: c };
+    }
+    Span {
+        lo: c + 1,
+        hi,
+        best,
     }
 }
 
-// The smallest capacity that works, of those from lo on and below hi, or else the best so far. The call of itself comes
-// last and hands on numbers and what is lent, so that the compiler may reuse the frame.
+// The smallest capacity that meets task i, of those from lo on and below hi, or else the best so far. The call of
+// itself comes last and hands on numbers and what is lent, so that the compiler may reuse the frame.
 fn smallest_in(
     capacities: &[u32; 16],
     periods: &[u32; 16],
@@ -121,17 +123,17 @@ fn smallest_in(
     run: &[u32; 16],
     every: &[u32; 16],
     deadline: &[u32; 16],
-    tasks: usize,
+    i: usize,
     lo: u32,
     hi: u32,
     best: u32,
 ) -> u32
-    requires { ⌜ (AboveIn (now jitters) k × (tasks ≤ 16)) × ((1 ≤ lo) × (hi ≤ period + 1)) ⌝ }
-    requires { ⌜ (period ≤ longest) × (EachRuns (now run) tasks × EachShort (now deadline) tasks) ⌝ }
+    requires { ⌜ (AboveIn (now jitters) k × (i < 16)) × ((1 ≤ lo) × (hi ≤ period + 1)) ⌝ }
+    requires { ⌜ (period ≤ longest) × ((1 ≤ nth (now run) i) × (nth (now deadline) i ≤ longest)) ⌝ }
     ensures { λ r. ⌜
         r
-        ≡ smallestOf (worksAt (guestsTake (now (capacities .entry)) (now (periods .entry)) (now (jitters .entry)) k)
-        period marks (nth (now (run .entry))) (nth (now (every .entry))) (nth (now (deadline .entry))) tasks)
+        ≡ smallestOf (meetsAt (guestsTake (now (capacities .entry)) (now (periods .entry)) (now (jitters .entry)) k)
+        period marks (nth (now (run .entry))) (nth (now (every .entry))) (nth (now (deadline .entry))) i)
         lo hi best
         ⌝ }
 {
@@ -148,7 +150,7 @@ fn smallest_in(
         run,
         every,
         deadline,
-        tasks,
+        i,
         lo,
         hi,
         best,
@@ -163,22 +165,125 @@ fn smallest_in(
         run,
         every,
         deadline,
-        tasks,
+        i,
         s.lo,
         s.hi,
         s.best,
     )
 }
 
-// What the search gave, as an answer: no capacity is 0.
-fn found_as(c: u32) -> Found
-    ensures { λ r. ⌜ r ≡ foundAs c ⌝ }
+// The smallest capacity from c on, which is fitted, that meets task i, or 0: c itself is tried first, since most tasks are
+// met where those above them are.
+fn smallest_from(
+    capacities: &[u32; 16],
+    periods: &[u32; 16],
+    jitters: &[u32; 16],
+    k: usize,
+    period: u32,
+    marks: u16,
+    run: &[u32; 16],
+    every: &[u32; 16],
+    deadline: &[u32; 16],
+    i: usize,
+    c: u32,
+) -> u32
+    requires { ⌜ (AboveIn (now jitters) k × (i < 16)) × ((1 ≤ c) × (c ≤ period)) ⌝ }
+    requires { ⌜ (period ≤ longest) × ((1 ≤ nth (now run) i) × (nth (now deadline) i ≤ longest)) ⌝ }
+    requires { ⌜ fitsAt (guestsTake (now capacities) (now periods) (now jitters) k) period c ≡ true ⌝ }
+    ensures { λ r. ⌜
+        r
+        ≡ smallestOf (meetsAt (guestsTake (now (capacities .entry)) (now (periods .entry)) (now (jitters .entry)) k)
+        period marks (nth (now (run .entry))) (nth (now (every .entry))) (nth (now (deadline .entry))) i)
+        c (period + 1) 0
+        ⌝ }
 {
-    if c < 1 { Found::Nothing } else { Found::At(c) }
+    let gaps = gaps_of(marks, period - c, i + 1);
+    if is_at(task_response(
+        capacities,
+        periods,
+        jitters,
+        k,
+        c,
+        period,
+        run,
+        every,
+        &gaps,
+        i,
+        deadline[i],
+    )) {
+        return c;
+    }
+    let next = c + 1;
+    let end = period + 1;
+    smallest_in(
+        capacities,
+        periods,
+        jitters,
+        k,
+        period,
+        marks,
+        run,
+        every,
+        deadline,
+        i,
+        next,
+        end,
+        0,
+    )
 }
 
-// The smallest capacity of the guest g at place k; none works under an unfit guest. What does not depend on the
-// capacity is read off the record once.
+// The smallest capacity that meets all tasks, task by task from the highest: a task that is met stays met at each
+// larger fitted capacity, so the search for a task begins where the one above it ended. Where 1 is unfit all are.
+fn settled(
+    capacities: &[u32; 16],
+    periods: &[u32; 16],
+    jitters: &[u32; 16],
+    k: usize,
+    period: u32,
+    marks: u16,
+    run: &[u32; 16],
+    every: &[u32; 16],
+    deadline: &[u32; 16],
+    tasks: usize,
+) -> Found
+    requires { ⌜ AboveIn (now jitters) k × ((1 ≤ tasks) × (tasks ≤ 16)) ⌝ }
+    requires { ⌜ ((1 ≤ period) × (period ≤ longest)) × (EachRuns (now run) tasks × EachShort (now deadline) tasks) ⌝ }
+    ensures { λ r. ⌜
+        r
+        ≡ least (worksAt (guestsTake (now (capacities .entry)) (now (periods .entry)) (now (jitters .entry)) k)
+        period marks (nth (now (run .entry))) (nth (now (every .entry))) (nth (now (deadline .entry))) tasks)
+        period 1
+        ⌝ }
+{
+    if !is_at(guest_response(capacities, periods, jitters, k, 1, period)) {
+        return Found::Nothing;
+    }
+    let mut c: u32 = 1;
+    let mut i: usize = 0;
+    while i < tasks {
+        c = smallest_from(
+            capacities,
+            periods,
+            jitters,
+            k,
+            period,
+            marks,
+            run,
+            every,
+            deadline,
+            i,
+            c,
+        );
+        if c < 1 {
+            return Found::Nothing;
+        }
+        i += 1;
+    }
+    Found::At(c)
+}
+
+// The smallest capacity of the guest g at place k, which has a task; none works under an unfit guest. What does not
+// depend on the capacity is read off the record once.
 pub fn smallest_at(
     g: Guest,
     capacities: &[u32; 16],
@@ -186,7 +291,7 @@ pub fn smallest_at(
     jitters: &[u32; 16],
     k: usize,
 ) -> Found
-    requires { ⌜ Seated g (now capacities) (now periods) (now jitters) k ⌝ }
+    requires { ⌜ Seated g (now capacities) (now periods) (now jitters) k × (1 ≤ g .tasks) ⌝ }
     ensures { λ r. ⌜
         r
         ≡ least
@@ -199,25 +304,20 @@ pub fn smallest_at(
     if !all_fitted(capacities, periods, jitters, k) {
         return Found::Nothing;
     }
-    let period = g.period;
-    let end = period + 1;
     let every = g.every;
     let deadline = g.deadline;
     let tasks = g.tasks as usize;
     let run = charged_of(g);
-    found_as(smallest_in(
+    settled(
         capacities,
         periods,
         jitters,
         k,
-        period,
+        g.period,
         g.marks,
         &run,
         &every,
         &deadline,
         tasks,
-        1,
-        end,
-        0,
-    ))
+    )
 }

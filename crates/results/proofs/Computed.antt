@@ -30,8 +30,8 @@ use Rattle.response.specs.Met.{met, allMet, accepted}
 use Rattle.verdict.specs.Verdict.{guestVerdict, quotedBy, taskSays, taskVerdict, acceptSays, acceptance}
 use Rattle.capacity.specs.Capacity.{works, smallest}
 use Rattle.capacity.specs.Answer.{smallestCapacity}
-use Rattle.capacity.specs.Search.{nextTry, loAfter, hiAfter}
-use Rattle.capacity.specs.Tries.{triesIn, triesOf}
+use Rattle.capacity.specs.Search.{smallestOf, nextTry, loAfter, hiAfter}
+use Rattle.capacity.specs.Tries.{triesIn, testsIn, testsOf}
 use Rattle.dispatcher.specs.Valid.{tasksIn, guestInRange, taskInRange, rowOk, stateOk}
 use Rattle.dispatcher.specs.Fresh.{idle, startedBy, fresh}
 use Rattle.dispatcher.specs.Release.{taken, releaseNumber, releasedBy, release}
@@ -98,7 +98,7 @@ unfolding marked mayStart startOk gapFor allTo unless refusal least firstFrom su
     responseOf taskUnder chargedRun orElse firstRefused newId numberOf guestNumber countedBy planRefusal allPeriodic startRefusal converted placeOf
     headOk taskOk tasksOk jitter interference guestResponse fitted fittedTo gap taskRight responseTo limit
     taskResponse hasGuest hasTask recordsThen refusedBy guestVerdict quotedBy taskSays taskVerdict met allMet
-    accepted acceptSays acceptance withGuest works smallest smallestCapacity nextTry loAfter hiAfter triesIn triesOf upTo tasksIn guestInRange
+    accepted acceptSays acceptance withGuest works smallest smallestCapacity nextTry loAfter hiAfter smallestOf triesIn testsIn testsOf upTo tasksIn guestInRange
     taskInRange rowOk stateOk idle startedBy fresh taken releaseNumber releasedBy release lessAt refilled holder
     isHeld leftAfter worker isWorked restAfter ageAfter waitAfter positionAfter next marginOf answerBy answer
     finishes runFrom runFor ranBy run tickedBy tick after play times table stateAfter answerTo sheetNumber
@@ -125,7 +125,7 @@ computed = record {
     right-22 = refl;
     charged = refl;
     smallest = refl;
-    seven-tries = refl;
+    eight-tests = refl;
     first-at-7 = refl;
     second-at-7 = refl;
     second-at-6 = refl;

@@ -2,7 +2,7 @@
 -- are in order, and the guest with that id stands at place k. Each verdict has its meaning, and is the only one that
 -- has it.
 use mathlib.Core.Path.{_≡_, sym, _∙_}
-use Prim.Native.Nat.{ℕ, suc, _-_, _≤_, _<_}
+use Prim.Native.Nat.{ℕ, suc, _+_, _-_, _≤_, _<_}
 use Rattle.plan.specs.Order.{planRefusal}
 use Rattle.plan.specs.Place.{placeOf}
 use Rattle.plan.specs.Charge.{charged}
@@ -19,12 +19,13 @@ use Rattle.capacity.specs.declared.CapacityAnswer.{CapacityAnswer}
 use Rattle.capacity.specs.declared.CapacityAnswer.the-variants.{Smallest}
 use Rattle.capacity.specs.Answer.{smallestCapacity}
 use Rattle.capacity.specs.Capacity.{withCapacity, smallest}
-use Rattle.capacity.specs.Tries.{triesOf, FewTries, mostTries}
+use Rattle.capacity.specs.Search.{few}
+use Rattle.capacity.specs.Tries.{testsOf, mostTests}
 use Rattle.verdict_laws.specs.Capacities.{CapacityMeans}
 use Rattle.verdict_laws.specs.Guests.{There, AllFit, GuestMeans}
 use Rattle.verdict_laws.specs.Tasks.{TaskThere, TaskSolves, InPeriod, TaskQuoted, TaskMeans, SaysUnmet, SaysNotMet}
 use Rattle.verdict_laws.specs.Acceptances.{AcceptMeans, AllSaidMet}
-use Rattle.capacity.proofs.PlanTries as tries
+use Rattle.capacity.proofs.PlanTries as tests
 use Rattle.verdict_laws.proofs.Acceptances as acceptances
 use Rattle.verdict_laws.proofs.Capacities as capacities
 use Rattle.verdict_laws.proofs.Guests as guests
@@ -72,16 +73,17 @@ module _ (p : Plan) (id k : ℕ) (there : There p id k) where
   pub capacity-only : (v : CapacityAnswer) → CapacityMeans p k v → v ≡ smallestCapacity p id
   capacity-only = capacities.capacity-answer-only p id k there
 
-  -- P14: the search for a smallest capacity a tries few: at most a capacities where a is up to 32, else at most 1.2
-  -- times a.
-  pub capacity-tries : (a : ℕ) → smallestCapacity p id ≡ Smallest a → FewTries (triesOf p k) a
-  capacity-tries a e =
-      tries.capacity-tries p (there .order) k (there .place) a
-      (tries.said-found (smallest p k) a (sym (capacities.capacity-answer-is p id k there) ∙ e))
+  -- P14: for a smallest capacity a of up to 32 the search tests tasks at capacities no more often than one upward from
+  -- 1 would at least: once at each of the a - 1 below, and each task once where all are met.
+  pub capacity-tests :
+      (a : ℕ) → smallestCapacity p id ≡ Smallest a → a ≤ few → testsOf p k ≤ a - 1 + guestAt (p .guests) k .tasks
+  capacity-tests a e =
+      tests.capacity-tests p (there .order) k (there .place) a
+      (tests.said-found (smallest p k) a (sym (capacities.capacity-answer-is p id k there) ∙ e))
 
-  -- Whatever the answer, it tries at most 66.
-  pub capacity-tries-most : triesOf p k ≤ mostTries
-  capacity-tries-most = tries.capacity-tries-most p (there .order) k (there .place)
+  -- Whatever the answer, it makes at most 32 tests and 34 for each task.
+  pub capacity-tests-most : testsOf p k ≤ mostTests (guestAt (p .guests) k .tasks)
+  capacity-tests-most = tests.capacity-tests-most p (there .order) k (there .place)
 
   -- A run longer than the deadline is well formed and unmet: where the charged run is past the deadline, the task is
   -- not met, and under fitted guests it is unmet. The run being past the deadline is such a case (`long-run`).

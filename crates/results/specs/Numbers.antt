@@ -18,7 +18,7 @@ use Rattle.verdict.specs.Verdict.{guestVerdict, taskVerdict, acceptance}
 use Rattle.capacity.specs.declared.CapacityAnswer.the-variants.{Refused, Smallest}
 use Rattle.capacity.specs.Capacity.{withCapacity}
 use Rattle.capacity.specs.Answer.{smallestCapacity}
-use Rattle.capacity.specs.Tries.{triesOf}
+use Rattle.capacity.specs.Tries.{testsOf}
 use Rattle.dispatcher.specs.declared.Answer.the-variants.{Finished}
 use Rattle.dispatcher.specs.Fresh.{idle, fresh}
 use Rattle.dispatcher.specs.Release.{release}
@@ -58,7 +58,7 @@ pub record Numbers : Type 0 where
   pub charged : taskVerdict (planA 1 50 100) 9 1 ≡ Met 40
   -- 5: The smallest capacity of guest 9, its tasks there, and its second task at the capacity below.
   pub smallest : smallestCapacity A 9 ≡ Smallest 7
-  pub seven-tries : triesOf A 1 ≡ 7
+  pub eight-tests : testsOf A 1 ≡ 8
   pub first-at-7 : taskVerdict (withCapacity A 1 7) 9 1 ≡ Met 38
   pub second-at-7 : taskVerdict (withCapacity A 1 7) 9 2 ≡ Met 86
   pub second-at-6 : taskVerdict (withCapacity A 1 6) 9 2 ≡ Unmet

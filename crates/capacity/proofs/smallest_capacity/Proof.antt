@@ -55,8 +55,10 @@ smallest-at-requires c κs =
     let look = found .before .before .before in
     let columns = look .before .before .before .before .before in
     let l = look .look-up .ensures _ (lent (columns .before .check .ensures) (columns .columns-of .ensures)) in
-    let h = found .if1 .left in
-    seated-at _ _ (columns .columns-of .ensures) (jitters .jitters-of .ensures) (look-order l h) _ (look-here l h)
+    let h = found .if1 .left in (
+      seated-at _ _ (columns .columns-of .ensures) (jitters .jitters-of .ensures) (look-order l h) _ (look-here l h),
+      look-order l h .guests _ (look-here l h) .head .many,
+    )
 
 capacity-says-requires : tie.Need-capacity-says-requires
 capacity-says-requires c κs = search needs

@@ -1,6 +1,6 @@
 //! The smallest capacity as a simple program finds it, which the desk's answers are measured against.
 
-use crate::capacity::{Trial, trial};
+use crate::verdict::{all_met, guest_response};
 use crate::{Guest, Plan, Refusal};
 
 impl Plan {
@@ -12,12 +12,7 @@ impl Plan {
 /// Tries the capacities upward from 1 to the period. It stops at the first that is unfit, since all larger ones are
 /// unfit too: a simple program is simple, but not foolish.
 fn upward(above: &[Guest], own: &Guest) -> Option<u32> {
-    for capacity in 1..=own.period {
-        match trial(above, own, capacity) {
-            Trial::Works => return Some(capacity),
-            Trial::Unfit => return None,
-            Trial::Unmet => (),
-        }
-    }
-    None
+    (1..=own.period)
+        .take_while(|capacity| guest_response(above, *capacity, own.period).is_some())
+        .find(|capacity| all_met(above, own, *capacity))
 }

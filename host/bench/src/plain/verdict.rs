@@ -79,6 +79,12 @@ pub fn all_met(above: &[Guest], own: &Guest, capacity: u32) -> bool {
         .all(|task| task_response(above, own, capacity, &gaps, task, own.deadline[task]).is_some())
 }
 
+/// Whether one task of a judged guest is met at this capacity.
+pub fn met(above: &[Guest], own: &Guest, capacity: u32, task: usize) -> bool {
+    let gaps = gaps(own, capacity);
+    task_response(above, own, capacity, &gaps, task, own.deadline[task]).is_some()
+}
+
 /// What a release of each task may wait for its guest's first tick at this capacity: nothing where it is bound.
 fn gaps(own: &Guest, capacity: u32) -> [u32; 16] {
     let gap = own.period - capacity;

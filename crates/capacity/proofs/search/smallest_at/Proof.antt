@@ -13,47 +13,38 @@ use Rattle.capacity.proofs.search.smallest_at.Tie as tie
 
 all-fitted-requires : tie.Need-all-fitted-requires
 all-fitted-requires c κs =
-    let s = c .pre in
+    let s = c .pre .0 in
     ((omega (arith, s .place), λ j l. s .late j (omega arith)), λ j l. s .ranged j (omega arith))
 
 returns : tie.Need-returns
 returns c = above-unfit _ _ (sym (c .before .all-fitted .ensures) ∙ not-true _ (c .if1 .taken))
 
-add-end : tie.Need-add-end
-add-end c = omega (arith, seated-server _ _ _ _ _ (c .before .before .pre) .short)
-
 cast-tasks : tie.Need-cast-tasks
 cast-tasks c = search needs
 
 charged-of-requires : tie.Need-charged-of-requires
-charged-of-requires c κs = c .before .before .before .before .before .pre .tasks
+charged-of-requires c κs = search needs
 
-smallest-in-requires : tie.Need-smallest-in-requires
-smallest-in-requires c κs =
+settled-requires : tie.Need-settled-requires
+settled-requires c κs =
     let filled = c .before .before .before in
     let start = filled .before .before .before .before .before .before in
-    let s = start .pre in (
+    let s = start .pre .0 in
+    let server = seated-server _ _ _ _ _ s in (
+      ((omega (arith, s .place), λ j l. s .late j (omega arith)), (start .pre .1, s .tasks .few)),
       (
-        ((omega (arith, s .place), λ j l. s .late j (omega arith)), s .tasks .few),
-        (omega arith, omega arith),
-      ),
-      (
-        seated-server _ _ _ _ _ s .short,
+        (omega (arith, server .some, server .within), server .short),
         (filled-runs (start .args .g) (s .tasks) (filled .charged-of .ensures), s .tasks .deadlines),
       ),
     )
 
-found-as-requires : tie.Need-found-as-requires
-found-as-requires c κs = search needs
-
 returns-2 : tie.Need-returns-2
 returns-2 c =
-    let filled = c .before .before .before .before .before in
+    let filled = c .before .before .before .before in
     let test = filled .before .before .before .before in
     let g = test .before .before .args .g in
     above-fitted _ _ (g .period) (sym (test .before .all-fitted .ensures) ∙ not-false _ (test .if1 .left))
-    (works-by (guestsTake _ _ _ _) g _ (filled .charged-of .ensures .holds)) (c .before .smallest-in .ensures)
-    (c .found-as .ensures)
+    (works-by (guestsTake _ _ _ _) g _ (filled .charged-of .ensures .holds)) (c .settled .ensures)
 
 pub smallest-at-spec : {M : Type 1} → statement M
 smallest-at-spec =
@@ -61,9 +52,7 @@ smallest-at-spec =
     (tie.spec
     all-fitted-requires
     returns
-    add-end
     cast-tasks
     charged-of-requires
-    smallest-in-requires
-    found-as-requires
+    settled-requires
     returns-2)
