@@ -7,6 +7,7 @@ use plan::look_up;
 use response::jitters_of;
 
 mod search;
+mod settling;
 
 // The answer: a refusal's number and place; the smallest capacity.
 pub enum CapacityAnswer {
@@ -32,5 +33,5 @@ pub fn smallest_capacity(plan: Plan, id: u32) -> CapacityAnswer
     let guests = plan.guests;
     let deferrable = columns.deferrable;
     let jitters = jitters_of(&deferrable, &capacities, &periods);
-    search::capacity_says(search::smallest_at(guests[k], &capacities, &periods, &jitters, k))
+    settling::capacity_says(settling::smallest_at(guests[k], &capacities, &periods, &jitters, k))
 }

@@ -1,38 +1,19 @@
-// The search: an interval of capacities is narrowed, and each capacity is tried off columns that are lent.
+// The search for one task: an interval of capacities is narrowed, and each is tried off columns that are lent.
 ghost use mathlib.Core.Path.{_≡_};
-ghost use mathlib.Core.Bool.{true, _&&_};
+ghost use mathlib.Core.Bool.{true};
 ghost use Prim.Native.Nat.{_+_, _≤_, _<_};
-ghost use Rattle.lists.specs.All.{allTo};
 ghost use Rattle.lists.specs.Places.{nth};
-ghost use Rattle.lists.specs.Search.{least};
 ghost use Rattle.plan.specs.Ranges.{longest};
-ghost use Rattle.response.specs.Columns.{guestsTake, fittedAt, acceptedUnder};
-ghost use Rattle.response.specs.Ready.{AboveIn, EachRuns, EachShort, Seated};
-ghost use Rattle.capacity.specs.Capacity.{atCapacity};
-ghost use Rattle.capacity.specs.Answer.{capacitySays};
-ghost use Rattle.capacity.specs.Search.{fitsAt, meetsAt, worksAt, smallestOf, nextTry, Narrows};
-use crate::CapacityAnswer;
-use lists::Found;
+ghost use Rattle.response.specs.Columns.{guestsTake};
+ghost use Rattle.response.specs.Ready.{AboveIn};
+ghost use Rattle.capacity.specs.Search.{fitsAt, meetsAt, smallestOf, nextTry, Narrows};
 use lists::is_at;
-use plan::Guest;
-use response::all_fitted;
-use response::charged_of;
 use response::gaps_of;
 use response::guest_response;
 use response::task_response;
 
 // The capacities up to this one are tried one by one.
 const FEW: u32 = 32;
-
-// The answer of a search.
-pub fn capacity_says(f: Found) -> CapacityAnswer
-    ensures { λ r. ⌜ r ≡ capacitySays f ⌝ }
-{
-    match f {
-        Found::At(c) => CapacityAnswer::Smallest(c),
-        Found::Nothing => CapacityAnswer::Refused(11, 0),
-    }
-}
 
 // The capacities left to try, from lo on and below hi, and the smallest so far that works, or 0.
 struct Span {
@@ -174,7 +155,7 @@ fn smallest_in(
 
 // The smallest capacity from c on, which is fitted, that meets task i, or 0: c itself is tried first, since most tasks are
 // met where those above them are.
-fn smallest_from(
+pub fn smallest_from(
     capacities: &[u32; 16],
     periods: &[u32; 16],
     jitters: &[u32; 16],
@@ -229,95 +210,5 @@ fn smallest_from(
         next,
         end,
         0,
-    )
-}
-
-// The smallest capacity that meets all tasks, task by task from the highest: a task that is met stays met at each
-// larger fitted capacity, so the search for a task begins where the one above it ended. Where 1 is unfit all are.
-fn settled(
-    capacities: &[u32; 16],
-    periods: &[u32; 16],
-    jitters: &[u32; 16],
-    k: usize,
-    period: u32,
-    marks: u16,
-    run: &[u32; 16],
-    every: &[u32; 16],
-    deadline: &[u32; 16],
-    tasks: usize,
-) -> Found
-    requires { ⌜ AboveIn (now jitters) k × ((1 ≤ tasks) × (tasks ≤ 16)) ⌝ }
-    requires { ⌜ ((1 ≤ period) × (period ≤ longest)) × (EachRuns (now run) tasks × EachShort (now deadline) tasks) ⌝ }
-    ensures { λ r. ⌜
-        r
-        ≡ least (worksAt (guestsTake (now (capacities .entry)) (now (periods .entry)) (now (jitters .entry)) k)
-        period marks (nth (now (run .entry))) (nth (now (every .entry))) (nth (now (deadline .entry))) tasks)
-        period 1
-        ⌝ }
-{
-    if !is_at(guest_response(capacities, periods, jitters, k, 1, period)) {
-        return Found::Nothing;
-    }
-    let mut c: u32 = 1;
-    let mut i: usize = 0;
-    while i < tasks {
-        c = smallest_from(
-            capacities,
-            periods,
-            jitters,
-            k,
-            period,
-            marks,
-            run,
-            every,
-            deadline,
-            i,
-            c,
-        );
-        if c < 1 {
-            return Found::Nothing;
-        }
-        i += 1;
-    }
-    Found::At(c)
-}
-
-// The smallest capacity of the guest g at place k, which has a task; none works under an unfit guest. What does not
-// depend on the capacity is read off the record once.
-pub fn smallest_at(
-    g: Guest,
-    capacities: &[u32; 16],
-    periods: &[u32; 16],
-    jitters: &[u32; 16],
-    k: usize,
-) -> Found
-    requires { ⌜ Seated g (now capacities) (now periods) (now jitters) k × (1 ≤ g .tasks) ⌝ }
-    ensures { λ r. ⌜
-        r
-        ≡ least
-        (λ c. allTo (fittedAt (now (capacities .entry)) (now (periods .entry)) (now (jitters .entry))) k
-        && acceptedUnder (guestsTake (now (capacities .entry)) (now (periods .entry)) (now (jitters .entry)) k)
-        (atCapacity g c))
-        (g .period) 1
-        ⌝ }
-{
-    if !all_fitted(capacities, periods, jitters, k) {
-        return Found::Nothing;
-    }
-    let every = g.every;
-    let deadline = g.deadline;
-    let tasks = g.tasks as usize;
-    let run = charged_of(g);
-    settled(
-        capacities,
-        periods,
-        jitters,
-        k,
-        g.period,
-        g.marks,
-        &run,
-        &every,
-        &deadline,
-        tasks,
     )
 }

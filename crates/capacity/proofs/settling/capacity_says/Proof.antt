@@ -1,8 +1,8 @@
--- `capacity::search::capacity_says` meets its contract, case by case. Assumes nothing.
+-- `capacity::settling::capacity_says` meets its contract, case by case. Assumes nothing.
 use mathlib.Core.Path.{refl}
 use borrow.Author.Needs.{needs}
-use Rattle.capacity.proofs.search.capacity_says.Statement.{statement}
-use Rattle.capacity.proofs.search.capacity_says.Tie as tie
+use Rattle.capacity.proofs.settling.capacity_says.Statement.{statement}
+use Rattle.capacity.proofs.settling.capacity_says.Tie as tie
 
 enum-known-f : tie.Need-enum-known-f
 enum-known-f c = search needs

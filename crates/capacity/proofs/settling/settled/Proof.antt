@@ -1,4 +1,4 @@
--- `capacity::search::settled` meets its contract: the tasks passed are settled at c, which is fitted. Assumes nothing.
+-- `capacity::settling::settled` meets its contract: the tasks passed are settled at c, which is fitted. Assumes nothing.
 use Prim.Native.Nat.{_≤_, _-_}
 use native.Mathlib.Omega.{arith}
 use borrow.Author.Needs.{needs}
@@ -10,8 +10,8 @@ use Rattle.response.proofs.ColumnsLaws.{test-is}
 use Rattle.response.proofs.GuestLaws.{take-grows}
 use Rattle.capacity.proofs.Staged.{Settled, settled-none}
 use Rattle.capacity.proofs.SearchLaws.{task-settled, task-nowhere, none-works, all-settled}
-use Rattle.capacity.proofs.search.settled.Statement.{statement}
-use Rattle.capacity.proofs.search.settled.Tie as tie
+use Rattle.capacity.proofs.settling.settled.Statement.{statement}
+use Rattle.capacity.proofs.settling.settled.Tie as tie
 
 abbrev Inv-loop : tie.InvT-loop
 Inv-loop capacities periods jitters k period marks run every deadline tasks c₀ i₀ c i =

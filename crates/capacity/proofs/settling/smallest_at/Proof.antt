@@ -1,4 +1,4 @@
--- `capacity::search::smallest_at` meets its contract: nothing works under an unfit guest, else what the search off the
+-- `capacity::settling::smallest_at` meets its contract: nothing works under an unfit guest, else what the search off the
 -- column of charged runs finds. Assumes nothing.
 use mathlib.Core.Path.{sym, _∙_}
 use native.Mathlib.Omega.{arith}
@@ -8,8 +8,8 @@ use Rattle.response.specs.Columns.{guestsTake}
 use Rattle.response.proofs.ReadyLaws.{filled-runs, seated-server}
 use Rattle.capacity.proofs.SearchLaws.{works-by}
 use Rattle.capacity.proofs.Narrowing.{above-unfit, above-fitted}
-use Rattle.capacity.proofs.search.smallest_at.Statement.{statement}
-use Rattle.capacity.proofs.search.smallest_at.Tie as tie
+use Rattle.capacity.proofs.settling.smallest_at.Statement.{statement}
+use Rattle.capacity.proofs.settling.smallest_at.Tie as tie
 
 all-fitted-requires : tie.Need-all-fitted-requires
 all-fitted-requires c κs =
