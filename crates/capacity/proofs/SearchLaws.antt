@@ -26,7 +26,7 @@ use Rattle.equation.proofs.Solve.{solve-at}
 use Rattle.equation.proofs.System.{gap-for-grows}
 use Rattle.equation.proofs.Rise.{Grows, rise-to, rise-under}
 use Rattle.equation.proofs.Respond.{Roomier, respond-sooner}
-use Rattle.equation.proofs.Alike.{task-alike}
+use Rattle.equation.proofs.Alike.{SameTasks, task-alike}
 use Rattle.equation.proofs.Halve.{Halving}
 use Rattle.response.proofs.GuestLaws.{response-says}
 use Rattle.response.proofs.TaskLaws.{regular}
@@ -96,26 +96,39 @@ halving above grows period marks run every deadline i runs = record {
       (is-at (met-up above grows period marks run every i a b (deadline i) (m .0) runs pos le f (m .1) .1)));
 }
 
--- a task is tried off the column of gaps that is made for the capacity, where that is fitted
-pub meets-tried : (above : ℕ → ℕ) (period marks c : ℕ) (run every : List ℕ) (deadline : ℕ → ℕ) (i : ℕ) {late : List ℕ}
+-- a guest off the column of gaps that is made for a capacity is the guest there, seen from its first n tasks
+pub tried-alike : (above : ℕ → ℕ) (period marks c : ℕ) (run every : List ℕ) (n : ℕ) {late : List ℕ}
+    → Filled late (λ j. gapFor (marked marks j) (period - c)) n
+    → SameTasks (columnSystem above c period run every late) (triedSystem above period marks (nth run) (nth every) c) n
+tried-alike above period marks c run every n f = record {
+  capacity = refl;
+  period = refl;
+  above = refl;
+  run = λ j h. refl;
+  every = λ j h. refl;
+  gap = f .holds;
+}
+
+-- so a task is met there as it is off the column
+pub met-tried : (above : ℕ → ℕ) (period marks c : ℕ) (run every : List ℕ) (deadline : ℕ → ℕ) (n i : ℕ) {late : List ℕ}
     {b : Bool}
-    → fitsAt above period c ≡ true → Filled late (λ j. gapFor (marked marks j) (period - c)) (i + 1)
+    → Filled late (λ j. gapFor (marked marks j) (period - c)) n → i < n
+    → isAt (taskUnder (columnSystem above c period run every late) i (deadline i)) ≡ b
+    → metAt above period marks (nth run) (nth every) deadline i c ≡ b
+met-tried above period marks c run every deadline n i f h e =
+    sym (ap isAt (task-alike _ (triedSystem above period marks (nth run) (nth every) c) n i h
+    (tried-alike above period marks c run every n f) (deadline i)))
+    ∙ e
+
+-- and where the capacity is fitted, that is all
+pub meets-tried : (above : ℕ → ℕ) (period marks c : ℕ) (run every : List ℕ) (deadline : ℕ → ℕ) (n i : ℕ) {late : List ℕ}
+    {b : Bool}
+    → fitsAt above period c ≡ true → Filled late (λ j. gapFor (marked marks j) (period - c)) n → i < n
     → isAt (taskUnder (columnSystem above c period run every late) i (deadline i)) ≡ b
     → meetsAt above period marks (nth run) (nth every) deadline i c ≡ b
 unfolding meetsAt
-meets-tried above period marks c run every deadline i fits f e =
-    rw fits
-    (sym (ap isAt (task-alike _ (triedSystem above period marks (nth run) (nth every) c) (i + 1) i (omega arith)
-    record {
-      capacity = refl;
-      period = refl;
-      above = refl;
-      run = λ j h. refl;
-      every = λ j h. refl;
-      gap = f .holds;
-    }
-    (deadline i)))
-    ∙ e)
+meets-tried above period marks c run every deadline n i fits f h e =
+    rw fits (met-tried above period marks c run every deadline n i f h e)
 
 -- the tasks before i are settled at c, and task i is met first at c′ from there on
 module _ (above : ℕ → ℕ) (period marks : ℕ) (run every deadline : ℕ → ℕ) (i c c′ : ℕ)

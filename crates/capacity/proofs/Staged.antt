@@ -7,7 +7,6 @@ use native.Mathlib.Decide.{decLe}
 use native.Mathlib.Numerals.{add-one}
 use native.Mathlib.Omega.{arith}
 use Rattle.lists.specs.All.{allTo}
-use Rattle.lists.specs.Choice.{pick}
 use Rattle.lists.specs.Search.{least}
 use Rattle.lists.specs.declared.Found.{Found}
 use Rattle.lists.specs.declared.Found.the-variants.{At, Nothing}
@@ -34,21 +33,10 @@ smallest-none f lo hi c pos e h = go (least f (hi - lo) lo) (least-says f (hi - 
     go Nothing s q = s
     go (At y) s q = absurd (omega (arith, s .low))
 
--- Of the numbers from c on c itself is looked at first.
-module _ (f : ℕ → Bool) (c hi : ℕ) (l : c < hi) where
-  -- what is left from c on, by whether c passes
-  smallest-by : (b : Bool) → f c ≡ b → smallestOf f c hi 0 ≡ pick b c (smallestOf f (c + 1) hi 0)
-  unfolding smallestOf least
-  smallest-by true e = let n : hi - c ≡ suc (hi - (c + 1)) = omega arith in rw (n, least, e) refl
-  smallest-by false e = let n : hi - c ≡ suc (hi - (c + 1)) = omega arith in rw (n, least, e, add-one) refl
-
-  -- c passes: it is the smallest from c on
-  pub smallest-here : f c ≡ true → smallestOf f c hi 0 ≡ c
-  smallest-here e = smallest-by true e
-
-  -- c does not: the smallest is past it
-  pub smallest-past : f c ≡ false → smallestOf f c hi 0 ≡ smallestOf f (c + 1) hi 0
-  smallest-past e = smallest-by false e
+-- where c does not pass, the smallest from c on is past it
+pub smallest-past : (f : ℕ → Bool) (c hi : ℕ) → c < hi → f c ≡ false → smallestOf f c hi 0 ≡ smallestOf f (c + 1) hi 0
+unfolding smallestOf least
+smallest-past f c hi l e = let n : hi - c ≡ suc (hi - (c + 1)) = omega arith in rw (n, least, e, add-one) refl
 
 module _ (fit : ℕ → Bool) (m : ℕ → ℕ → Bool) where
   -- c is fitted and task i is met there
@@ -94,6 +82,20 @@ module _ (fit : ℕ → Bool) (m : ℕ → ℕ → Bool) where
     below = λ z l h. absurd (omega arith);
     fits = fits;
     met = λ j h. absurd (omega arith);
+  }
+
+  -- what is met at c too is settled there with those before it
+  pub settled-met : (period i r c : ℕ) → Settled period i c → i ≤ r → ((j : ℕ) → i ≤ j → j < r → m j c ≡ true)
+      → Settled period r c
+  settled-met period i r c s h met = record {
+    low = s .low;
+    high = s .high;
+    below = λ z p k. fewer-fail i r z h (s .below z p k);
+    fits = s .fits;
+    met = λ j k. elim (decLe i j) [
+      | yes q ↦ met j q k
+      | no q ↦ s .met j (omega arith)
+    ];
   }
 
   module _ (period i c c′ : ℕ) (s : Settled period i c) (e : c′ ≡ smallestOf (one i) c (period + 1) 0) where

@@ -1,8 +1,8 @@
 -- What the capacities of a guest come to, under guests that take `above v` from v ticks, and what a turn of the search
 -- leaves. Inner: no promise of an entry names this.
 use mathlib.Core.Path.{_≡_}
-use mathlib.Core.Bool.{Bool, not, _&&_}
-use Prim.Native.Nat.{ℕ, min, _+_, _-_, _*_, _/_}
+use mathlib.Core.Bool.{Bool, true, not, _&&_}
+use Prim.Native.Nat.{ℕ, min, _+_, _-_, _*_, _/_, _≤_}
 use lib.Dec.{leb}
 use Rattle.lists.specs.Choice.{pick}
 use Rattle.lists.specs.Search.{least, isAt}
@@ -73,6 +73,10 @@ loAfter fit works period lo hi = let c = nextTry period lo hi in pick (tooSmall 
 -- where they end: at the one tried where that works or is unfit
 unfoldable pub hiAfter : (fit works : ℕ → Bool) → (period lo hi : ℕ) → ℕ
 hiAfter fit works period lo hi = let c = nextTry period lo hi in pick (tooSmall fit works c) hi c
+
+-- a capacity that was found to work is fitted, and none past it is left to try
+abbrev pub Known : (fit : ℕ → Bool) → (hi best : ℕ) → Type 0
+Known fit hi best = 1 ≤ best → (hi ≤ best) × (fit best ≡ true)
 
 -- A turn leaves the capacities on the one side of the one that it tried, and the same answer.
 pub record Narrows (fit works : ℕ → Bool) (period lo hi best : ℕ) (r : Span) : Type 0 where

@@ -1,12 +1,11 @@
 // The search for one task: an interval of capacities is narrowed, and each is tried off columns that are lent.
 ghost use mathlib.Core.Path.{_≡_};
-ghost use mathlib.Core.Bool.{true};
 ghost use Prim.Native.Nat.{_+_, _≤_, _<_};
 ghost use Rattle.lists.specs.Places.{nth};
 ghost use Rattle.plan.specs.Ranges.{longest};
 ghost use Rattle.response.specs.Columns.{guestsTake};
-ghost use Rattle.response.specs.Ready.{AboveIn};
-ghost use Rattle.capacity.specs.Search.{fitsAt, meetsAt, smallestOf, nextTry, Narrows};
+ghost use Rattle.response.specs.Ready.{AboveIn, ColumnsIn, ServerIn};
+ghost use Rattle.capacity.specs.Search.{fitsAt, meetsAt, smallestOf, nextTry, Known, Narrows};
 use lists::is_at;
 use response::gaps_of;
 use response::guest_response;
@@ -39,6 +38,28 @@ fn next_try(lo: u32, hi: u32, period: u32) -> u32
     if twice < last { twice } else { last }
 }
 
+// Whether the guest is fitted at c, given a larger capacity that was found to work, or 0: where there is one, it is.
+fn fits(
+    capacities: &[u32; 16],
+    periods: &[u32; 16],
+    jitters: &[u32; 16],
+    k: usize,
+    c: u32,
+    period: u32,
+    best: u32,
+) -> bool
+    requires { ⌜ AboveIn (now periods) (now jitters) k × ServerIn c period ⌝ }
+    requires { ⌜ Known (fitsAt (guestsTake (now capacities) (now periods) (now jitters) k) period) c best ⌝ }
+    ensures { λ r. ⌜
+        r ≡ fitsAt (guestsTake (now (capacities .entry)) (now (periods .entry)) (now (jitters .entry)) k) period c
+        ⌝ }
+{
+    if 0 < best {
+        return true;
+    }
+    is_at(guest_response(capacities, periods, jitters, k, c, period))
+}
+
 // What is left after a try for task i: no capacity meets it from an unfit one on, nor up to a fitted one at which it is
 // not met.
 fn narrowed(
@@ -56,17 +77,19 @@ fn narrowed(
     hi: u32,
     best: u32,
 ) -> Span
-    requires { ⌜ (AboveIn (now jitters) k × (i < 16)) × ((1 ≤ lo) × ((lo < hi) × (hi ≤ period + 1))) ⌝ }
-    requires { ⌜ (period ≤ longest) × ((1 ≤ nth (now run) i) × (nth (now deadline) i ≤ longest)) ⌝ }
+    requires { ⌜ AboveIn (now periods) (now jitters) k × ((1 ≤ lo) × ((lo < hi) × (hi ≤ period + 1))) ⌝ }
+    requires { ⌜ (period ≤ longest) × ColumnsIn (now run) (now every) (now deadline) (i + 1) ⌝ }
+    requires { ⌜ Known (fitsAt (guestsTake (now capacities) (now periods) (now jitters) k) period) hi best ⌝ }
     ensures { λ r. ⌜
         (let above = guestsTake (now (capacities .entry)) (now (periods .entry)) (now (jitters .entry)) k in
         Narrows (fitsAt above period)
         (meetsAt above period marks (nth (now (run .entry))) (nth (now (every .entry))) (nth (now (deadline .entry))) i)
-        period lo hi best r)
+        period lo hi best r
+        × Known (fitsAt above period) (r .hi) (r .best))
         ⌝ }
 {
     let c = next_try(lo, hi, period);
-    if !is_at(guest_response(capacities, periods, jitters, k, c, period)) {
+    if !fits(capacities, periods, jitters, k, c, period, best) {
         return Span { lo, hi: c, best };
     }
     let late = gaps_of(marks, period - c, i + 1);
@@ -94,7 +117,7 @@ fn narrowed(
 
 // The smallest capacity that meets task i, of those from lo on and below hi, or else the best so far. The call of
 // itself comes last and hands on numbers and what is lent, so that the compiler may reuse the frame.
-fn smallest_in(
+pub fn smallest_in(
     capacities: &[u32; 16],
     periods: &[u32; 16],
     jitters: &[u32; 16],
@@ -109,8 +132,9 @@ fn smallest_in(
     hi: u32,
     best: u32,
 ) -> u32
-    requires { ⌜ (AboveIn (now jitters) k × (i < 16)) × ((1 ≤ lo) × (hi ≤ period + 1)) ⌝ }
-    requires { ⌜ (period ≤ longest) × ((1 ≤ nth (now run) i) × (nth (now deadline) i ≤ longest)) ⌝ }
+    requires { ⌜ AboveIn (now periods) (now jitters) k × ((1 ≤ lo) × (hi ≤ period + 1)) ⌝ }
+    requires { ⌜ (period ≤ longest) × ColumnsIn (now run) (now every) (now deadline) (i + 1) ⌝ }
+    requires { ⌜ Known (fitsAt (guestsTake (now capacities) (now periods) (now jitters) k) period) hi best ⌝ }
     ensures { λ r. ⌜
         r
         ≡ smallestOf (meetsAt (guestsTake (now (capacities .entry)) (now (periods .entry)) (now (jitters .entry)) k)
@@ -150,65 +174,5 @@ fn smallest_in(
         s.lo,
         s.hi,
         s.best,
-    )
-}
-
-// The smallest capacity from c on, which is fitted, that meets task i, or 0: c itself is tried first, since most tasks are
-// met where those above them are.
-pub fn smallest_from(
-    capacities: &[u32; 16],
-    periods: &[u32; 16],
-    jitters: &[u32; 16],
-    k: usize,
-    period: u32,
-    marks: u16,
-    run: &[u32; 16],
-    every: &[u32; 16],
-    deadline: &[u32; 16],
-    i: usize,
-    c: u32,
-) -> u32
-    requires { ⌜ (AboveIn (now jitters) k × (i < 16)) × ((1 ≤ c) × (c ≤ period)) ⌝ }
-    requires { ⌜ (period ≤ longest) × ((1 ≤ nth (now run) i) × (nth (now deadline) i ≤ longest)) ⌝ }
-    requires { ⌜ fitsAt (guestsTake (now capacities) (now periods) (now jitters) k) period c ≡ true ⌝ }
-    ensures { λ r. ⌜
-        r
-        ≡ smallestOf (meetsAt (guestsTake (now (capacities .entry)) (now (periods .entry)) (now (jitters .entry)) k)
-        period marks (nth (now (run .entry))) (nth (now (every .entry))) (nth (now (deadline .entry))) i)
-        c (period + 1) 0
-        ⌝ }
-{
-    let gaps = gaps_of(marks, period - c, i + 1);
-    if is_at(task_response(
-        capacities,
-        periods,
-        jitters,
-        k,
-        c,
-        period,
-        run,
-        every,
-        &gaps,
-        i,
-        deadline[i],
-    )) {
-        return c;
-    }
-    let next = c + 1;
-    let end = period + 1;
-    smallest_in(
-        capacities,
-        periods,
-        jitters,
-        k,
-        period,
-        marks,
-        run,
-        every,
-        deadline,
-        i,
-        next,
-        end,
-        0,
     )
 }

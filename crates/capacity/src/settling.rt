@@ -7,17 +7,19 @@ ghost use Rattle.lists.specs.Places.{nth};
 ghost use Rattle.lists.specs.Search.{least};
 ghost use Rattle.plan.specs.Ranges.{longest};
 ghost use Rattle.response.specs.Columns.{guestsTake, fittedAt, acceptedUnder};
-ghost use Rattle.response.specs.Ready.{AboveIn, EachRuns, EachShort, Seated};
+ghost use Rattle.response.specs.Ready.{AboveIn, ColumnsIn, Seated};
 ghost use Rattle.capacity.specs.Capacity.{atCapacity};
 ghost use Rattle.capacity.specs.Answer.{capacitySays};
 ghost use Rattle.capacity.specs.Search.{worksAt};
 use crate::CapacityAnswer;
-use crate::search::smallest_from;
+use crate::search::smallest_in;
 use lists::Found;
 use lists::is_at;
 use plan::Guest;
 use response::all_fitted;
 use response::charged_of;
+use response::first_unmet;
+use response::gaps_of;
 use response::guest_response;
 
 // The answer of a search.
@@ -31,7 +33,8 @@ pub fn capacity_says(f: Found) -> CapacityAnswer
 }
 
 // The smallest capacity that meets all tasks, task by task from the highest: a task that is met stays met at each
-// larger fitted capacity, so the search for a task begins where the one above it ended. Where 1 is unfit all are.
+// larger fitted capacity, so the search for a task begins where the one above it ended, and past it, that capacity being
+// tried on all tasks in one go. Where 1 is unfit all are.
 fn settled(
     capacities: &[u32; 16],
     periods: &[u32; 16],
@@ -44,8 +47,8 @@ fn settled(
     deadline: &[u32; 16],
     tasks: usize,
 ) -> Found
-    requires { ⌜ AboveIn (now jitters) k × ((1 ≤ tasks) × (tasks ≤ 16)) ⌝ }
-    requires { ⌜ ((1 ≤ period) × (period ≤ longest)) × (EachRuns (now run) tasks × EachShort (now deadline) tasks) ⌝ }
+    requires { ⌜ AboveIn (now periods) (now jitters) k × (1 ≤ tasks) ⌝ }
+    requires { ⌜ ((1 ≤ period) × (period ≤ longest)) × ColumnsIn (now run) (now every) (now deadline) tasks ⌝ }
     ensures { λ r. ⌜
         r
         ≡ least (worksAt (guestsTake (now (capacities .entry)) (now (periods .entry)) (now (jitters .entry)) k)
@@ -58,8 +61,26 @@ fn settled(
     }
     let mut c: u32 = 1;
     let mut i: usize = 0;
-    while i < tasks {
-        c = smallest_from(
+    loop {
+        let late = gaps_of(marks, period - c, tasks);
+        i = first_unmet(
+            capacities,
+            periods,
+            jitters,
+            k,
+            c,
+            period,
+            run,
+            every,
+            &late,
+            deadline,
+            i,
+            tasks,
+        );
+        if tasks <= i {
+            return Found::At(c);
+        }
+        c = smallest_in(
             capacities,
             periods,
             jitters,
@@ -70,14 +91,15 @@ fn settled(
             every,
             deadline,
             i,
-            c,
+            c + 1,
+            period + 1,
+            0,
         );
         if c < 1 {
             return Found::Nothing;
         }
         i += 1;
     }
-    Found::At(c)
 }
 
 // The smallest capacity of the guest g at place k, which has a task; none works under an unfit guest. What does not

@@ -107,5 +107,5 @@ module _ (p : Plan) where
     unfolding taskRight
     task-sooner x i w l fits s =
         let (u, low, high, sol) = sooner (systemIn p k) after i x (guest-in .head .some) (fits-after x i l fits)
-        (roomier i) w (s .low) (s .solves) in
+        (roomier i) w (s .solves) in
         (u, (record { low = low; solves = rw (converted-at p k) sol }, omega arith))

@@ -10,9 +10,10 @@ use Rattle.equation.specs.Solve.{solve}
 use Rattle.equation.specs.System.{System, load, right, responseOf, later, taskUnder}
 use Rattle.rounding.proofs.Asked.{asked-le}
 use Rattle.equation.proofs.Solve.{solve-by, Solved, solve-answers}
-use Rattle.equation.proofs.System.{Regular}
-use Rattle.equation.proofs.Turn.{right-past}
-use Rattle.equation.proofs.Compare.{no-later}
+use Rattle.equation.proofs.System.{Regular, load-some}
+use Rattle.equation.proofs.Done.{solution-done}
+use Rattle.equation.proofs.Climb.{done-solution}
+use Rattle.equation.proofs.Compare.{Easier, easier-done}
 
 -- The second has the first's tasks, at no less capacity in the same period, under guests that take no more; no gap down
 -- to task i is larger.
@@ -51,19 +52,14 @@ module _ (S S′ : System) (i x : ℕ) (some : 0 < S .capacity) (s : Regular S�
       omega (arith, ap (λ (f : ℕ → ℕ). f i) (e .run))
 
   -- a window that solves the first's equation has one no later that solves the second's
-  pub sooner : (w : ℕ) → 1 ≤ w → w ≡ right S i w → (y : ℕ) × (1 ≤ y) × (y ≤ w) × (y ≡ right S′ i y)
-  sooner w low sol =
-      let y = no-later S S′ i x w
-      record {
-        some = some;
-        within = omega (arith, e .capacity, e .period, s .within);
-        runs = omega (arith, s .runs, ap (λ (f : ℕ → ℕ). f i) (e .run));
-        sol = sol;
-      }
-      s
-      record { period = e .period; capacity = e .capacity; above = e .above; load = λ u h. load-less u w h }
-      low in
-      (y .0, omega (arith, right-past S′ i x s (y .0), y .2), y .1, y .2)
+  pub sooner : (w : ℕ) → w ≡ right S i w → (y : ℕ) × (1 ≤ y) × (y ≤ w) × (y ≡ right S′ i y)
+  sooner w sol =
+      let runs : 0 < S .run i = omega (arith, s .runs, ap (λ (f : ℕ → ℕ). f i) (e .run)) in
+      let within : S .capacity ≤ S .period = omega (arith, e .capacity, e .period, s .within) in
+      let easier : Easier S S′ = record { period = e .period; capacity = e .capacity; above = e .above } in
+      done-solution S′ i x s w
+      (easier-done S S′ i x some s easier (load S i w) (load S′ i w) w (load-some S′ i w (s .runs)) (load-less w w (omega arith))
+      (solution-done S i w some within runs sol))
 
   -- a task that responds in the first responds in the second, no later
   pub respond-sooner : (most r : ℕ) → taskUnder S i most ≡ At r
@@ -74,6 +70,6 @@ module _ (S S′ : System) (i x : ℕ) (some : 0 < S .capacity) (s : Regular S�
       let J = S .gap i in
       let w = window-of J r (solve f (most - J)) q in
       let o : Solved f (most - J) (w .0) = rw (w .1) at (solve-answers f (most - J)) in
-      let y = sooner (w .0) (o .low) (o .sol) in
+      let y = sooner (w .0) (o .sol) in
       respond-by (right S′ i) most J (S′ .gap i) (w .0) (y .0) r (e .gap i (omega arith)) (o .high) (w .2)
       (y .1) (y .2) (y .3)

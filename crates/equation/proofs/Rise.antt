@@ -5,16 +5,12 @@ use mathlib.Core.Logic.{⊎-elim}
 use Prim.Native.Nat.{ℕ, zero, suc, _+_, _≤_}
 use native.Mathlib.Nat.{eq-or-lt-of-le, le-trans}
 use native.Mathlib.Omega.{arith}
+use Rattle.equation.specs.Standing.{Rising}
 use Rattle.equation.proofs.Solve.{Under}
 
 -- a function that grows
 abbrev pub Grows : (ℕ → ℕ) → Type 0
 Grows f = (a b : ℕ) → a ≤ b → f a ≤ f b
-
--- The number x is no more than f x, nor than any number that f does not raise.
-pub record Rising (f : ℕ → ℕ) (x : ℕ) : Type 0 where
-  pub rises : x ≤ f x
-  pub under : (z : ℕ) → f z ≤ z → x ≤ z
 
 -- a turn keeps both
 pub rise-turn : (f : ℕ → ℕ) → Grows f → (x : ℕ) → Rising f x → Rising f (f x)

@@ -1,3 +1,4 @@
 pub mod Solve
 pub mod Guest
 pub mod System
+pub mod Standing

@@ -2,7 +2,7 @@
 -- For a task of the second let m be the lowest, in the first, of it and those above it. Its window holds one release of
 -- m itself, and all the others stand above m; so the load of m there is no less than that of the task, and the
 -- comparison of two systems gives the task a window that is no longer. Assumes nothing.
-use mathlib.Core.Path.{_≡_, refl, _∙_, ap}
+use mathlib.Core.Path.{_≡_, refl, ap}
 use mathlib.Core.Bool.{true, false≢true}
 use mathlib.Core.Logic.{⊎-elim}
 use Prim.Native.Nat.{ℕ, suc, _+_, _-_, _*_, _≤_, _<_}
@@ -17,12 +17,13 @@ use Rattle.rounding.specs.Up.{up}
 use Rattle.equation.specs.Solve.{solve}
 use Rattle.equation.specs.System.{System, load, right, later, taskUnder}
 use Rattle.lists.proofs.Search.{is-at}
-use Rattle.lists.proofs.Sum.{sum-last, sum-le, sum-same, sum-zero}
-use Rattle.rounding.proofs.Up.{up-least, le-up, up-mono, up-zero}
-use Rattle.equation.proofs.Compare.{no-later}
+use Rattle.lists.proofs.Sum.{sum-last, sum-le, sum-same}
+use Rattle.rounding.proofs.Up.{up-least, le-up, up-mono}
+use Rattle.equation.proofs.Compare.{easier-done}
 use Rattle.equation.proofs.Solve.{Answers, solve-answers, solve-by}
 use Rattle.equation.proofs.System.{Regular, load-some}
-use Rattle.equation.proofs.Turn.{right-past}
+use Rattle.equation.proofs.Climb.{done-solution}
+use Rattle.equation.proofs.Done.{solution-done}
 use Rattle.order_laws.proofs.Orders.{furthest}
 use Rattle.order_laws.proofs.Sum.{sum-once}
 
@@ -66,25 +67,6 @@ pub record TwoOrders (S S′ : System) (due due′ at : ℕ → ℕ) (n J : ℕ)
   pub runs : (i : ℕ) → i < n → 1 ≤ S .run i
   pub some : (i : ℕ) → i < n → 1 ≤ S .every i
   pub held : (i : ℕ) → i < n → due i ≤ S .every i
-
--- A lone task with such a run, under the guest of S.
-abbrev lone : System → (run : ℕ) → System
-lone S run = record {
-  capacity = S .capacity;
-  period = S .period;
-  above = S .above;
-  run = λ j. run;
-  every = λ j. 0;
-  gap = λ j. 0;
-}
-
--- Its load is its run.
-lone-load : (S : System) (run i w : ℕ) → load (lone S run) i w ≡ run
-unfolding load asked
-lone-load S run i w =
-    let none : sumTo (λ k. up (w + 0) 0 * run) i ≡ 0 =
-    sum-zero (λ k. up (w + 0) 0 * run) i (λ k h. ap (λ (x : ℕ). x * run) (up-zero (w + 0)) ∙ omega arith) in
-    omega arith
 
 module _ (S S′ : System) (due due′ at : ℕ → ℕ) (n J : ℕ) (o : TwoOrders S S′ due due′ at n J) where
   -- The load of a task in the second order, and that of the lowest of it and those above it in the first.
@@ -131,25 +113,18 @@ module _ (S S′ : System) (due due′ at : ℕ → ℕ) (n J : ℕ) (o : TwoOrd
   -- So the task has a window that is no longer.
   sooner : (x i m w : ℕ) (h : i < n) (l : m < n) (below : (j : ℕ) → j ≤ i → at j ≤ m) → Regular S′ i x
       → Meets S m (due m) w → (y : ℕ) × (1 ≤ y) × (y ≤ w) × (y ≡ right S′ i y)
-  unfolding right
   sooner x i m w h l below s t =
-      let L = load S m w in
-      let y = no-later (lone S′ L) S′ i x w
+      let some : 0 < S .capacity = omega (arith, s .some, o .capacity) in
+      let within : S .capacity ≤ S .period = omega (arith, s .within, o .capacity, o .period) in
+      done-solution S′ i x s w
+      (easier-done S S′ i x some s
       record {
-        some = s .some;
-        within = s .within;
-        runs = load-some S m w (o .runs m l);
-        sol = t .sol ∙ rw (lone-load S′ L i w, o .capacity, o .period, o .above) refl;
+        period = o .period;
+        capacity = omega (arith, o .capacity);
+        above = λ v. omega (arith, ap (λ (f : ℕ → ℕ). f v) (o .above));
       }
-      s
-      record {
-        period = refl;
-        capacity = le-refl (S′ .capacity);
-        above = λ v. le-refl (S′ .above v);
-        load = λ u b. omega (arith, lone-load S′ L i w, load-under i m w h l below t u b);
-      }
-      (t .low) in
-      (y .0, omega (arith, right-past S′ i x s (y .0), y .2), y .1, y .2)
+      (load S m w) (load S′ i w) w (load-some S′ i w (s .runs)) (load-under i m w h l below t w (omega arith))
+      (solution-done S m w some within (o .runs m l) (t .sol)))
 
   -- The theorem: the second order goes by deadline, so the window is in time.
   pub by-deadline : ((i j : ℕ) → i < j → j < n → due′ i ≤ due′ j)

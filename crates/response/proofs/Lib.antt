@@ -2,6 +2,7 @@
 -- file's name.
 pub mod GuestLaws
 pub mod TaskLaws
+pub mod MetLaws
 pub mod GapsLaws
 pub mod JittersLaws
 pub mod ColumnsLaws

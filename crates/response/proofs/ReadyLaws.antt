@@ -18,7 +18,7 @@ use Rattle.plan.specs.declared.Columns.{Columns}
 use Rattle.plan.specs.declared.Guest.{Guest}
 use Rattle.plan.specs.declared.Plan.{Plan}
 use Rattle.response.specs.Columns.{guestsTake, fittedAt, columnSystem, fittedIn}
-use Rattle.response.specs.Ready.{Ready, ServerIn, EachShort, TasksIn, EachRuns, InRange, Seated}
+use Rattle.response.specs.Ready.{Ready, ServerIn, EachShort, AboveIn, TasksIn, EachSome, ColumnsIn, InRange, Seated}
 use Rattle.lists.proofs.All.{all-at}
 use Rattle.equation.proofs.System.{gap-for-most}
 use Rattle.plan.proofs.Charge.{charged-least}
@@ -27,19 +27,41 @@ use Rattle.response.proofs.JittersLaws.{JittersOf, jitter-most}
 
 -- a fitted capacity in its ranges is ready for the tasks' recurrences
 pub guest-ready : (above : ℕ → ℕ) (capacity period : ℕ) (run every late deadline : List ℕ) (n : ℕ)
-    → InRange capacity period run late deadline n
+    → InRange capacity period run every late deadline n
     → fittedIn (columnSystem above capacity period run every late) ≡ true → (i : ℕ) → i < n
     → Ready (columnSystem above capacity period run every late) i
 guest-ready above capacity period run every late deadline n s fits i h = record {
   some = s .server .some;
   within = s .server .within;
   fits = fits;
-  runs = s .runs i h;
+  runs = s .tasks .runs i h;
 }
 
 -- the charged runs of records in their ranges are runs
-pub filled-runs : (g : Guest) → TasksIn g → {run : List ℕ} → Filled run (charged g) (g .tasks) → EachRuns run (g .tasks)
+pub filled-runs : (g : Guest) → TasksIn g → {run : List ℕ} → Filled run (charged g) (g .tasks) → EachSome run (g .tasks)
 filled-runs g s f i h = omega (arith, f .holds i h, s .some i h, charged-least (runOf g i) (g .charge))
+
+-- the columns of records in their ranges are in theirs
+pub filled-columns : (g : Guest) → TasksIn g → {run : List ℕ} → Filled run (charged g) (g .tasks)
+    → ColumnsIn run (g .every) (g .deadline) (g .tasks)
+filled-columns g s f = record {
+  few = s .few;
+  runs = filled-runs g s f;
+  asks = s .asks;
+  periods = s .periods;
+  deadlines = s .deadlines;
+}
+
+-- fewer of them are too
+pub columns-fewer : {run every deadline : List ℕ} {n m : ℕ} → ColumnsIn run every deadline n → m ≤ n
+    → ColumnsIn run every deadline m
+columns-fewer s h = record {
+  few = omega (arith, s .few);
+  runs = λ i l. s .runs i (omega arith);
+  asks = λ i l. s .asks i (omega arith);
+  periods = λ i l. s .periods i (omega arith);
+  deadlines = λ i l. s .deadlines i (omega arith);
+}
 
 -- no J is more than the period
 pub filled-gaps : (isBound : ℕ → Bool) (capacity period n : ℕ) → period ≤ longest → {late : List ℕ}
@@ -55,13 +77,23 @@ module _ (g : Guest) (capacities periods jitters : List ℕ) (k : ℕ) (s : Seat
   -- it can be tried
   pub seated-range : {run late : List ℕ} → Filled run (charged g) (g .tasks)
       → Filled late (λ i. gapFor (isBound g i) (g .period - g .capacity)) (g .tasks)
-      → InRange (g .capacity) (g .period) run late (g .deadline) (g .tasks)
+      → InRange (g .capacity) (g .period) run (g .every) late (g .deadline) (g .tasks)
   seated-range f l = record {
     server = seated-server;
-    runs = filled-runs g (s .tasks) f;
+    tasks = filled-columns g (s .tasks) f;
     gaps = filled-gaps (isBound g) (g .capacity) (g .period) (g .tasks) (seated-server .short) l;
-    deadlines = s .tasks .deadlines;
   }
+
+  -- the guest and those above are in their ranges
+  pub seated-all : AboveIn periods jitters (k + 1)
+  seated-all = (omega (arith, s .place), (λ j h. s .ranged j h .short, s .late))
+
+  -- those above are
+  pub seated-above : AboveIn periods jitters k
+  seated-above = (
+    omega (arith, s .place),
+    (λ j h. s .ranged j (omega arith) .short, λ j h. s .late j (omega arith)),
+  )
 
   -- the guest is fitted where it and all above are
   pub seated-fits : allTo (fittedAt capacities periods jitters) (k + 1) ≡ true
@@ -101,6 +133,7 @@ seated-at p c f late o k h =
         few = g .head .few;
         some = λ i l. g .tasks i l .runs;
         runs = λ i l. g .tasks i l .run-short;
+        asks = λ i l. g .tasks i l .some;
         periods = λ i l. g .tasks i l .short;
         deadlines = λ i l. (let t = g .tasks i l in omega (arith, t .in-time, t .short));
       };

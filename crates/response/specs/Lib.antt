@@ -4,4 +4,5 @@ pub mod Task
 pub mod Met
 pub mod Columns
 pub mod Ready
+pub mod Window
 pub mod Trial

@@ -13,6 +13,7 @@ pub use guest::all_fitted;
 pub use guest::guest_response;
 pub use guest::response_at;
 pub use jitters::jitters_of;
+pub use met::first_unmet;
 pub use task::task_response;
 pub use trial::Trial;
 pub use trial::try_guest;

@@ -1,12 +1,11 @@
 // The one test of a capacity: whether the guest has a response, then whether its tasks are met.
 ghost use mathlib.Core.Path.{_≡_};
-ghost use Prim.Native.Nat.{_≤_};
 ghost use Rattle.lists.specs.Places.{nth};
 ghost use Rattle.equation.specs.Guest.{guestUnder};
 ghost use Rattle.response.specs.Columns.{guestsTake, columnSystem};
 ghost use Rattle.response.specs.Ready.{AboveIn, InRange};
 ghost use Rattle.response.specs.Trial.{trialOf};
-use crate::met::all_met;
+use crate::met::first_unmet;
 use lists::Found;
 use lists::is_at;
 
@@ -35,7 +34,8 @@ pub fn try_guest(
     tasks: usize,
 ) -> Trial
     requires { ⌜
-        (AboveIn (now jitters) k × (tasks ≤ 16)) × InRange capacity period (now run) (now late) (now deadline) tasks
+        AboveIn (now periods) (now jitters) k
+        × InRange capacity period (now run) (now every) (now late) (now deadline) tasks
         ⌝ }
     requires { ⌜ f ≡ guestUnder (guestsTake (now capacities) (now periods) (now jitters) k) capacity period ⌝ }
     ensures { λ r. ⌜
@@ -48,7 +48,7 @@ pub fn try_guest(
     if !is_at(f) {
         return Trial::Unfit;
     }
-    if all_met(
+    let met = first_unmet(
         capacities,
         periods,
         jitters,
@@ -59,8 +59,10 @@ pub fn try_guest(
         every,
         late,
         deadline,
+        0,
         tasks,
-    ) {
+    );
+    if tasks <= met {
         return Trial::Works;
     }
     Trial::Unmet

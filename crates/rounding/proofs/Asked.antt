@@ -1,12 +1,11 @@
 -- Laws of what is asked of a window. Assumes nothing.
-use mathlib.Core.Path.{_≡_, refl, ap, _∙_}
-use Prim.Native.Nat.{ℕ, _+_, _-_, _*_, _≤_, _<_}
+use mathlib.Core.Path.{_≡_, refl}
+use Prim.Native.Nat.{ℕ, _+_, _*_, _≤_, _<_}
 use native.Mathlib.Nat.{mul-le-mul-right}
 use native.Mathlib.Omega.{arith}
 use Rattle.lists.specs.Sum.{sumTo}
 use Rattle.rounding.specs.Up.{up}
 use Rattle.rounding.specs.Asked.{asked}
-use Rattle.rounding.specs.Cut.{bound, long, cut}
 use Rattle.lists.proofs.Sum.{sum-none, sum-next, sum-le, sum-same}
 use Rattle.rounding.proofs.Up.{up-mono, le-up}
 
@@ -49,29 +48,3 @@ pub asked-counts :
 unfolding asked
 asked-counts cost every late m n v pos h =
     sum-le _ _ n (λ k l. mul-le-mul-right (cost k) (le-up (m k) (v + late k) (every k) (pos k l) (h k l)))
-
--- A loop's sum of what the first k of n ask of a short window: far within 64 bits.
-pub record Summed (cost every late : ℕ → ℕ) (n v sum k : ℕ) : Type 0 where
-  pub place : k ≤ n
-  pub is : sum ≡ asked cost every late k v
-  pub most : sum ≤ k * (long * bound)
-
-module _ (cost every late : ℕ → ℕ) (n v : ℕ) where
-  -- the loop starts: nobody has asked yet
-  pub summed-none : Summed cost every late n v 0 0
-  summed-none = record { place = omega arith; is = omega (arith, asked-none cost every late v); most = omega arith }
-
-  -- the loop's turn: one more asks for t of the window with what it can be put off
-  pub summed-next : (sum k t : ℕ) → Summed cost every late n v sum k → k < n → v + late k < long
-      → t ≡ up (v + late k) (every k) * cost k → t ≤ (v + late k) * (bound - 1)
-      → Summed cost every late n v (sum + t) (k + 1)
-  summed-next sum k t s h l e m = record {
-    place = omega arith;
-    is = omega (arith, s .is, asked-next cost every late k v);
-    most = omega (arith, s .most);
-  }
-
-  -- the loop's end: the sum is cut off
-  pub summed-cut : (sum k r : ℕ) → Summed cost every late n v sum k → n ≤ k → r ≡ cut sum
-      → r ≡ cut (asked cost every late n v)
-  summed-cut sum k r s h e = let q : k ≡ n = omega (arith, s .place) in rw (← q) (e ∙ ap cut (s .is))

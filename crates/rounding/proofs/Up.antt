@@ -1,8 +1,8 @@
 -- Laws of the quotient rounded up. Assumes nothing.
-use mathlib.Core.Path.{_≡_, refl, sym, _∙_}
+use mathlib.Core.Path.{_≡_, refl, sym, _∙_, ap}
 use mathlib.Core.Bool.{Bool, false≢true}
 use Prim.Native.Nat.{ℕ, zero, suc, _+_, _-_, _*_, _/_, _%_, _≤_, _<_}
-use native.Mathlib.Nat.{lt-div-mul-add, div-mul-le-self, div-zero, le-mul-of-pos-right, lt-of-mul-lt-mul-right, div-add-mod', mod-lt}
+use native.Mathlib.Nat.{lt-div-mul-add, div-mul-le-self, div-zero, le-mul-of-pos-right, lt-of-mul-lt-mul-right, div-add-mod', mod-lt, add-mul}
 use native.Mathlib.Decide.{decLt}
 use native.Mathlib.Omega.{arith}
 use lib.Dec.{leb}
@@ -80,6 +80,15 @@ pub up-le : (a b : ℕ) → up a b ≤ a
 up-le a zero = omega (arith, up-zero a)
 up-le a (suc b) = up-least a (suc b) a (omega arith) (le-mul-of-pos-right a (omega arith))
 
+-- a number above 0 that one block holds takes one
+pub up-one : (a b : ℕ) → 1 ≤ a → a ≤ b → up a b ≡ 1
+up-one a b low high = up-is a b 1 (omega arith) (omega arith) (omega arith)
+
+-- where q blocks hold a and are not too many, they are the quotient rounded up
+pub up-stays : (a b q : ℕ) → q ≤ up a b → a ≤ q * b → up a b ≡ q
+up-stays a zero q few h = omega (arith, up-zero a)
+up-stays a (suc b) q few h = omega (arith, up-least a (suc b) q (omega arith) h)
+
 -- How a number above 0 lies in blocks of size b: m whole ones, and then 1 to b.
 pub record Blocks (a b m : ℕ) : Type 0 where
   pub count : up a b ≡ suc m
@@ -97,3 +106,25 @@ blocks a b pos apos = go (up a b) refl
         let low : ¬ (a ≤ m * b) = λ h. (let k : up a b ≤ m = up-least a b m pos h in omega arith) in
         let q : suc m - 1 ≡ m = omega arith in
         rw q record { count = e; more = omega arith; most = omega arith }
+
+-- so many blocks pass a number above 0 by less than one
+up-below : (a b : ℕ) → 0 < b → 0 < a → up a b * b < a + b
+up-below a b pos apos =
+    let s = blocks a b pos apos in
+    let e : up a b * b ≡ suc (up a b - 1) * b = ap (λ (q : ℕ). q * b) (s .count) in
+    omega (arith, s .more)
+
+-- so many blocks pass a by no more than one
+pub up-most : (a b : ℕ) → up a b * b ≤ a + b
+up-most a zero = omega arith
+up-most zero (suc b) = let e : up 0 (suc b) ≡ 0 = omega (arith, up-le 0 (suc b)) in rw e (omega arith)
+up-most (suc a) (suc b) = omega (arith, up-below (suc a) (suc b) (omega arith) (omega arith))
+
+-- where q blocks are too few, those that hold what is past them are added
+pub up-past : (a b q : ℕ) → q ≤ up a b → q * b < a → up a b ≡ q + up (a - q * b) b
+up-past a zero q few h = omega (arith, up-zero a, up-zero (a - q * 0))
+up-past a (suc b) q few h =
+    let more = up (a - q * suc b) (suc b) in
+    let e : (q + more) * suc b ≡ q * suc b + more * suc b = add-mul q more (suc b) in
+    up-is a (suc b) (q + more) (omega arith) (omega (arith, e, up-holds (a - q * suc b) (suc b) (omega arith)))
+    (omega (arith, e, up-below (a - q * suc b) (suc b) (omega arith) (omega arith)))

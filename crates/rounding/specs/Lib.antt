@@ -1,3 +1,4 @@
 pub mod Up
 pub mod Asked
-pub mod Cut
+pub mod Short
+pub mod Edges

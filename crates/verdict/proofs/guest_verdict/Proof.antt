@@ -4,7 +4,7 @@ use borrow.Author.Needs.{needs}
 use Rattle.verdict.specs.Verdict.{guestVerdict}
 use Rattle.verdict.specs.declared.GuestVerdict.the-variants.{Refused}
 use Rattle.plan.proofs.LookUp.{lent, lent-few, look-refuses, look-order, look-here}
-use Rattle.response.proofs.ReadyLaws.{seated-at}
+use Rattle.response.proofs.ReadyLaws.{seated-at, seated-above}
 use Rattle.verdict.proofs.Verdict.{guest-judged}
 use Rattle.verdict.proofs.guest_verdict.Statement.{statement}
 use Rattle.verdict.proofs.guest_verdict.Tie as tie
@@ -39,7 +39,7 @@ response-at-requires c κs =
     let h = found .if1 .left in
     let s = seated-at _ _ (columns .columns-of .ensures) (jitters .jitters-of .ensures) (look-order l h) _
     (look-here l h) in
-    ((omega (arith, s .place), λ j m. s .late j (omega arith)), s .ranged _ (omega arith))
+    ((omega (arith, s .place), seated-above _ _ _ _ _ s .1), s .ranged _ (omega arith))
 
 guest-says-requires : tie.Need-guest-says-requires
 guest-says-requires c κs = search needs

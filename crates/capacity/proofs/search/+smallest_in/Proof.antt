@@ -50,8 +50,10 @@ smallest-in-smallest-in-requires : (t : ℕ) → smallest-in-lts.Need-smallest-i
 ) (smallest-in-at t) smallest-in.Post
 smallest-in-smallest-in-requires t c κs =
     let s = c .before .before .pre in
-    let f = narrows-fewer (c .narrowed .ensures) (omega arith) in
-    (omega (arith, s .0, f .fewer), ((s .1 .0 .0, (omega (arith, f .low), omega (arith, f .high))), s .1 .1))
+    let f = narrows-fewer (c .narrowed .ensures .0) (omega arith) in (
+      omega (arith, s .0, f .fewer),
+      ((s .1 .0 .0, (omega (arith, f .low), omega (arith, f .high))), (s .1 .1 .0, c .narrowed .ensures .1)),
+    )
 
 smallest-in-returns-2 : (t : ℕ) → smallest-in-lts.Need-returns-2 (
   narrowed-reads.Asked,
@@ -59,7 +61,7 @@ smallest-in-returns-2 : (t : ℕ) → smallest-in-lts.Need-returns-2 (
   smallest-in-below t,
   smallest-in.Post,
 ) (smallest-in-at t) smallest-in.Post
-smallest-in-returns-2 t c = c .smallest-in .ensures ∙ c .before .narrowed .ensures .same
+smallest-in-returns-2 t c = c .smallest-in .ensures ∙ c .before .narrowed .ensures .0 .same
 
 pub +smallest-in-spec : {M : Type 1} → statement M
 +smallest-in-spec = close μ-smallest-in λ t. smallest-in-lts.spec (

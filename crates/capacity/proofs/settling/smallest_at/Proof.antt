@@ -5,7 +5,7 @@ use native.Mathlib.Omega.{arith}
 use borrow.Author.Needs.{needs}
 use borrow.Author.Tests.{not-true, not-false}
 use Rattle.response.specs.Columns.{guestsTake}
-use Rattle.response.proofs.ReadyLaws.{filled-runs, seated-server}
+use Rattle.response.proofs.ReadyLaws.{filled-columns, seated-server, seated-above}
 use Rattle.capacity.proofs.SearchLaws.{works-by}
 use Rattle.capacity.proofs.Narrowing.{above-unfit, above-fitted}
 use Rattle.capacity.proofs.settling.smallest_at.Statement.{statement}
@@ -14,7 +14,7 @@ use Rattle.capacity.proofs.settling.smallest_at.Tie as tie
 all-fitted-requires : tie.Need-all-fitted-requires
 all-fitted-requires c κs =
     let s = c .pre .0 in
-    ((omega (arith, s .place), λ j l. s .late j (omega arith)), λ j l. s .ranged j (omega arith))
+    (seated-above _ _ _ _ _ s, λ j l. s .ranged j (omega arith))
 
 returns : tie.Need-returns
 returns c = above-unfit _ _ (sym (c .before .all-fitted .ensures) ∙ not-true _ (c .if1 .taken))
@@ -31,10 +31,10 @@ settled-requires c κs =
     let start = filled .before .before .before .before .before .before in
     let s = start .pre .0 in
     let server = seated-server _ _ _ _ _ s in (
-      ((omega (arith, s .place), λ j l. s .late j (omega arith)), (start .pre .1, s .tasks .few)),
+      (seated-above _ _ _ _ _ s, start .pre .1),
       (
         (omega (arith, server .some, server .within), server .short),
-        (filled-runs (start .args .g) (s .tasks) (filled .charged-of .ensures), s .tasks .deadlines),
+        filled-columns (start .args .g) (s .tasks) (filled .charged-of .ensures),
       ),
     )
 

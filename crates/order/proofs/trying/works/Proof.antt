@@ -7,7 +7,7 @@ use borrow.Author.Tests.{not-true, not-false}
 use Rattle.response.specs.Columns.{guestsTake}
 use Rattle.lists.proofs.All.{and-false-left}
 use Rattle.response.proofs.ColumnsLaws.{columns-alike, accepted-alike}
-use Rattle.response.proofs.ReadyLaws.{seated-server, seated-range}
+use Rattle.response.proofs.ReadyLaws.{seated-server, seated-range, seated-above}
 use Rattle.response.proofs.TrialLaws.{trial-unfit-not, trial-unmet, trial-works}
 use Rattle.order.proofs.trying.works.Statement.{statement}
 use Rattle.order.proofs.trying.works.Tie as tie
@@ -15,7 +15,7 @@ use Rattle.order.proofs.trying.works.Tie as tie
 all-fitted-requires : tie.Need-all-fitted-requires
 all-fitted-requires c κs =
     let s = c .pre in
-    ((omega (arith, s .place), λ j l. s .late j (omega arith)), λ j l. s .ranged j (omega arith))
+    (seated-above _ _ _ _ _ s, λ j l. s .ranged j (omega arith))
 
 returns : tie.Need-returns
 returns c = sym (and-false-left _ (sym (c .before .all-fitted .ensures) ∙ not-true _ (c .if1 .taken)))
@@ -23,7 +23,7 @@ returns c = sym (and-false-left _ (sym (c .before .all-fitted .ensures) ∙ not-
 guest-response-requires : tie.Need-guest-response-requires
 guest-response-requires c κs =
     let s = c .before .before .pre in
-    ((omega (arith, s .place), λ j h. s .late j (omega arith)), seated-server _ _ _ _ _ s)
+    (seated-above _ _ _ _ _ s, seated-server _ _ _ _ _ s)
 
 cast-tasks : tie.Need-cast-tasks
 cast-tasks c = search needs
@@ -46,7 +46,7 @@ try-guest-requires c κs =
     let asked = filled .before .before .before .before in
     let s = asked .before .before .before .pre in (
       (
-        ((omega (arith, s .place), λ j h. s .late j (omega arith)), s .tasks .few),
+        seated-above _ _ _ _ _ s,
         seated-range _ _ _ _ _ s (filled .charged-of .ensures) (gaps .gaps-of .ensures),
       ),
       asked .guest-response .ensures,

@@ -23,8 +23,10 @@ loop-holds c = (search needs, all-none _)
 
 response-at-requires : tie.Need-response-at-requires Inv-loop μ-loop
 response-at-requires c κs =
-    let s = c .before .before .pre in
-    ((omega arith, λ j h. s .0 .1 j (omega arith)), s .1 _ (c .loop-test .taken))
+    let s = c .before .before .pre in (
+      (omega arith, (λ j h. s .0 .1 .0 j (omega arith), λ j h. s .0 .1 .1 j (omega arith))),
+      s .1 _ (c .loop-test .taken),
+    )
 
 is-at-requires : tie.Need-is-at-requires Inv-loop μ-loop
 is-at-requires c κs = search needs

@@ -1,11 +1,13 @@
 -- `response::trial::try_guest` meets its contract: the guest's response is tested, then its tasks. Assumes nothing.
-use mathlib.Core.Path.{refl, sym, _∙_}
+use mathlib.Core.Path.{refl}
+use native.Mathlib.Omega.{arith}
 use borrow.Author.Needs.{needs}
 use borrow.Author.Tests.{not-true, not-false}
 use Rattle.response.specs.Columns.{guestsTake}
 use Rattle.response.specs.Trial.{trialBy}
 use Rattle.response.proofs.ColumnsLaws.{test-is}
 use Rattle.response.proofs.ReadyLaws.{guest-ready}
+use Rattle.response.proofs.MetLaws.{met-all, met-not}
 use Rattle.response.proofs.TrialLaws.{trial-is}
 use Rattle.response.proofs.trial.try_guest.Statement.{statement}
 use Rattle.response.proofs.trial.try_guest.Tie as tie
@@ -19,15 +21,16 @@ returns c =
     let asked = c .before in
     trial-is _ _ _ (test-is (asked .before .pre .1) (asked .is-at .ensures) (not-true _ (c .if1 .taken))) refl
 
-all-met-requires : tie.Need-all-met-requires
-all-met-requires c κs =
+first-unmet-requires : tie.Need-first-unmet-requires
+first-unmet-requires c κs =
     let asked = c .before in
-    let start = asked .before in (
-      start .pre .0 .0,
+    let start = asked .before in
+    let range = start .pre .0 .1 in (
+      (start .pre .0 .0, omega arith),
       (
-        guest-ready (guestsTake _ _ _ _) _ _ _ (start .args .every .now) _ _ _ (start .pre .0 .1)
+        guest-ready (guestsTake _ _ _ _) _ _ _ (start .args .every .now) _ _ _ range
             (test-is (start .pre .1) (asked .is-at .ensures) (not-false _ (c .if1 .left))),
-        (start .pre .0 .1 .gaps, start .pre .0 .1 .deadlines),
+        (range .gaps, range .tasks),
       ),
     )
 
@@ -37,7 +40,7 @@ returns-2 c =
     let test = c .before .before in
     let asked = test .before in
     trial-is _ _ _ (test-is (asked .before .pre .1) (asked .is-at .ensures) (not-false _ (test .if1 .left)))
-    (sym (c .before .all-met .ensures) ∙ c .if2 .taken)
+    (met-all _ _ _ _ (c .before .first-unmet .ensures) (c .if2 .taken))
 
 returns-3 : tie.Need-returns-3
 unfolding trialBy
@@ -45,14 +48,8 @@ returns-3 c =
     let test = c .before .before in
     let asked = test .before in
     trial-is _ _ _ (test-is (asked .before .pre .1) (asked .is-at .ensures) (not-false _ (test .if1 .left)))
-    (sym (c .before .all-met .ensures) ∙ c .if2 .left)
+    (met-not _ _ _ _ (c .before .first-unmet .ensures) (omega (arith, c .if2 .left)))
 
 pub try-guest-spec : {M : Type 1} → statement M
 try-guest-spec =
-    tie.close
-    (tie.spec
-    is-at-requires
-    returns
-    all-met-requires
-    returns-2
-    returns-3)
+    tie.close (tie.spec is-at-requires returns first-unmet-requires returns-2 returns-3)

@@ -1,11 +1,10 @@
 -- `verdict::judge::guest_accepted` meets its contract: a guest is accepted where its own capacity works. Assumes
 -- nothing.
 use mathlib.Core.Path.{sym, _∙_}
-use native.Mathlib.Omega.{arith}
 use borrow.Author.Needs.{needs}
 use Rattle.response.specs.Columns.{guestsTake}
 use Rattle.response.proofs.ColumnsLaws.{columns-alike, accepted-alike}
-use Rattle.response.proofs.ReadyLaws.{seated-server, seated-range}
+use Rattle.response.proofs.ReadyLaws.{seated-server, seated-range, seated-above}
 use Rattle.response.proofs.TrialLaws.{trial-unfit-not, trial-unmet, trial-works}
 use Rattle.verdict.proofs.judge.guest_accepted.Statement.{statement}
 use Rattle.verdict.proofs.judge.guest_accepted.Tie as tie
@@ -13,7 +12,7 @@ use Rattle.verdict.proofs.judge.guest_accepted.Tie as tie
 guest-response-requires : tie.Need-guest-response-requires
 guest-response-requires c κs =
     let s = c .pre in
-    ((omega (arith, s .place), λ j h. s .late j (omega arith)), seated-server _ _ _ _ _ s)
+    (seated-above _ _ _ _ _ s, seated-server _ _ _ _ _ s)
 
 cast-tasks : tie.Need-cast-tasks
 cast-tasks c = search needs
@@ -36,7 +35,7 @@ try-guest-requires c κs =
     let asked = filled .before .before .before .before in
     let s = asked .before .pre in (
       (
-        ((omega (arith, s .place), λ j h. s .late j (omega arith)), s .tasks .few),
+        seated-above _ _ _ _ _ s,
         seated-range _ _ _ _ _ s (filled .charged-of .ensures) (gaps .gaps-of .ensures),
       ),
       asked .guest-response .ensures,

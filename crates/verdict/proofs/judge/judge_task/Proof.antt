@@ -8,7 +8,7 @@ use Rattle.response.specs.Task.{limit}
 use Rattle.response.specs.Columns.{guestsTake}
 use Rattle.equation.proofs.Alike.{task-alike}
 use Rattle.response.proofs.ColumnsLaws.{columns-alike}
-use Rattle.response.proofs.ReadyLaws.{guest-ready, seated-server, seated-range, seated-fits}
+use Rattle.response.proofs.ReadyLaws.{guest-ready, seated-server, seated-range, seated-fits, seated-above, seated-all}
 use Rattle.verdict.proofs.Verdict.{says-unjudged, says-judged}
 use Rattle.verdict.proofs.judge.judge_task.Statement.{statement}
 use Rattle.verdict.proofs.judge.judge_task.Tie as tie
@@ -19,7 +19,7 @@ add-all-fitted c = search needs
 all-fitted-requires : tie.Need-all-fitted-requires
 all-fitted-requires c κs =
     let s = c .before .before .pre .0 in
-    ((omega (arith, s .place), s .late), s .ranged)
+    (seated-all _ _ _ _ _ s, s .ranged)
 
 returns : tie.Need-returns
 returns c = says-unjudged _ _ (sym (c .before .all-fitted .ensures) ∙ not-true _ (c .if1 .taken))
@@ -52,15 +52,15 @@ task-response-requires c κs =
     let start = test .before .before .before .before in
     let s = start .pre in
     let range = seated-range _ _ _ _ _ (s .0) (filled .charged-of .ensures) (gaps .gaps-of .ensures) in (
-      (
-        (omega (arith, s .0 .place), λ j h. s .0 .late j (omega arith)),
-        omega (arith, s .1, s .0 .tasks .few),
-      ),
+      (seated-above _ _ _ _ _ (s .0), omega (arith, s .1, s .0 .tasks .few)),
       (
         guest-ready (guestsTake _ _ _ _) _ _ _ (start .args .g .every) _ _ _ range
             (seated-fits _ _ _ _ _ (s .0) (sym (test .before .all-fitted .ensures) ∙ not-false _ (test .if1 .left)))
             _ (s .1),
-        (s .0 .tasks .periods _ (s .1), λ j h. range .gaps j (omega (arith, s .1))),
+        (
+          s .0 .tasks .periods _ (s .1),
+          (λ j h. range .gaps j (omega (arith, s .1)), λ j h. s .0 .tasks .periods j (omega (arith, s .1))),
+        ),
       ),
     )
 

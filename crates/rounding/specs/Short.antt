@@ -1,6 +1,6 @@
--- Numbers cut off, so that no later sum is too large. Inner: no promise of an entry names this.
+-- Numbers small enough for a sum of 16. Inner: no promise of an entry names this.
 use mathlib.Core.List.{List}
-use Prim.Native.Nat.{ℕ, min, _+_, _<_}
+use Prim.Native.Nat.{ℕ, _+_, _<_}
 use Rattle.lists.specs.Places.{nth}
 
 -- 2 to the 32: the first number that 32 bits do not hold
@@ -15,6 +15,6 @@ long = 134217728
 abbrev pub Short : (late : List ℕ) → (n v : ℕ) → Type 0
 Short late n v = (k : ℕ) → k < n → v + nth late k < long
 
--- a number cut off at the bound
-abbrev pub cut : ℕ → ℕ
-cut x = min x bound
+-- each of the first n asks once in so few ticks that no edge leaves 32 bits
+abbrev pub Often : (every : List ℕ) → (n : ℕ) → Type 0
+Often every n = (k : ℕ) → k < n → nth every k < long
