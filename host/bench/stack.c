@@ -59,6 +59,19 @@ EXPORT(cs_amended_accept, CsVerdict, (const uint8_t *p, size_t n, const uint8_t 
 EXPORT(cs_amended_smallest_capacity, CsVerdict, (const uint8_t *p, size_t n, const uint8_t *s, size_t m, uint32_t id),
        (bytes, sizeof bytes, wide_amendments, sizeof wide_amendments, GUESTS))
 EXPORT(cs_run, CsRun, (CsDispatcher d, uint32_t ticks), (states, 1000000))
+
+#define ROWS uint32_t n, const uint32_t (*r)[54]
+#define LENT ROWS, uint32_t *l, uint32_t *p, uint32_t *t, uint32_t *w, uint32_t *a, uint64_t *u
+#define READ ROWS, const uint32_t *l, const uint32_t *p, uint32_t *t, uint32_t *w, uint32_t *a
+#define STATE placed.plan.count, CS_ROWS(&placed), placed.left, placed.position, placed.rest, placed.wait, placed.age
+
+EXPORT(cs_fresh_in, CsRefusal, (LENT), (STATE, placed.usage))
+EXPORT(cs_release_in, uint32_t, (READ, uint32_t id, uint32_t task), (STATE, GUESTS, TASKS))
+EXPORT(cs_sheet_in, uint32_t, (READ, const uint64_t *q, size_t m, uint32_t *s, size_t room),
+       (STATE, pairs, CS_MOST_PAIRS, answers, CS_MOST_PAIRS))
+EXPORT(cs_tick_in, CsTickIn, (LENT), (STATE, placed.usage))
+EXPORT(cs_run_in, CsRunIn, (LENT, uint32_t ticks), (STATE, placed.usage, 1000000))
+
 EXPORT(cs_write_log, CsRefusal, (CsLogEntries j, uint8_t *b, size_t n), (jobs, buffer, sizeof buffer))
 EXPORT(cs_statement, CsStated, (CsStatement s, const uint8_t *p, size_t n, const uint8_t *l, size_t m),
        (running, bytes, sizeof bytes, finished, sizeof finished))
@@ -91,6 +104,12 @@ static const struct {
     {"cs_sheet", call_cs_sheet, sizeof(CsDispatcher)},
     {"cs_tick", call_cs_tick, sizeof(CsDispatcher)},
     {"cs_run", call_cs_run, sizeof(CsDispatcher)},
+    /* Of the numbers and pointers that these are handed six go in registers, and so does the place of a result. */
+    {"cs_release_in", call_cs_release_in, 3 * sizeof(size_t)},
+    {"cs_sheet_in", call_cs_sheet_in, 5 * sizeof(size_t)},
+    {"cs_tick_in", call_cs_tick_in, 3 * sizeof(size_t)},
+    {"cs_run_in", call_cs_run_in, 4 * sizeof(size_t)},
+    {"cs_fresh_in", call_cs_fresh_in, 2 * sizeof(size_t)},
     {"cs_write_log", call_cs_write_log, sizeof(CsLogEntries)},
     {"cs_statement", call_cs_statement, sizeof(CsStatement)},
     {"cs_salvage", call_cs_salvage, 0},

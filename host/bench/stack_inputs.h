@@ -17,6 +17,7 @@ static CsPlan plan;         /* full, all guests fitted, all tasks met */
 static CsPlan wide;         /* the last guest's period is the longest, so that the search for its capacity is deepest */
 static CsPlan unordered;    /* the last guest has unbound tasks, every second one with a late deadline */
 static CsDispatcher states; /* of the full plan, with a job of every task released */
+static CsDispatcher placed; /* the same, for the calls in place */
 static uint64_t pairs[CS_MOST_PAIRS]; /* each task of the full plan, and once more */
 static uint32_t answers[CS_MOST_PAIRS];
 static uint8_t amendments[GUESTS * CS_BLOCK];      /* each guest of the full plan, the last one first */
@@ -103,6 +104,7 @@ static void make_state(void) {
             states = released.dispatcher;
         }
     }
+    placed = states;
 }
 
 static void make_sheet(void) {

@@ -149,6 +149,19 @@ typedef struct CsTicked {
     CsAnswer answer;         /* no answer on a refusal */
 } CsTicked;
 
+/* What a tick in place gives. */
+typedef struct CsTickIn {
+    uint32_t number; /* the refusal's, or 0 */
+    CsAnswer answer; /* no answer on a refusal */
+} CsTickIn;
+
+/* What a run in place gives. */
+typedef struct CsRunIn {
+    uint32_t number; /* the refusal's, or 0 */
+    uint32_t done;   /* ticks done, 0 on a refusal */
+    CsAnswer answer; /* of the last tick */
+} CsRunIn;
+
 typedef struct CsRun {
     CsRefusal refusal;
     uint32_t done;           /* ticks done, 0 on a refusal */
@@ -314,6 +327,57 @@ CsTicked cs_tick(CsDispatcher dispatcher);
 /* Ticks until one finishes a job or their number is used up.
  * Refusals: 14 a state outside its ranges (usage has none), 13 more than 1,000,000 ticks. */
 CsRun cs_run(CsDispatcher dispatcher, uint32_t ticks);
+
+/* The next five do the same on a state that lies in the caller's memory, and copy none of it: its plan is lent as rows
+ * of words, as a CsGuest lies in memory on a machine that stores the low byte first, and its arrays are lent to be
+ * changed. They must not overlap. A refused call changes nothing. The functions with a CsDispatcher below them are how
+ * they are meant to be called. */
+
+/* A fresh start of the plan that stands in the state. Refusals: as cs_fresh. */
+CsRefusal cs_fresh_in(uint32_t count, const uint32_t rows[8][54], uint32_t left[8], uint32_t position[8],
+                      uint32_t rest[128], uint32_t wait[128], uint32_t age[128], uint64_t usage[17]);
+
+/* A release: the number of its refusal, or 0. Refusals: as cs_release. */
+uint32_t cs_release_in(uint32_t count, const uint32_t rows[8][54], const uint32_t left[8], const uint32_t position[8],
+                       uint32_t rest[128], uint32_t wait[128], uint32_t age[128], uint32_t id, uint32_t task);
+
+/* A sheet: the number of its refusal, or 0. Refusals: as cs_sheet. */
+uint32_t cs_sheet_in(uint32_t count, const uint32_t rows[8][54], const uint32_t left[8], const uint32_t position[8],
+                     uint32_t rest[128], uint32_t wait[128], uint32_t age[128], const uint64_t *pairs,
+                     size_t pair_count, uint32_t *answers, size_t room);
+
+/* A tick. Refusal: as cs_tick. */
+CsTickIn cs_tick_in(uint32_t count, const uint32_t rows[8][54], uint32_t left[8], uint32_t position[8],
+                    uint32_t rest[128], uint32_t wait[128], uint32_t age[128], uint64_t usage[17]);
+
+/* Ticks until one finishes a job or their number is used up. Refusals: as cs_run. */
+CsRunIn cs_run_in(uint32_t count, const uint32_t rows[8][54], uint32_t left[8], uint32_t position[8],
+                  uint32_t rest[128], uint32_t wait[128], uint32_t age[128], uint64_t usage[17], uint32_t ticks);
+
+/* The plan's records as rows of words. */
+#define CS_ROWS(dispatcher) ((const uint32_t(*)[54])(const void *)(dispatcher)->plan.guests)
+
+static inline CsRefusal cs_fresh_at(CsDispatcher *d) {
+    return cs_fresh_in(d->plan.count, CS_ROWS(d), d->left, d->position, d->rest, d->wait, d->age, d->usage);
+}
+
+static inline uint32_t cs_release_at(CsDispatcher *d, uint32_t id, uint32_t task) {
+    return cs_release_in(d->plan.count, CS_ROWS(d), d->left, d->position, d->rest, d->wait, d->age, id, task);
+}
+
+static inline uint32_t cs_sheet_at(CsDispatcher *d, const uint64_t *pairs, size_t count, uint32_t *answers,
+                                   size_t room) {
+    return cs_sheet_in(d->plan.count, CS_ROWS(d), d->left, d->position, d->rest, d->wait, d->age, pairs, count, answers,
+                       room);
+}
+
+static inline CsTickIn cs_tick_at(CsDispatcher *d) {
+    return cs_tick_in(d->plan.count, CS_ROWS(d), d->left, d->position, d->rest, d->wait, d->age, d->usage);
+}
+
+static inline CsRunIn cs_run_at(CsDispatcher *d, uint32_t ticks) {
+    return cs_run_in(d->plan.count, CS_ROWS(d), d->left, d->position, d->rest, d->wait, d->age, d->usage, ticks);
+}
 
 /* Writes a log block of these jobs to the first 512 bytes of the buffer and to no others. Guest ids and task numbers
  * are written as they are, and zeros for the entries past the count.

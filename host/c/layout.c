@@ -69,6 +69,13 @@ static void dispatcher(void) {
     FIELD(CsTicked, dispatcher);
     FIELD(CsTicked, refusal);
     FIELD(CsTicked, answer);
+    STRUCT(CsTickIn);
+    FIELD(CsTickIn, number);
+    FIELD(CsTickIn, answer);
+    STRUCT(CsRunIn);
+    FIELD(CsRunIn, number);
+    FIELD(CsRunIn, done);
+    FIELD(CsRunIn, answer);
     STRUCT(CsRun);
     FIELD(CsRun, refusal);
     FIELD(CsRun, done);

@@ -1,10 +1,12 @@
 -- Each promise permits one outcome, since it is an equality with a definition. Assumes nothing.
-use mathlib.Core.Path.{_≡_}
+use mathlib.Core.Path.{_≡_, ap}
 use mathlib.Core.List.{List}
 use Prim.Native.Nat.{ℕ}
+use Rattle.plan.specs.First.{refused}
 use Rattle.plan.specs.declared.Plan.{Plan}
 use Rattle.dispatcher.specs.declared.Dispatcher.{Dispatcher}
 use Rattle.coreshare.specs.declared.Verdict.{Verdict}
+use Rattle.coreshare.specs.declared.Told.{Told}
 use Rattle.coreshare.specs.declared.Tick.{Tick}
 use Rattle.coreshare.specs.declared.Run.{Run}
 use Rattle.coreshare.specs.Promises.{TellsGuest, TellsTask, TellsPlan, TellsCapacity, TellsGuestIn, TellsTaskIn, TellsPair, TellsCapacityIn, TellsTick, TellsRun}
@@ -53,3 +55,23 @@ tells-tick-once d r s = one-outcome
 -- Two outcomes that the promise of `cs_run` permits coincide.
 pub tells-run-once : (d : Dispatcher) (n : ℕ) (r s : Run) → TellsRun d n r → TellsRun d n s → r ≡ s
 tells-run-once d n r s = one-outcome
+
+-- Two outcomes that the promise of `cs_tick_in` permits coincide.
+pub tells-tick-in-place-once : (d : Dispatcher) (n m : ℕ) (a b : Told) (s t : Dispatcher)
+    → TellsTick d (record { refusal = refused n 0; answer = a; state = s })
+    → TellsTick d (record { refusal = refused m 0; answer = b; state = t })
+    → (n ≡ m) × ((a ≡ b) × (s ≡ t))
+tells-tick-in-place-once d n m a b s t p q =
+    let e = one-outcome p q in
+    (ap (λ (r : Tick). r .refusal .number) e, (ap (λ (r : Tick). r .answer) e, ap (λ (r : Tick). r .state) e))
+
+-- Two outcomes that the promise of `cs_run_in` permits coincide.
+pub tells-run-in-place-once : (d : Dispatcher) (ticks n m done did : ℕ) (a b : Told) (s t : Dispatcher)
+    → TellsRun d ticks (record { refusal = refused n 0; done = done; answer = a; state = s })
+    → TellsRun d ticks (record { refusal = refused m 0; done = did; answer = b; state = t })
+    → ((n ≡ m) × (done ≡ did)) × ((a ≡ b) × (s ≡ t))
+tells-run-in-place-once d ticks n m done did a b s t p q =
+    let e = one-outcome p q in (
+      (ap (λ (r : Run). r .refusal .number) e, ap (λ (r : Run). r .done) e),
+      (ap (λ (r : Run). r .answer) e, ap (λ (r : Run). r .state) e),
+    )

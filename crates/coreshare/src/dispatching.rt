@@ -14,7 +14,7 @@ use dispatcher::Started;
 use plan::Plan;
 
 // A tick's answer is told as a number for its case, with the case's values.
-fn tell(answer: Answer) -> Told
+pub fn tell(answer: Answer) -> Told
     ensures { λ r. ⌜ r ≡ told answer ⌝ }
 {
     match answer {

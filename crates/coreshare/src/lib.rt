@@ -9,6 +9,7 @@ mod converting;
 mod dispatching;
 mod judging;
 mod ordering;
+mod placing;
 mod salvaging;
 mod stating;
 
@@ -46,4 +47,19 @@ pub struct Run {
     pub done: u32,
     pub answer: Told,
     pub state: Dispatcher,
+}
+
+// What one tick in place gives: the number of its refusal, or 0, and who had the tick.
+#[repr(C)]
+pub struct TickIn {
+    pub number: u32,
+    pub answer: Told,
+}
+
+// What a run in place gives: the number of its refusal, or 0, the ticks done, and who had the last of them.
+#[repr(C)]
+pub struct RunIn {
+    pub number: u32,
+    pub done: u32,
+    pub answer: Told,
 }

@@ -8,7 +8,7 @@ use Rattle.plan.specs.Records.{blankPlan}
 use Rattle.plan.specs.Periodic.{startRefusal}
 use Rattle.dispatcher.specs.declared.Dispatcher.{Dispatcher}
 use Rattle.dispatcher.specs.declared.Started.{Started}
-use Rattle.dispatcher.specs.Fresh.{idle, startedBy, fresh}
+use Rattle.dispatcher.specs.Fresh.{idle, startedBy, startedIn, fresh}
 
 -- A start that has a number is zero throughout.
 blank-by : (x : ℕ) (p : Plan) → 0 < x → idle blankPlan ≡ startedBy x p
@@ -33,3 +33,15 @@ pub start-fresh : (p : Plan) {r : Refusal} {d : Dispatcher} → r ≡ startRefus
     → _≡_ {A = Started} (record { refusal = r; state = d }) (fresh p)
 unfolding fresh
 start-fresh p e h g = rw (g, ← e, ← idle-by _ p h) refl
+
+-- A start in place that no number refuses leaves the fresh state.
+pub started-in : (x : ℕ) (d : Dispatcher) → x < 1 → idle (d .plan) ≡ startedIn x d
+unfolding startedIn
+started-in zero d h = refl
+started-in (suc n) d h = absurd (omega arith)
+
+-- A refused one leaves the state as it was.
+pub refused-in : (x : ℕ) (d : Dispatcher) → 1 ≤ x → d ≡ startedIn x d
+unfolding startedIn
+refused-in zero d h = absurd (omega arith)
+refused-in (suc n) d h = refl

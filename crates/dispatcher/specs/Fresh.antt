@@ -26,6 +26,11 @@ unfoldable pub startedBy : ℕ → Plan → Dispatcher
 startedBy zero p = idle p
 startedBy (suc n) p = idle blankPlan
 
+-- the same of a state whose plan stands there already: a refused start leaves it as it is
+unfoldable pub startedIn : ℕ → Dispatcher → Dispatcher
+startedIn zero d = idle (d .plan)
+startedIn (suc n) d = d
+
 -- a fresh start: the records' order, then 23, then the fresh state
 unfoldable pub fresh : Plan → Started
 fresh p = record { refusal = startRefusal p; state = startedBy (startRefusal p .number) p }

@@ -7,6 +7,9 @@ mod ticking;
 
 use plan::Plan;
 use plan::Refusal;
+pub use releasing::release_in; // Inner: for the calls in place, as the two below.
+pub use running::run_in; // Inner: as above.
+pub use starting::start_in; // Inner: as above.
 
 // The plan's records; for each guest the capacity left and the position in its period;
 // for task t of guest g, at place 16 g + t, the run left, the wait and the age.

@@ -1,6 +1,7 @@
 // A run of ticks: its checks once, then steps over the state's arrays.
 ghost use mathlib.Core.Path.{_≡_};
 ghost use Rattle.plan.specs.First.{refused};
+ghost use Rattle.rows.specs.Words.{planOf};
 ghost use Rattle.dispatcher.specs.declared.Answer.the-variants.{Silent};
 ghost use Rattle.dispatcher.specs.Lent.{stateOf};
 ghost use Rattle.dispatcher.specs.Promises.{Runs};
@@ -10,9 +11,9 @@ use crate::Ran;
 use crate::RunOutcome;
 use crate::answering::finished;
 use crate::answering::unfinished;
-use plan::Plan;
 use plan::Refusal;
 use refusals::examine;
+use rows::rows_of;
 use steps::steps;
 
 // The longest run, in ticks.
@@ -29,9 +30,10 @@ fn unmoved(number: u32) -> RunOutcome
     }
 }
 
-// A run over lent arrays, with its refusals: the arrays come back as they were where it is refused.
-pub fn ran(
-    plan: Plan,
+// A run in place, over a state that is lent, its plan as rows: where it is refused the state comes back as it was.
+pub fn run_in(
+    count: u32,
+    rows: &[[u32; 54]; 8],
     left: &mut [u32; 8],
     position: &mut [u32; 8],
     rest: &mut [u32; 128],
@@ -41,20 +43,20 @@ pub fn ran(
     ticks: u32,
 ) -> RunOutcome
     ensures { λ r. ⌜
-        Runs (stateOf plan (now (left .entry)) (now (position .entry)) (now (rest .entry)) (now (wait .entry))
-        (now (age .entry)) (now (usage .entry)))
+        Runs (stateOf (planOf count (now (rows .entry))) (now (left .entry)) (now (position .entry)) (now (rest .entry))
+        (now (wait .entry)) (now (age .entry)) (now (usage .entry)))
         ticks
         (record {
           refusal = refused (r .number) 0;
           done = r .done;
           answer = r .answer;
           state =
-              stateOf plan (now (left .exit)) (now (position .exit)) (now (rest .exit)) (now (wait .exit))
-              (now (age .exit)) (now (usage .exit));
+              stateOf (planOf count (now (rows .entry))) (now (left .exit)) (now (position .exit)) (now (rest .exit))
+              (now (wait .exit)) (now (age .exit)) (now (usage .exit));
         })
         ⌝ }
 {
-    let found = examine(plan, left, position, rest, wait, age);
+    let found = examine(count, rows, left, position, rest, wait, age);
     if !found.ok {
         return unmoved(14);
     }
@@ -66,7 +68,7 @@ pub fn ran(
     let capacities = columns.capacities;
     let periods = columns.periods;
     let tasks = columns.tasks;
-    let n = plan.count as usize;
+    let n = count as usize;
     let went = steps(
         left,
         position,
@@ -89,7 +91,7 @@ pub fn ran(
         return RunOutcome {
             number: 0,
             done,
-            answer: finished(plan, turn, age),
+            answer: finished(rows, turn, age),
         };
     }
     RunOutcome {
@@ -109,8 +111,10 @@ impl Dispatcher {
         let mut wait = self.wait;
         let mut age = self.age;
         let mut usage = self.usage;
-        let r = ran(
-            self.plan,
+        let rows = rows_of(self.plan);
+        let r = run_in(
+            self.plan.count,
+            &rows,
             &mut left,
             &mut position,
             &mut rest,

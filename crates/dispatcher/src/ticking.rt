@@ -2,8 +2,9 @@
 ghost use Rattle.dispatcher.specs.Promises.{Ticks};
 use crate::Dispatcher;
 use crate::Ticked;
-use crate::running::ran;
+use crate::running::run_in;
 use plan::Refusal;
+use rows::rows_of;
 
 impl Dispatcher {
     pub fn tick(mut self) -> Ticked
@@ -15,8 +16,10 @@ impl Dispatcher {
         let mut wait = self.wait;
         let mut age = self.age;
         let mut usage = self.usage;
-        let r = ran(
-            self.plan,
+        let rows = rows_of(self.plan);
+        let r = run_in(
+            self.plan.count,
+            &rows,
             &mut left,
             &mut position,
             &mut rest,

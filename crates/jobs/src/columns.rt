@@ -3,11 +3,12 @@ ghost use mathlib.Core.Path.{_≡_};
 ghost use Prim.Native.Nat.{_<_};
 ghost use Rattle.plan.specs.Order.{planRefusal};
 ghost use Rattle.plan.specs.Ranges.{mostGuests};
+ghost use Rattle.rows.specs.Words.{planOf};
 ghost use Rattle.jobs.specs.Rows.{ShortRuns, Long, RowTo, JobsOf};
 ghost use Rattle.jobs.specs.Barred.{barredBy, BarredTo};
 use crate::Jobs;
 use plan::Guest;
-use plan::Plan;
+use rows::guest_of;
 
 // The row of guest g, at place k: rows are put from the first on, so those before it stand.
 fn put_row(g: Guest, k: usize, runs: &mut [u32; 128], periods: &mut [u32; 128])
@@ -39,21 +40,21 @@ fn barred_by(marks: u16, position: u32) -> u16
 }
 
 // The charged run and the period of each task of a plan in order, and the barred tasks of each guest.
-pub fn jobs_of(plan: Plan, position: &[u32; 8]) -> Jobs
-    requires { ⌜ planRefusal plan .number ≡ 0 ⌝ }
+pub fn jobs_of(count: u32, rows: &[[u32; 54]; 8], position: &[u32; 8]) -> Jobs
+    requires { ⌜ planRefusal (planOf count (now rows)) .number ≡ 0 ⌝ }
     ensures { λ r. ⌜
-        JobsOf plan (r .runs) (r .periods)
-        × BarredTo plan (now (position .entry)) (plan .count) (r .barred) (r .clear)
+        JobsOf (planOf count (now (rows .entry))) (r .runs) (r .periods)
+        × BarredTo (planOf count (now (rows .entry))) (now (position .entry)) count (r .barred) (r .clear)
         ⌝ }
 {
-    let n = plan.count as usize;
+    let n = count as usize;
     let mut runs = [0u32; 128];
     let mut periods = [0u32; 128];
     let mut barred = [0u16; 16];
     let mut clear = true;
     let mut k: usize = 0;
     while k < n {
-        let g = plan.guests[k];
+        let g = guest_of(&rows[k]);
         put_row(g, k, &mut runs, &mut periods);
         let marks = barred_by(g.marks, position[k]);
         barred[k] = marks;

@@ -5,11 +5,12 @@ ghost use Prim.Native.Nat.{_<_};
 ghost use lib.Dec.{eqb};
 ghost use Rattle.plan.specs.Ranges.{mostTasks, guestOk, tasksOk};
 ghost use Rattle.plan.specs.Marks.{marked};
+ghost use Rattle.rows.specs.Words.{planOf};
 ghost use Rattle.refusals.specs.Aims.{AimsAt, Aims};
 use crate::Aim;
 use crate::validating::examine;
 use plan::Guest;
-use plan::Plan;
+use rows::guest_of;
 
 // A release refused by a number.
 fn missed(number: u32) -> Aim
@@ -63,7 +64,8 @@ fn aim_at(g: Guest, k: usize, task: u32, position: u32, rest: &[u32; 128], wait:
 
 // The release of a task of a guest by its id: 14, 7, 8, 17, 9, 10, or what the task of that number gets.
 pub fn aim_by_id(
-    plan: Plan,
+    count: u32,
+    rows: &[[u32; 54]; 8],
     left: &[u32; 8],
     position: &[u32; 8],
     rest: &[u32; 128],
@@ -73,20 +75,21 @@ pub fn aim_by_id(
     task: u32,
 ) -> Aim
     ensures { λ r. ⌜
-        Aims plan (now (left .entry)) (now (position .entry)) (now (rest .entry)) (now (wait .entry)) (now (age .entry))
-        guest task r
+        Aims (planOf count (now (rows .entry))) (now (left .entry)) (now (position .entry)) (now (rest .entry))
+        (now (wait .entry)) (now (age .entry)) guest task r
         ⌝ }
 {
-    let found = examine(plan, left, position, rest, wait, age);
+    let found = examine(count, rows, left, position, rest, wait, age);
     if !found.ok {
         return missed(14);
     }
     let columns = found.columns;
     let ids = columns.ids;
-    let n = plan.count as usize;
+    let n = count as usize;
     let k = plan::place_of(&ids, n, guest);
     if n <= k {
         return missed(7);
     }
-    aim_at(plan.guests[k], k, task, position[k], rest, wait)
+    let g = guest_of(&rows[k]);
+    aim_at(g, k, task, position[k], rest, wait)
 }

@@ -1,37 +1,39 @@
-// Refusal 14: the plan's own check and all places, in one pass over the records, which are copied once.
+// Refusal 14: the plan's own check and all places, in one pass over the records, which are lent as rows.
 ghost use mathlib.Core.Path.{_≡_};
 ghost use mathlib.Core.Bool.{false};
 ghost use Prim.Native.Nat.{_≤_};
 ghost use Rattle.lists.specs.All.{allTo};
 ghost use Rattle.plan.specs.Ranges.{mostGuests};
 ghost use Rattle.plan.specs.Filled.{ColumnsOf};
+ghost use Rattle.rows.specs.Words.{planOf};
 ghost use Rattle.refusals.specs.Check.{goes, pastOk, Examined};
 use crate::Checked;
 use crate::ranges::blank_ok;
 use crate::ranges::guest_ok;
 use plan::Columns;
-use plan::Plan;
+use rows::guest_of;
 
 // Whether the plan's guests are in their ranges, place by place, and their columns.
 fn guests_ok(
-    plan: Plan,
+    count: u32,
+    rows: &[[u32; 54]; 8],
     left: &[u32; 8],
     position: &[u32; 8],
     rest: &[u32; 128],
     wait: &[u32; 128],
     age: &[u32; 128],
 ) -> Checked
-    requires { ⌜ plan .count ≤ 8 ⌝ }
+    requires { ⌜ count ≤ 8 ⌝ }
     ensures { λ r. ⌜
         (r .ok
         ≡ allTo
-        (goes plan (now (left .entry)) (now (position .entry)) (now (rest .entry)) (now (wait .entry))
-        (now (age .entry)))
-        (plan .count))
-        × ColumnsOf (plan .guests) (plan .count) (r .columns)
+        (goes (planOf count (now (rows .entry))) (now (left .entry)) (now (position .entry)) (now (rest .entry))
+        (now (wait .entry)) (now (age .entry)))
+        count)
+        × ColumnsOf (planOf count (now (rows .entry)) .guests) count (r .columns)
         ⌝ }
 {
-    let n = plan.count as usize;
+    let n = count as usize;
     let mut columns = Columns {
         ids: [0; 16],
         capacities: [0; 16],
@@ -42,7 +44,7 @@ fn guests_ok(
     let mut ok = true;
     let mut k: usize = 0;
     while k < n {
-        let g = plan.guests[k];
+        let g = guest_of(&rows[k]);
         columns.ids[k] = g.id;
         columns.capacities[k] = g.capacity;
         columns.periods[k] = g.period;
@@ -100,7 +102,8 @@ fn nothing() -> Checked
 
 // Whether the state is in its ranges, and the columns of a plan that is.
 pub fn examine(
-    plan: Plan,
+    count: u32,
+    rows: &[[u32; 54]; 8],
     left: &[u32; 8],
     position: &[u32; 8],
     rest: &[u32; 128],
@@ -108,18 +111,18 @@ pub fn examine(
     age: &[u32; 128],
 ) -> Checked
     ensures { λ r. ⌜
-        Examined plan (now (left .entry)) (now (position .entry)) (now (rest .entry)) (now (wait .entry))
-        (now (age .entry)) r
+        Examined (planOf count (now (rows .entry))) (now (left .entry)) (now (position .entry)) (now (rest .entry))
+        (now (wait .entry)) (now (age .entry)) r
         ⌝ }
 {
-    let n = plan.count as usize;
+    let n = count as usize;
     if n < 1 {
         return nothing();
     }
     if 8 < n {
         return nothing();
     }
-    let mut found = guests_ok(plan, left, position, rest, wait, age);
+    let mut found = guests_ok(count, rows, left, position, rest, wait, age);
     found.ok = found.ok & blanks_ok(n, left, position, rest, wait, age);
     found
 }

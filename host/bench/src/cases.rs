@@ -12,7 +12,7 @@ mod statements;
 
 use crate::inputs;
 use coreshare::exports as ours;
-use dispatcher::{release, run, tick};
+use dispatcher::{release, run, tick, tick_in_place};
 use plain::exports as same;
 use plain::verdict::TaskVerdict;
 use sheets::{sheet, singles};
@@ -110,6 +110,8 @@ fn dispatching() -> Vec<Case> {
         sheet("sheet-16", inputs::endless(), inputs::last_guests()),
         tick("tick-plan-a", inputs::plan_a()),
         tick("tick-full", inputs::endless()),
+        tick_in_place("tick-plan-a-in-place", inputs::plan_a()),
+        tick_in_place("tick-full-in-place", inputs::endless()),
         run("run-million-plan-a-idle", inputs::plan_a(), false),
         run("run-million-full", inputs::endless(), true),
         run("run-million-full-idle", inputs::endless(), false),
@@ -120,6 +122,9 @@ fn dispatching() -> Vec<Case> {
 /// the dispatcher. The desk's are in `desk`.
 const FILES: f64 = 1.2;
 const DISPATCHER: f64 = 1.5;
+
+/// The aim for the dispatcher where the state stays where it lies, beside plain Rust that does the same.
+const PLACED: f64 = 1.2;
 
 /// Where recurrences decide, fewer divisions than plain Rust makes: the aim for a full plan's acceptance and smallest
 /// capacities, and the one for the verdict of a single task that climbs long.

@@ -1,5 +1,7 @@
 //! The library through its wrapper, with the reference's types.
 
+mod placed;
+
 use compare::side::Side;
 use coreshare::exports;
 use reference::amendment::Located;
@@ -20,11 +22,11 @@ pub const PRODUCT: Side = Side {
     task_verdict: |plan, id, task| verdict(exports::task_verdict(&plan_in(plan), id, task)),
     accept: |plan| verdict(exports::accept(&plan_in(plan))),
     smallest_capacity: |plan, id| verdict(exports::smallest_capacity(&plan_in(plan), id)),
-    fresh: |plan| start(exports::fresh(&plan_in(plan))),
-    release: |state, id, task| released(exports::release(&state_in(state), id, task)),
-    sheet: |state, pairs, answers| released(exports::sheet(&state_in(state), pairs, answers)),
-    tick: |state| ticked(exports::tick(&state_in(state))),
-    run: |state, ticks| run(exports::run(&state_in(state), ticks)),
+    fresh: |plan| start(placed::fresh(&plan_in(plan))),
+    release: |state, id, task| released(placed::release(&state_in(state), id, task)),
+    sheet: |state, pairs, answers| released(placed::sheet(&state_in(state), pairs, answers)),
+    tick: |state| ticked(placed::tick(&state_in(state))),
+    run: |state, ticks| run(placed::run(&state_in(state), ticks)),
     amended_find: |plan, sheet, id| located(exports::amended_find(plan, sheet, id)),
     amended_guest_verdict: |plan, sheet, id| {
         verdict(exports::amended_guest_verdict(plan, sheet, id))

@@ -61,6 +61,11 @@ impl Answer {
     }
 }
 
+/// A refusal that has no place.
+fn numbered(number: u32) -> Refusal {
+    Refusal { number, place: 0 }
+}
+
 impl Dispatcher {
     /// A fresh state: no job, all positions 0, and no tick counted. The plan need not be an accepted one, but its
     /// guests must be Periodic ones: else it is refused by 23.
@@ -95,9 +100,7 @@ impl Dispatcher {
     /// # Ok::<(), coreshare::Refusal>(())
     /// ```
     pub fn release(&mut self, id: u32, task: u32) -> Result<(), Refusal> {
-        let outcome = exports::release(self, id, task);
-        *self = outcome.dispatcher;
-        outcome.refusal.or(())
+        numbered(exports::release_in(self, id, task)).or(())
     }
 
     /// Releases a job of each [`pair`] in order, at most 256, as if by [`Dispatcher::release`] one by one, and
@@ -121,9 +124,7 @@ impl Dispatcher {
     /// # Ok::<(), coreshare::Refusal>(())
     /// ```
     pub fn sheet(&mut self, pairs: &[u64], answers: &mut [u32]) -> Result<(), Refusal> {
-        let outcome = exports::sheet(self, pairs, answers);
-        *self = outcome.dispatcher;
-        outcome.refusal.or(())
+        numbered(exports::sheet_in(self, pairs, answers)).or(())
     }
 
     /// Goes on by one tick. A state outside its ranges is refused by 14, here as in every call, and so is one with a
@@ -144,9 +145,8 @@ impl Dispatcher {
     /// # Ok::<(), coreshare::Refusal>(())
     /// ```
     pub fn tick(&mut self) -> Result<Tick, Refusal> {
-        let outcome = exports::tick(self);
-        *self = outcome.dispatcher;
-        let tick = outcome.refusal.or(outcome.answer.tick())?;
+        let outcome = exports::tick_in(self);
+        let tick = numbered(outcome.number).or(outcome.answer.tick())?;
         Ok(tick.unwrap_or(Tick::Nobody))
     }
 
@@ -168,9 +168,8 @@ impl Dispatcher {
     /// # Ok::<(), coreshare::Refusal>(())
     /// ```
     pub fn run(&mut self, ticks: u32) -> Result<Progress, Refusal> {
-        let outcome = exports::run(self, ticks);
-        *self = outcome.dispatcher;
-        outcome.refusal.or(Progress {
+        let outcome = exports::run_in(self, ticks);
+        numbered(outcome.number).or(Progress {
             done: outcome.done,
             last: outcome.answer.tick(),
         })

@@ -2,6 +2,7 @@
 
 mod amended;
 mod convert;
+mod placed;
 mod salvage;
 mod statement;
 
@@ -10,6 +11,7 @@ pub use amended::{
     amended_task_verdict,
 };
 pub use convert::convert;
+pub use placed::{fresh_in, release_in, run_in, sheet_in, tick_in};
 pub use salvage::salvage;
 pub use statement::{statement, write_log};
 
@@ -17,7 +19,8 @@ use crate::{
     Dispatcher, Guest, Ordered, Plan, Read, Refusal, Released, Run, Start, Ticked, Verdict,
 };
 
-/// The library's declarations: all that is unsafe is here, in `amended`, in `statement`, in `salvage` and in `convert`.
+/// The library's declarations: all that is unsafe is here, in `amended`, in `statement`, in `salvage`, in `convert` and
+/// in `placed`.
 #[allow(unsafe_code)]
 mod library {
     use super::*;

@@ -43,7 +43,7 @@ pub use dispatcher::{Progress, Tick, pair};
 pub use plan::{BLOCK, GuestVerdict, TaskVerdict, find, mark};
 pub use records::{
     Answer, Dispatcher, Fate, Guest, Located, LogEntries, LogEntry, Ordered, Plan, Read, Refusal,
-    Released, Run, Salvaged, Start, Stated, Statement, Ticked, Verdict,
+    Released, Run, RunIn, Salvaged, Start, Stated, Statement, TickIn, Ticked, Verdict,
 };
 pub use salvage::{BlockFate, Fates, NotSalvaged, Salvage, salvage};
 pub use statement::{Line, MOST_JOBS, Passed, PassedOver, write_log};

@@ -169,6 +169,23 @@ pub struct Ticked {
     pub answer: Answer,
 }
 
+/// What a tick in place gives: the number of its refusal, or 0, and the answer.
+#[repr(C)]
+#[derive(Clone, Copy, Debug, PartialEq, Eq)]
+pub struct TickIn {
+    pub number: u32,
+    pub answer: Answer,
+}
+
+/// What a run in place gives: the number of its refusal, or 0, the ticks done and the last tick's answer.
+#[repr(C)]
+#[derive(Clone, Copy, Debug, PartialEq, Eq)]
+pub struct RunIn {
+    pub number: u32,
+    pub done: u32,
+    pub answer: Answer,
+}
+
 /// What a run gives: the ticks done and the last tick's answer.
 #[repr(C)]
 #[derive(Clone, Copy, Debug, PartialEq, Eq)]
@@ -194,9 +211,13 @@ impl Refusal {
             0 => "not refused",
             1 => "the length of the plan, sheet, log or file, or the guest count, is out of range",
             2 => "the block's words don't sum to zero",
-            3 => "the kind is neither 1 nor 2 with marks or Deferrable (a log's: not 3), or the place is not its own",
+            3 => {
+                "the kind is neither 1 nor 2 with marks or Deferrable (a log's: not 3), or the place is not its own"
+            }
             4 => "id, capacity, period or number of tasks is out of range",
-            5 => "a byte that must be zero, or a mark past the tasks, is not; or byte 22 is above 1",
+            5 => {
+                "a byte that must be zero, or a mark past the tasks, is not; or byte 22 is above 1"
+            }
             6 => "a task's run, period (if bound, a multiple) or deadline is out of range",
             7 => "no such guest in the plan",
             8 => "no such task in the guest",

@@ -8,7 +8,7 @@ use std::process::Command;
 
 use coreshare::{
     Answer, Dispatcher, Fate, Guest, Located, LogEntries, LogEntry, Ordered, Plan, Read, Refusal,
-    Released, Run, Salvaged, Start, Stated, Statement, Ticked, Verdict, mark, pair,
+    Released, Run, RunIn, Salvaged, Start, Stated, Statement, TickIn, Ticked, Verdict, mark, pair,
 };
 
 /// Compiles a C file of the folder `c` beside this crate, runs it and gives what it wrote.
@@ -70,6 +70,8 @@ fn layout() -> String {
     lines!(to, "CsReleased", Released, refusal dispatcher);
     lines!(to, "CsAnswer", Answer, kind guest task age margin);
     lines!(to, "CsTicked", Ticked, dispatcher refusal answer);
+    lines!(to, "CsTickIn", TickIn, number answer);
+    lines!(to, "CsRunIn", RunIn, number done answer);
     lines!(to, "CsRun", Run, refusal done answer dispatcher);
     lines!(to, "CsLogEntry", LogEntry, guest task age);
     lines!(to, "CsLogEntries", LogEntries, count entries);
@@ -106,7 +108,8 @@ fn the_sizes_are_those_of_the_header() {
 
 #[test]
 fn the_example_writes_what_document_01_says() {
-    let archive = Path::new(env!("CARGO_MANIFEST_DIR")).join("../../target/staticlib/libcoreshare.a");
+    let archive =
+        Path::new(env!("CARGO_MANIFEST_DIR")).join("../../target/staticlib/libcoreshare.a");
     let text = "guest 9 stands at byte 512
 guest 7 fitted 2
 task 1 met 4

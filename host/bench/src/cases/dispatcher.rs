@@ -1,6 +1,6 @@
 //! A release, a tick and a run.
 
-use super::{Case, DISPATCHER, case, ours, plans, same};
+use super::{Case, DISPATCHER, PLACED, case, ours, plans, same};
 use std::hint::black_box;
 
 /// A fresh state of each side, with a job of every task if asked for.
@@ -60,6 +60,28 @@ pub fn tick(name: &'static str, bytes: Vec<u8>) -> Case {
         move || {
             black_box(&mut placed).tick().expect("in range");
             u64::from(placed.position[0])
+        },
+    )
+}
+
+/// One tick after another, of a state that stays where it lies; plain Rust in place on both sides.
+pub fn tick_in_place(name: &'static str, bytes: Vec<u8>) -> Case {
+    let (mut product, plain) = states(&bytes, true);
+    let (mut one, mut two) = (plain, plain);
+    case(
+        name,
+        PLACED,
+        move || {
+            black_box(&mut product).tick().expect("in range");
+            u64::from(product.position[0])
+        },
+        move || {
+            black_box(&mut one).tick().expect("in range");
+            u64::from(one.position[0])
+        },
+        move || {
+            black_box(&mut two).tick().expect("in range");
+            u64::from(two.position[0])
         },
     )
 }

@@ -1,10 +1,13 @@
 -- `jobs::columns::jobs_of` meets its contract: a turn puts the row of one guest and its barred tasks, and the rows
 -- before it stand. Assumes nothing.
-use mathlib.Core.Path.{refl}
+use mathlib.Core.Path.{_≡_, refl, _∙_}
 use Prim.Native.Nat.{_≤_, _-_}
 use native.Mathlib.Omega.{arith}
 use borrow.Author.Needs.{needs}
 use Rattle.jobs.specs.Barred.{BarredTo}
+use Rattle.plan.specs.Records.{guestAt}
+use Rattle.rows.specs.Words.{planOf}
+use Rattle.rows.proofs.Words.{guest-is}
 use Rattle.plan.proofs.Order.{PlanIn, plan-in}
 use Rattle.jobs.proofs.Barred.{barred-none, barred-next, barred-done}
 use Rattle.jobs.proofs.Rows.{RowsTo, rows-none, rows-next, rows-done, runs-short}
@@ -12,14 +15,13 @@ use Rattle.jobs.proofs.columns.jobs_of.Statement.{statement}
 use Rattle.jobs.proofs.columns.jobs_of.Tie as tie
 
 abbrev Inv-loop : tie.InvT-loop
-Inv-loop position plan n runs₀ periods₀ barred₀ clear₀ k₀ runs periods barred clear k =
-    (k ≤ n) × (PlanIn plan × (RowsTo plan k runs periods × BarredTo plan position k barred clear))
+Inv-loop count rows position n runs₀ periods₀ barred₀ clear₀ k₀ runs periods barred clear k =
+    (k ≤ n)
+    × (PlanIn (planOf count rows)
+    × (RowsTo (planOf count rows) k runs periods × BarredTo (planOf count rows) position k barred clear))
 
 abbrev μ-loop : tie.MeasureT-loop
-μ-loop position plan n runs₀ periods₀ barred₀ clear₀ k₀ runs periods barred clear k = n - k
-
-cast-n : tie.Need-cast-n Inv-loop μ-loop
-cast-n c = search needs
+μ-loop count rows position n runs₀ periods₀ barred₀ clear₀ k₀ runs periods barred clear k = n - k
 
 loop-holds : tie.Need-loop-holds Inv-loop μ-loop
 loop-holds c = (
@@ -27,20 +29,34 @@ loop-holds c = (
   (plan-in _ (c .pre), (rows-none _ _ _ record { runs-long = refl; periods-long = refl }, barred-none _ _)),
 )
 
-mul-g : tie.Need-mul-g Inv-loop μ-loop
-mul-g c = search needs
+mul-guest-of : tie.Need-mul-guest-of Inv-loop μ-loop
+mul-guest-of c = search needs
 
-element-copy-out-g : tie.Need-element-copy-out-g Inv-loop μ-loop
-element-copy-out-g c = let l = c .before .loop in omega (arith, l .inv .1 .0 .few)
+index-1-guest-of : tie.Need-index-1-guest-of Inv-loop μ-loop
+index-1-guest-of c = let l = c .before .loop in omega (arith, l .inv .1 .0 .few)
+
+guest-of-requires : tie.Need-guest-of-requires Inv-loop μ-loop
+guest-of-requires c κs = search needs
+
+-- the guest that was read is the plan's
+read-is : (g : tie.After-guest-of Inv-loop μ-loop)
+    → (let t = g .before .before in
+    let a = t .before .before .args in
+    g .guest-of .result ≡ guestAt (planOf (a .count) (a .rows .now) .guests) (t .before .loop .k))
+read-is g =
+    let t = g .before .before in
+    let a = t .before .before .args in
+    g .guest-of .ensures ∙ guest-is (a .count) (a .rows .now) _ (index-1-guest-of t)
 
 put-row-requires : tie.Need-put-row-requires Inv-loop μ-loop
 put-row-requires c κs =
-    let t = c .before .before .before in
+    let g = c .before .before in
+    let t = g .before .before in
     let l = t .before .loop in
-    (omega (arith, l .inv .1 .0 .few), (runs-short _ _ (l .inv .1 .0) (t .loop-test .taken), l .inv .1 .1 .0 .long))
+    (index-1-guest-of t, (rw (read-is g) (runs-short _ _ (l .inv .1 .0) (t .loop-test .taken)), l .inv .1 .1 .0 .long))
 
 element-copy-out-barred-by : tie.Need-element-copy-out-barred-by Inv-loop μ-loop
-element-copy-out-barred-by c = element-copy-out-g (c .before .before .before .before)
+element-copy-out-barred-by c = index-1-guest-of (c .before .before .before .before .before)
 
 mul-barred-by : tie.Need-mul-barred-by Inv-loop μ-loop
 mul-barred-by c = omega (arith, element-copy-out-barred-by c)
@@ -62,15 +78,17 @@ loop-less c = search needs
 
 loop-again : tie.Need-loop-again Inv-loop μ-loop
 loop-again c =
-    let t = c .before .before .before .before .before .before in
-    let l = t .before .loop in (
+    let g = c .before .before .before .before .before in
+    let t = g .before .before in
+    let l = t .before .loop in
+    let q = read-is g in (
       search needs,
       (
         l .inv .1 .0,
         (
           rows-next _ _ (λ j h. l .inv .1 .0 .guests j (omega arith) .head .few) (l .inv .1 .1 .0)
-              (c .before .before .put-row .ensures),
-          barred-next _ _ (array-write-barred c) (c .barred-by .ensures) (l .inv .1 .1 .1),
+              (rw (← q) (c .before .before .put-row .ensures)),
+          barred-next _ _ (array-write-barred c) (rw (← q) (c .barred-by .ensures)) (l .inv .1 .1 .1),
         ),
       ),
     )
@@ -86,10 +104,10 @@ jobs-of-spec =
     (tie.spec
     Inv-loop
     μ-loop
-    cast-n
     loop-holds
-    mul-g
-    element-copy-out-g
+    mul-guest-of
+    index-1-guest-of
+    guest-of-requires
     put-row-requires
     mul-barred-by
     element-copy-out-barred-by

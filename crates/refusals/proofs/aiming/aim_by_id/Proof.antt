@@ -1,8 +1,11 @@
 -- 14 and 7, then the guest's own refusals: the check passed, so the records are in their ranges.
 use mathlib.Core.Path.{sym, _∙_}
+use Prim.Native.Nat.{_<_}
 use native.Mathlib.Omega.{arith}
 use borrow.Author.Needs.{needs}
 use borrow.Author.Tests.{not-true, not-false}
+use Rattle.rows.specs.Words.{planOf}
+use Rattle.rows.proofs.Words.{guest-is}
 use Rattle.refusals.proofs.Check.{few-guests, records-in}
 use Rattle.refusals.proofs.Aims.{aims-bad, aims-none, aims-on, place-in}
 use Rattle.refusals.proofs.aiming.aim_by_id.Statement.{statement}
@@ -21,9 +24,6 @@ missed-requires c κs = search needs
 returns : tie.Need-returns
 returns c = aims-bad _ _ _ _ _ _ _ _ _ (c .missed .ensures) (sym (c .before .before .before .examine .ensures .okay) ∙ not-true _ (c .before .if1 .taken))
 
-cast-n : tie.Need-cast-n
-cast-n c = search needs
-
 place-of-requires : tie.Need-place-of-requires
 place-of-requires c κs =
     let e = c .before .before .before in
@@ -39,36 +39,49 @@ returns-2 c =
     let k = sym (e .before .before .examine .ensures .okay) ∙ not-false _ (e .if1 .left) in
     aims-none _ _ _ _ _ _ _ _ _ k (place-in _ (e .before .before .examine .ensures .columns k) (c .before .before .place-of .ensures)) (c .missed2 .ensures) (c .before .if2 .taken)
 
-mul-aim-at : tie.Need-mul-aim-at
-mul-aim-at c = search needs
+mul-guest-of : tie.Need-mul-guest-of
+mul-guest-of c = search needs
 
-element-copy-out-aim-at : tie.Need-element-copy-out-aim-at
-element-copy-out-aim-at c =
+-- The place of a guest that is there is one of eight.
+place : (c : tie.Else2) → c .before .place-of .result < 8
+place c =
     let e = past1 c in
     let k = sym (e .before .before .examine .ensures .okay) ∙ not-false _ (e .if1 .left) in
     omega (arith, few-guests _ _ _ _ _ _ k, c .if2 .left)
 
-mul-aim-at-2 : tie.Need-mul-aim-at-2
-mul-aim-at-2 c = search needs
+index-1-guest-of : tie.Need-index-1-guest-of
+index-1-guest-of c = place c
 
-element-copy-out-aim-at-2 : tie.Need-element-copy-out-aim-at-2
-element-copy-out-aim-at-2 c = element-copy-out-aim-at (c .before)
+guest-of-requires : tie.Need-guest-of-requires
+guest-of-requires c κs = search needs
+
+mul-aim-at : tie.Need-mul-aim-at
+mul-aim-at c = search needs
+
+element-copy-out-aim-at : tie.Need-element-copy-out-aim-at
+element-copy-out-aim-at c = place (c .before .before)
 
 aim-at-requires : tie.Need-aim-at-requires
 aim-at-requires c κs =
-    let t = c .before .before in
+    let g = c .before in
+    let t = g .before .before in
     let e = past1 t in
+    let a = e .before .before .before .args in
     let k = sym (e .before .before .examine .ensures .okay) ∙ not-false _ (e .if1 .left) in
-    (element-copy-out-aim-at t, records-in _ _ _ _ _ _ k _ (t .if2 .left))
+    let q = g .guest-of .ensures ∙ guest-is (a .count) (a .rows .now) _ (place t) in
+    (place t, rw q (records-in _ _ _ _ _ _ k _ (t .if2 .left)))
 
 returns-3 : tie.Need-returns-3
 returns-3 c =
-    let t = c .before .before .before in
+    let g = c .before .before in
+    let t = g .before .before in
     let e = past1 t in
+    let a = e .before .before .before .args in
     let k = sym (e .before .before .examine .ensures .okay) ∙ not-false _ (e .if1 .left) in
-    aims-on _ _ _ _ _ _ _ _ _ k
+    let q = g .guest-of .ensures ∙ guest-is (a .count) (a .rows .now) _ (place t) in
+    aims-on (planOf (a .count) (a .rows .now)) _ _ _ _ _ _ _ _ k
     (place-in _ (e .before .before .examine .ensures .columns k) (t .before .place-of .ensures))
-    (t .if2 .left) (c .aim-at .ensures)
+    (t .if2 .left) (rw (← q) (c .aim-at .ensures))
 
 pub aim-by-id-spec : {M : Type 1} → statement M
 aim-by-id-spec =
@@ -77,13 +90,13 @@ aim-by-id-spec =
     examine-requires
     missed-requires
     returns
-    cast-n
     place-of-requires
     missed-requires-2
     returns-2
+    mul-guest-of
+    index-1-guest-of
+    guest-of-requires
     mul-aim-at
     element-copy-out-aim-at
-    mul-aim-at-2
-    element-copy-out-aim-at-2
     aim-at-requires
     returns-3)

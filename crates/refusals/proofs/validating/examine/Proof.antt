@@ -4,9 +4,6 @@ use Rattle.refusals.proofs.Check.{no-guest, many-guests, examined}
 use Rattle.refusals.proofs.validating.examine.Statement.{statement}
 use Rattle.refusals.proofs.validating.examine.Tie as tie
 
-cast-n : tie.Need-cast-n
-cast-n c = search needs
-
 nothing-requires : tie.Need-nothing-requires
 nothing-requires c κs = search needs
 
@@ -34,7 +31,6 @@ pub examine-spec : {M : Type 1} → statement M
 examine-spec =
     tie.close
     (tie.spec
-    cast-n
     nothing-requires
     returns
     nothing-requires-2

@@ -1,36 +1,38 @@
 -- The loop's invariant: `ok` says whether the guests passed go, and the columns hold their numbers.
-use mathlib.Core.Path.{_≡_, sym}
+use mathlib.Core.Path.{_≡_, sym, _∙_}
 use Prim.Native.Nat.{_≤_, _-_}
 use native.Mathlib.Omega.{arith}
 use borrow.Author.Needs.{needs}
 use Rattle.lists.specs.All.{allTo}
 use Rattle.refusals.specs.Check.{goes}
 use Rattle.plan.specs.Filled.{ColumnsOf}
+use Rattle.rows.specs.Words.{planOf}
+use Rattle.rows.proofs.Words.{guest-is}
 use Rattle.lists.proofs.All.{all-none, all-end}
-use Rattle.plan.proofs.Filled.{columns-none, columns-next, columns-done}
-use Rattle.refusals.proofs.Check.{goes-turn}
+use Rattle.plan.proofs.Filled.{columns-none, columns-done}
+use Rattle.refusals.proofs.Check.{goes-turn, columns-read}
 use Rattle.refusals.proofs.validating.guests_ok.Statement.{statement}
 use Rattle.refusals.proofs.validating.guests_ok.Tie as tie
 
 abbrev Inv-loop : tie.InvT-loop
-Inv-loop left position rest wait age plan n columns₀ ok₀ k₀ columns ok k =
-    (k ≤ n) × ((ok ≡ allTo (goes plan left position rest wait age) k)
-    × ColumnsOf (plan .guests) k columns)
+Inv-loop count rows left position rest wait age n columns₀ ok₀ k₀ columns ok k =
+    (k ≤ n) × ((ok ≡ allTo (goes (planOf count rows) left position rest wait age) k)
+    × ColumnsOf (planOf count rows .guests) k columns)
 
 abbrev μ-loop : tie.MeasureT-loop
-μ-loop left position rest wait age plan n columns₀ ok₀ k₀ columns ok k = n - k
-
-cast-n : tie.Need-cast-n Inv-loop μ-loop
-cast-n c = search needs
+μ-loop count rows left position rest wait age n columns₀ ok₀ k₀ columns ok k = n - k
 
 loop-holds : tie.Need-loop-holds Inv-loop μ-loop
 loop-holds c = (search needs, (sym (all-none _), columns-none _))
 
-mul-g : tie.Need-mul-g Inv-loop μ-loop
-mul-g c = search needs
+mul-guest-of : tie.Need-mul-guest-of Inv-loop μ-loop
+mul-guest-of c = search needs
 
-element-copy-out-g : tie.Need-element-copy-out-g Inv-loop μ-loop
-element-copy-out-g c = search needs
+index-1-guest-of : tie.Need-index-1-guest-of Inv-loop μ-loop
+index-1-guest-of c = search needs
+
+guest-of-requires : tie.Need-guest-of-requires Inv-loop μ-loop
+guest-of-requires c κs = search needs
 
 mul-columns : tie.Need-mul-columns Inv-loop μ-loop
 mul-columns c = search needs
@@ -88,15 +90,18 @@ loop-less c = search needs
 
 loop-again : tie.Need-loop-again Inv-loop μ-loop
 loop-again c =
-    let l = c .before .before .before .before .before .before .before .before in
+    let read = c .before .before .before .before .before .before in
+    let l = read .before .before .before in
     let a = l .before .args in
-    let f = columns-next (l .loop .k) (omega arith) (l .loop .inv .1 .1) in
-    (search needs, (goes-turn (a .t1) (a .left .now) (a .position .now) (a .rest .now) (a .wait .now) (a .age .now) (l .loop .k) (f .ids) (l .loop .inv .1 .0) (c .before .before .before .new-id .ensures) (c .guest-ok .ensures), f))
+    let k = l .loop .k in
+    let e = read .guest-of .ensures ∙ guest-is (a .count) (a .rows .now) k (omega arith) in
+    let f = columns-read {gs = planOf (a .count) (a .rows .now) .guests} k (omega arith) (read .guest-of .result) e (l .loop .inv .1 .1) in
+    (search needs, (goes-turn (planOf (a .count) (a .rows .now)) (a .left .now) (a .position .now) (a .rest .now) (a .wait .now) (a .age .now) k (f .ids) (l .loop .inv .1 .0) (c .before .before .before .new-id .ensures) (rw (← e) (c .guest-ok .ensures)), f))
 
 returns : tie.Need-returns Inv-loop μ-loop
 returns c =
     let a = c .before .before .args in
-    (all-end (goes (a .t1) (a .left .now) (a .position .now) (a .rest .now) (a .wait .now) (a .age .now)) _ _ (c .before .loop .inv .1 .0) (search needs) (search needs), columns-done _ _ (search needs) (c .before .loop .inv .1 .1))
+    (all-end (goes (planOf (a .count) (a .rows .now)) (a .left .now) (a .position .now) (a .rest .now) (a .wait .now) (a .age .now)) _ _ (c .before .loop .inv .1 .0) (search needs) (search needs), columns-done _ _ (search needs) (c .before .loop .inv .1 .1))
 
 pub guests-ok-spec : {M : Type 1} → statement M
 guests-ok-spec =
@@ -104,10 +109,10 @@ guests-ok-spec =
     (tie.spec
     Inv-loop
     μ-loop
-    cast-n
     loop-holds
-    mul-g
-    element-copy-out-g
+    mul-guest-of
+    index-1-guest-of
+    guest-of-requires
     mul-columns
     element-write-columns
     mul-columns-2

@@ -1,9 +1,9 @@
--- `sheet::whole_number` meets its contract: the tests come in the order of their numbers. Assumes nothing.
+-- `sheet::placing::whole_number` meets its contract: the tests come in the order of their numbers. Assumes nothing.
 use mathlib.Core.Path.{sym, _∙_}
 use borrow.Author.Tests.{not-true, not-false, le-leb, lt-leb}
 use Rattle.lists.proofs.Refusals.{none-left, go-on, stop}
-use Rattle.sheet.proofs.whole_number.Statement.{statement}
-use Rattle.sheet.proofs.whole_number.Tie as tie
+use Rattle.sheet.proofs.placing.whole_number.Statement.{statement}
+use Rattle.sheet.proofs.placing.whole_number.Tie as tie
 
 returns : tie.Need-returns
 returns c = sym (stop 14 _ (not-true _ (c .if1 .taken)))
