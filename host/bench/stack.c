@@ -84,36 +84,37 @@ static const struct {
     const char *name;
     void (*call)(int probe);
     size_t arguments; /* on the stack: structs of more than 16 bytes by value */
+    size_t aim;       /* what it is to take together at most, or 0 for none */
 } exports[] = {
-    {"cs_read", call_cs_read, 0},
-    {"cs_check", call_cs_check, sizeof(CsPlan)},
-    {"cs_write", call_cs_write, sizeof(CsGuest)},
-    {"cs_find", call_cs_find, 0},
-    {"cs_guest_verdict", call_cs_guest_verdict, sizeof(CsPlan)},
-    {"cs_task_verdict", call_cs_task_verdict, sizeof(CsPlan)},
-    {"cs_accept", call_cs_accept, sizeof(CsPlan)},
-    {"cs_smallest_capacity", call_cs_smallest_capacity, sizeof(CsPlan)},
-    {"cs_order", call_cs_order, sizeof(CsPlan)},
-    {"cs_amended_find", call_cs_amended_find, 0},
-    {"cs_amended_guest_verdict", call_cs_amended_guest_verdict, 0},
-    {"cs_amended_task_verdict", call_cs_amended_task_verdict, 0},
-    {"cs_amended_accept", call_cs_amended_accept, 0},
-    {"cs_amended_smallest_capacity", call_cs_amended_smallest_capacity, 0},
-    {"cs_fresh", call_cs_fresh, sizeof(CsPlan)},
-    {"cs_release", call_cs_release, sizeof(CsDispatcher)},
-    {"cs_sheet", call_cs_sheet, sizeof(CsDispatcher)},
-    {"cs_tick", call_cs_tick, sizeof(CsDispatcher)},
-    {"cs_run", call_cs_run, sizeof(CsDispatcher)},
+    {"cs_read", call_cs_read, 0, 0},
+    {"cs_check", call_cs_check, sizeof(CsPlan), 0},
+    {"cs_write", call_cs_write, sizeof(CsGuest), 0},
+    {"cs_find", call_cs_find, 0, 0},
+    {"cs_guest_verdict", call_cs_guest_verdict, sizeof(CsPlan), 0},
+    {"cs_task_verdict", call_cs_task_verdict, sizeof(CsPlan), 0},
+    {"cs_accept", call_cs_accept, sizeof(CsPlan), 0},
+    {"cs_smallest_capacity", call_cs_smallest_capacity, sizeof(CsPlan), 0},
+    {"cs_order", call_cs_order, sizeof(CsPlan), 0},
+    {"cs_amended_find", call_cs_amended_find, 0, 0},
+    {"cs_amended_guest_verdict", call_cs_amended_guest_verdict, 0, 0},
+    {"cs_amended_task_verdict", call_cs_amended_task_verdict, 0, 0},
+    {"cs_amended_accept", call_cs_amended_accept, 0, 0},
+    {"cs_amended_smallest_capacity", call_cs_amended_smallest_capacity, 0, 0},
+    {"cs_fresh", call_cs_fresh, sizeof(CsPlan), 0},
+    {"cs_release", call_cs_release, sizeof(CsDispatcher), 0},
+    {"cs_sheet", call_cs_sheet, sizeof(CsDispatcher), 0},
+    {"cs_tick", call_cs_tick, sizeof(CsDispatcher), 0},
+    {"cs_run", call_cs_run, sizeof(CsDispatcher), 0},
     /* Of the numbers and pointers that these are handed six go in registers, and so does the place of a result. */
-    {"cs_release_in", call_cs_release_in, 3 * sizeof(size_t)},
-    {"cs_sheet_in", call_cs_sheet_in, 5 * sizeof(size_t)},
-    {"cs_tick_in", call_cs_tick_in, 3 * sizeof(size_t)},
-    {"cs_run_in", call_cs_run_in, 4 * sizeof(size_t)},
-    {"cs_fresh_in", call_cs_fresh_in, 2 * sizeof(size_t)},
-    {"cs_write_log", call_cs_write_log, sizeof(CsLogEntries)},
-    {"cs_statement", call_cs_statement, sizeof(CsStatement)},
-    {"cs_salvage", call_cs_salvage, 0},
-    {"cs_convert", call_cs_convert, 0},
+    {"cs_release_in", call_cs_release_in, 3 * sizeof(size_t), 2048},
+    {"cs_sheet_in", call_cs_sheet_in, 5 * sizeof(size_t), 0},
+    {"cs_tick_in", call_cs_tick_in, 3 * sizeof(size_t), 2048},
+    {"cs_run_in", call_cs_run_in, 4 * sizeof(size_t), 2048},
+    {"cs_fresh_in", call_cs_fresh_in, 2 * sizeof(size_t), 0},
+    {"cs_write_log", call_cs_write_log, sizeof(CsLogEntries), 0},
+    {"cs_statement", call_cs_statement, sizeof(CsStatement), 0},
+    {"cs_salvage", call_cs_salvage, 0, 0},
+    {"cs_convert", call_cs_convert, 0, 0},
 };
 
 static void *on_thread(void *call) {
@@ -150,13 +151,15 @@ static size_t below(void (*call)(int probe)) {
 }
 
 int main(int count, char **words) {
-    size_t most = count > 1 ? strtoull(words[1], NULL, 10) : SIZE_MAX;
+    int held = count > 1 && strcmp(words[1], "--hold") == 0;
+    size_t limit = count > 1 && !held ? strtoull(words[1], NULL, 10) : SIZE_MAX;
     int failed = 0;
     make_inputs();
     printf("%-28s %10s %10s %10s\n", "export", "arguments", "below", "together");
     for (size_t at = 0; at < sizeof exports / sizeof exports[0]; at++) {
         size_t taken = below(exports[at].call);
         size_t together = exports[at].arguments + taken;
+        size_t most = held && exports[at].aim > 0 ? exports[at].aim : limit;
         printf("%-28s %10zu %10zu %10zu%s\n", exports[at].name, exports[at].arguments, taken, together,
                together > most ? "  too much" : "");
         failed |= together > most;
