@@ -29,12 +29,12 @@ for name in "$@"; do
     echo "$names" | grep -qx -e "$name" || { echo "no such case: $name" >&2; exit 2; }
 done
 
-printf '%-26s %14s %14s %7s %14s %7s\n' case ours same ratio reference ratio
+printf '%-30s %14s %14s %7s %14s %7s\n' case ours same ratio reference ratio
 for name in ${*:-$names}; do
     ours=$(per_call "$name" ours)
     same=$(per_call "$name" same)
     reference=$(per_call "$name" reference)
     awk -v name="$name" -v ours="$ours" -v same="$same" -v by="$reference" 'BEGIN {
-        printf "%-26s %14s %14s %7.2f %14s %7.2f\n", name, ours, same, ours / same, by, ours / by
+        printf "%-30s %14s %14s %7.2f %14s %7.2f\n", name, ours, same, ours / same, by, ours / by
     }'
 done

@@ -61,9 +61,18 @@ EXPORT(cs_amended_smallest_capacity, CsVerdict, (const uint8_t *p, size_t n, con
 EXPORT(cs_run, CsRun, (CsDispatcher d, uint32_t ticks), (states, 1000000))
 
 #define ROWS uint32_t n, const uint32_t (*r)[54]
+
+EXPORT(cs_guest_verdict_in, CsVerdict, (ROWS, uint32_t id), (plan.count, CS_ROWS(&plan), GUESTS))
+EXPORT(cs_task_verdict_in, CsVerdict, (ROWS, uint32_t id, uint32_t task), (plan.count, CS_ROWS(&plan), GUESTS, TASKS))
+EXPORT(cs_accept_in, CsVerdict, (ROWS), (plan.count, CS_ROWS(&plan)))
+EXPORT(cs_smallest_capacity_in, CsVerdict, (ROWS, uint32_t id), (wide.count, CS_ROWS(&wide), GUESTS))
+EXPORT(cs_order_in, CsRefusal, (uint32_t n, uint32_t (*r)[54], uint32_t id),
+       (sorted.count, (uint32_t(*)[54])(void *)sorted.guests, GUESTS))
+
 #define LENT ROWS, uint32_t *l, uint32_t *p, uint32_t *t, uint32_t *w, uint32_t *a, uint64_t *u
 #define READ ROWS, const uint32_t *l, const uint32_t *p, uint32_t *t, uint32_t *w, uint32_t *a
-#define STATE placed.plan.count, CS_ROWS(&placed), placed.left, placed.position, placed.rest, placed.wait, placed.age
+#define STATE \
+    placed.plan.count, CS_ROWS(&placed.plan), placed.left, placed.position, placed.rest, placed.wait, placed.age
 
 EXPORT(cs_fresh_in, CsRefusal, (LENT), (STATE, placed.usage))
 EXPORT(cs_release_in, uint32_t, (READ, uint32_t id, uint32_t task), (STATE, GUESTS, TASKS))
@@ -106,11 +115,16 @@ static const struct {
     {"cs_tick", call_cs_tick, sizeof(CsDispatcher), 0},
     {"cs_run", call_cs_run, sizeof(CsDispatcher), 0},
     /* Of the numbers and pointers that these are handed six go in registers, and so does the place of a result. */
+    {"cs_guest_verdict_in", call_cs_guest_verdict_in, 0, 4096},
+    {"cs_task_verdict_in", call_cs_task_verdict_in, 0, 4096},
+    {"cs_accept_in", call_cs_accept_in, 0, 4096},
+    {"cs_smallest_capacity_in", call_cs_smallest_capacity_in, 0, 4096},
+    {"cs_order_in", call_cs_order_in, 0, 4096},
     {"cs_release_in", call_cs_release_in, 3 * sizeof(size_t), 2048},
-    {"cs_sheet_in", call_cs_sheet_in, 5 * sizeof(size_t), 0},
+    {"cs_sheet_in", call_cs_sheet_in, 5 * sizeof(size_t), 4096},
     {"cs_tick_in", call_cs_tick_in, 3 * sizeof(size_t), 2048},
     {"cs_run_in", call_cs_run_in, 4 * sizeof(size_t), 2048},
-    {"cs_fresh_in", call_cs_fresh_in, 2 * sizeof(size_t), 0},
+    {"cs_fresh_in", call_cs_fresh_in, 2 * sizeof(size_t), 4096},
     {"cs_write_log", call_cs_write_log, sizeof(CsLogEntries), 0},
     {"cs_statement", call_cs_statement, sizeof(CsStatement), 0},
     {"cs_salvage", call_cs_salvage, 0, 0},

@@ -16,6 +16,7 @@ static uint8_t buffer[CS_BLOCK];
 static CsPlan plan;         /* full, all guests fitted, all tasks met */
 static CsPlan wide;         /* the last guest's period is the longest, so that the search for its capacity is deepest */
 static CsPlan unordered;    /* the last guest has unbound tasks, every second one with a late deadline */
+static CsPlan sorted;       /* the same, for the order in place, which sorts it */
 static CsDispatcher states; /* of the full plan, with a job of every task released */
 static CsDispatcher placed; /* the same, for the calls in place */
 static uint64_t pairs[CS_MOST_PAIRS]; /* each task of the full plan, and once more */
@@ -71,6 +72,7 @@ static void make_unordered(void) {
     if (cs_order(unordered, GUESTS).refusal.number != 0) {
         fail("the full plan has no order");
     }
+    sorted = unordered;
 }
 
 /* A sheet with each guest of a full plan, the last one first. */

@@ -3,14 +3,14 @@
  * On one core, up to 8 guests share the time, each with up to 16 tasks. Every rule stands in document 01,
  * as the requests P1 to P13 of document 02 change it.
  *
- * - Records and states cross by value, and bytes are lent for the call alone: the library keeps no pointer and
- *   no state of its own, so calls from several threads need no lock.
+ * - Records and states cross by value, or are lent to a call in place; what is lent, as bytes are, is lent for the call
+ *   alone: the library keeps no pointer and no state of its own, so calls from several threads need no lock.
  * - No call asks anything of its input: any value of any field is taken, and what is out of range is
  *   refused by its number. Number 0 is no refusal; the place of a refusal 7 to 15, 17, 18 or 20 to 23, is 0.
  * - A pointer must be good for its length, for the whole call, and not be NULL even where the length is 0. The library
  *   does not test that, and promises nothing where it does not hold.
- * - A CsGuest is 216 bytes, a CsPlan 1,732, a CsDispatcher 3,472 and a CsStatement 2,568, both aligned to 8. They cross
- *   on the stack, there and back; docs/FIGURES.md has the stack that each call takes, as measured.
+ * - A CsGuest is 216 bytes, a CsPlan 1,732, a CsDispatcher 3,472 and a CsStatement 2,568, both aligned to 8. By value
+ *   they cross on the stack, there and back; docs/FIGURES.md has the stack that each call takes, as measured.
  * - CsDispatcher has four bytes of padding before usage, CsTicked and CsStated four at their ends. The library neither
  *   reads nor promises them: compare states field by field, not by memcmp, and clear them before their bytes are sent
  *   anywhere. CsStatement has none.
@@ -260,6 +260,48 @@ CsVerdict cs_smallest_capacity(CsPlan plan, uint32_t id);
  * order works: the guest or one above is unfit, or in every order some task is not met. */
 CsOrdered cs_order(CsPlan plan, uint32_t id);
 
+/* The next five do the same for a plan that lies in the caller's memory, and copy none of it: its records are lent as
+ * rows of words, as a CsGuest lies in memory on a machine that stores the low byte first. The functions with a CsPlan
+ * below them are how they are meant to be called. */
+
+/* Verdict of a guest. Refusals: as cs_guest_verdict. */
+CsVerdict cs_guest_verdict_in(uint32_t count, const uint32_t rows[8][54], uint32_t id);
+
+/* Verdict of a task. Refusals: as cs_task_verdict. */
+CsVerdict cs_task_verdict_in(uint32_t count, const uint32_t rows[8][54], uint32_t id, uint32_t task);
+
+/* Verdict of the plan. Refusals: as cs_accept. */
+CsVerdict cs_accept_in(uint32_t count, const uint32_t rows[8][54]);
+
+/* The smallest capacity. Refusals: as cs_smallest_capacity. */
+CsVerdict cs_smallest_capacity_in(uint32_t count, const uint32_t rows[8][54], uint32_t id);
+
+/* Puts the guest's tasks in the order proposed, in its row; a refused call changes nothing. Refusals: as cs_order. */
+CsRefusal cs_order_in(uint32_t count, uint32_t rows[8][54], uint32_t id);
+
+/* A plan's records as rows of words. */
+#define CS_ROWS(plan) ((const uint32_t(*)[54])(const void *)(plan)->guests)
+
+static inline CsVerdict cs_guest_verdict_at(const CsPlan *p, uint32_t id) {
+    return cs_guest_verdict_in(p->count, CS_ROWS(p), id);
+}
+
+static inline CsVerdict cs_task_verdict_at(const CsPlan *p, uint32_t id, uint32_t task) {
+    return cs_task_verdict_in(p->count, CS_ROWS(p), id, task);
+}
+
+static inline CsVerdict cs_accept_at(const CsPlan *p) {
+    return cs_accept_in(p->count, CS_ROWS(p));
+}
+
+static inline CsVerdict cs_smallest_capacity_at(const CsPlan *p, uint32_t id) {
+    return cs_smallest_capacity_in(p->count, CS_ROWS(p), id);
+}
+
+static inline CsRefusal cs_order_at(CsPlan *p, uint32_t id) {
+    return cs_order_in(p->count, (uint32_t(*)[54])(void *)p->guests, id);
+}
+
 /* The next five take a standing plan's blocks and an amendment sheet: 1 to 8 blocks of guests of that plan, in any
  * order, each with its guest's place in the plan. They answer for the plan with those blocks replaced; neither the plan
  * nor the sheet is written.
@@ -329,9 +371,8 @@ CsTicked cs_tick(CsDispatcher dispatcher);
 CsRun cs_run(CsDispatcher dispatcher, uint32_t ticks);
 
 /* The next five do the same on a state that lies in the caller's memory, and copy none of it: its plan is lent as rows
- * of words, as a CsGuest lies in memory on a machine that stores the low byte first, and its arrays are lent to be
- * changed. They must not overlap. A refused call changes nothing. The functions with a CsDispatcher below them are how
- * they are meant to be called. */
+ * of words, as in the calls in place above, and its arrays are lent to be changed. They must not overlap. A refused
+ * call changes nothing. The functions with a CsDispatcher below them are how they are meant to be called. */
 
 /* A fresh start of the plan that stands in the state. Refusals: as cs_fresh. */
 CsRefusal cs_fresh_in(uint32_t count, const uint32_t rows[8][54], uint32_t left[8], uint32_t position[8],
@@ -354,29 +395,26 @@ CsTickIn cs_tick_in(uint32_t count, const uint32_t rows[8][54], uint32_t left[8]
 CsRunIn cs_run_in(uint32_t count, const uint32_t rows[8][54], uint32_t left[8], uint32_t position[8],
                   uint32_t rest[128], uint32_t wait[128], uint32_t age[128], uint64_t usage[17], uint32_t ticks);
 
-/* The plan's records as rows of words. */
-#define CS_ROWS(dispatcher) ((const uint32_t(*)[54])(const void *)(dispatcher)->plan.guests)
-
 static inline CsRefusal cs_fresh_at(CsDispatcher *d) {
-    return cs_fresh_in(d->plan.count, CS_ROWS(d), d->left, d->position, d->rest, d->wait, d->age, d->usage);
+    return cs_fresh_in(d->plan.count, CS_ROWS(&d->plan), d->left, d->position, d->rest, d->wait, d->age, d->usage);
 }
 
 static inline uint32_t cs_release_at(CsDispatcher *d, uint32_t id, uint32_t task) {
-    return cs_release_in(d->plan.count, CS_ROWS(d), d->left, d->position, d->rest, d->wait, d->age, id, task);
+    return cs_release_in(d->plan.count, CS_ROWS(&d->plan), d->left, d->position, d->rest, d->wait, d->age, id, task);
 }
 
 static inline uint32_t cs_sheet_at(CsDispatcher *d, const uint64_t *pairs, size_t count, uint32_t *answers,
                                    size_t room) {
-    return cs_sheet_in(d->plan.count, CS_ROWS(d), d->left, d->position, d->rest, d->wait, d->age, pairs, count, answers,
-                       room);
+    return cs_sheet_in(d->plan.count, CS_ROWS(&d->plan), d->left, d->position, d->rest, d->wait, d->age, pairs, count,
+                       answers, room);
 }
 
 static inline CsTickIn cs_tick_at(CsDispatcher *d) {
-    return cs_tick_in(d->plan.count, CS_ROWS(d), d->left, d->position, d->rest, d->wait, d->age, d->usage);
+    return cs_tick_in(d->plan.count, CS_ROWS(&d->plan), d->left, d->position, d->rest, d->wait, d->age, d->usage);
 }
 
 static inline CsRunIn cs_run_at(CsDispatcher *d, uint32_t ticks) {
-    return cs_run_in(d->plan.count, CS_ROWS(d), d->left, d->position, d->rest, d->wait, d->age, d->usage, ticks);
+    return cs_run_in(d->plan.count, CS_ROWS(&d->plan), d->left, d->position, d->rest, d->wait, d->age, d->usage, ticks);
 }
 
 /* Writes a log block of these jobs to the first 512 bytes of the buffer and to no others. Guest ids and task numbers

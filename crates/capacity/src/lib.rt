@@ -3,11 +3,13 @@ ghost use Rattle.capacity.specs.Promises.{Sized};
 use plan::Plan;
 use plan::check;
 use plan::columns_of;
-use plan::look_up;
-use response::jitters_of;
+use response::seat_of;
 
+mod placing;
 mod search;
 mod settling;
+
+pub use placing::smallest_capacity_in; // Inner: for the calls in place.
 
 // The answer: a refusal's number and place; the smallest capacity.
 pub enum CapacityAnswer {
@@ -19,19 +21,7 @@ pub enum CapacityAnswer {
 pub fn smallest_capacity(plan: Plan, id: u32) -> CapacityAnswer
     ensures { λ r. ⌜ Sized plan id r ⌝ }
 {
-    let records = check(plan);
-    let columns = columns_of(plan);
-    let ids = columns.ids;
-    let capacities = columns.capacities;
-    let periods = columns.periods;
-    let found = look_up(records, &ids, plan.count, id);
-    let refusal = found.refusal;
-    if 0 < refusal.number {
-        return CapacityAnswer::Refused(refusal.number, refusal.place);
-    }
-    let k = found.place;
-    let guests = plan.guests;
-    let deferrable = columns.deferrable;
-    let jitters = jitters_of(&deferrable, &capacities, &periods);
-    settling::capacity_says(settling::smallest_at(guests[k], &capacities, &periods, &jitters, k))
+    let seat = seat_of(check(plan), columns_of(plan), plan.count, id);
+    let k = seat.place;
+    settling::capacity_at(seat, plan.guests[k])
 }

@@ -1,21 +1,26 @@
 // Settling on a capacity: the search goes task by task from the highest, under guests that are fitted.
 ghost use mathlib.Core.Path.{_≡_};
 ghost use mathlib.Core.Bool.{_&&_};
-ghost use Prim.Native.Nat.{_≤_};
+ghost use Prim.Native.Nat.{ℕ, _≤_};
 ghost use Rattle.lists.specs.All.{allTo};
 ghost use Rattle.lists.specs.Places.{nth};
 ghost use Rattle.lists.specs.Search.{least};
+ghost use Rattle.plan.specs.declared.Plan.{Plan};
 ghost use Rattle.plan.specs.Ranges.{longest};
+ghost use Rattle.plan.specs.Records.{guestAt};
 ghost use Rattle.response.specs.Columns.{guestsTake, fittedAt, acceptedUnder};
 ghost use Rattle.response.specs.Ready.{AboveIn, ColumnsIn, Seated};
+ghost use Rattle.response.specs.Seat.{SeatedIn, Sits};
 ghost use Rattle.capacity.specs.Capacity.{atCapacity};
 ghost use Rattle.capacity.specs.Answer.{capacitySays};
+ghost use Rattle.capacity.specs.Promises.{Sized};
 ghost use Rattle.capacity.specs.Search.{worksAt};
 use crate::CapacityAnswer;
 use crate::search::smallest_in;
 use lists::Found;
 use lists::is_at;
 use plan::Guest;
+use response::Seat;
 use response::all_fitted;
 use response::charged_of;
 use response::first_unmet;
@@ -23,7 +28,7 @@ use response::gaps_of;
 use response::guest_response;
 
 // The answer of a search.
-pub fn capacity_says(f: Found) -> CapacityAnswer
+fn capacity_says(f: Found) -> CapacityAnswer
     ensures { λ r. ⌜ r ≡ capacitySays f ⌝ }
 {
     match f {
@@ -104,7 +109,7 @@ fn settled(
 
 // The smallest capacity of the guest g at place k, which has a task; none works under an unfit guest. What does not
 // depend on the capacity is read off the record once.
-pub fn smallest_at(
+fn smallest_at(
     g: Guest,
     capacities: &[u32; 16],
     periods: &[u32; 16],
@@ -140,4 +145,22 @@ pub fn smallest_at(
         &deadline,
         tasks,
     )
+}
+
+// The answer for the guest g at a seat, which has a task.
+pub fn capacity_at(seat: Seat, g: Guest) -> CapacityAnswer
+    requires { ⌜ SeatedIn g seat × (seat .refusal .number ≤ 0 → 1 ≤ g .tasks) ⌝ }
+    ensures { λ r. ⌜
+        ((p : Plan) (id : ℕ) → Sits p id seat → g ≡ guestAt (p .guests) (seat .place) → Sized p id r)
+        ⌝ }
+{
+    let refusal = seat.refusal;
+    if 0 < refusal.number {
+        return CapacityAnswer::Refused(refusal.number, refusal.place);
+    }
+    let columns = seat.columns;
+    let capacities = columns.capacities;
+    let periods = columns.periods;
+    let jitters = seat.jitters;
+    capacity_says(smallest_at(g, &capacities, &periods, &jitters, seat.place))
 }

@@ -7,7 +7,7 @@ use crate::judging::cs_accept;
 use crate::judging::cs_guest_verdict;
 use crate::judging::cs_smallest_capacity;
 use crate::judging::cs_task_verdict;
-use crate::judging::refuse;
+use crate::telling::refuse;
 use amendment::Located;
 
 #[no_mangle]

@@ -12,6 +12,7 @@ mod ordering;
 mod placing;
 mod salvaging;
 mod stating;
+mod telling;
 
 // A verdict with its ticks under number 0, or a refusal's number and place with both 0.
 #[repr(C)]

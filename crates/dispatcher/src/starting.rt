@@ -8,7 +8,8 @@ use crate::Dispatcher;
 use crate::Started;
 use plan::Plan;
 use plan::Refusal;
-use rows::plan_of;
+use rows::rows_of;
+use rows::start_refusal;
 
 // No job, no wait and no age in any of the 128 places, all positions 0, no capacity left, no tick counted.
 fn idle_of(plan: Plan) -> Dispatcher
@@ -45,7 +46,7 @@ pub fn start_in(
         (now (wait .exit)) (now (age .exit)) (now (usage .exit)))
         ⌝ }
 {
-    let refusal = plan::start_refusal(plan_of(count, rows));
+    let refusal = start_refusal(count, rows);
     if refusal.number < 1 {
         *left = [0; 8];
         *position = [0; 8];
@@ -61,7 +62,8 @@ impl Dispatcher {
     pub fn fresh(plan: Plan) -> Started
         ensures { λ r. ⌜ Starts plan r ⌝ }
     {
-        let refusal = plan::start_refusal(plan);
+        let rows = rows_of(plan);
+        let refusal = start_refusal(plan.count, &rows);
         let number = refusal.number;
         if 0 < number {
             let nothing = plan::blank_plan();

@@ -6,7 +6,7 @@ ghost use Rattle.plan.specs.Ranges.{mostGuests};
 ghost use Rattle.rows.specs.Words.{planOf};
 ghost use Rattle.jobs.specs.Rows.{ShortRuns, Long, RowTo, JobsOf};
 ghost use Rattle.jobs.specs.Barred.{barredBy, BarredTo};
-use crate::Jobs;
+use crate::Bars;
 use plan::Guest;
 use rows::guest_of;
 
@@ -39,32 +39,32 @@ fn barred_by(marks: u16, position: u32) -> u16
     if 0 < position { marks } else { 0 }
 }
 
-// The charged run and the period of each task of a plan in order, and the barred tasks of each guest.
-pub fn jobs_of(count: u32, rows: &[[u32; 54]; 8], position: &[u32; 8]) -> Jobs
-    requires { ⌜ planRefusal (planOf count (now rows)) .number ≡ 0 ⌝ }
+// Puts the charged run and the period of each task of a plan in order at its place, and gives the barred tasks of each
+// guest.
+pub fn put_jobs(
+    count: u32,
+    rows: &[[u32; 54]; 8],
+    position: &[u32; 8],
+    runs: &mut [u32; 128],
+    periods: &mut [u32; 128],
+) -> Bars
+    requires { ⌜ (planRefusal (planOf count (now rows)) .number ≡ 0) × Long (now runs) (now periods) ⌝ }
     ensures { λ r. ⌜
-        JobsOf (planOf count (now (rows .entry))) (r .runs) (r .periods)
+        JobsOf (planOf count (now (rows .entry))) (now (runs .exit)) (now (periods .exit))
         × BarredTo (planOf count (now (rows .entry))) (now (position .entry)) count (r .barred) (r .clear)
         ⌝ }
 {
     let n = count as usize;
-    let mut runs = [0u32; 128];
-    let mut periods = [0u32; 128];
     let mut barred = [0u16; 16];
     let mut clear = true;
     let mut k: usize = 0;
     while k < n {
         let g = guest_of(&rows[k]);
-        put_row(g, k, &mut runs, &mut periods);
+        put_row(g, k, runs, periods);
         let marks = barred_by(g.marks, position[k]);
         barred[k] = marks;
         clear = clear & (marks < 1);
         k += 1;
     }
-    Jobs {
-        runs,
-        periods,
-        barred,
-        clear,
-    }
+    Bars { barred, clear }
 }

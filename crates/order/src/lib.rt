@@ -5,12 +5,14 @@ use plan::Plan;
 use plan::Refusal;
 use plan::check;
 use plan::columns_of;
-use plan::look_up;
-use response::jitters_of;
+use response::seat_of;
 
+mod placing;
 mod reordering;
 mod sorting;
 mod trying;
+
+pub use placing::propose_in; // Inner: for the calls in place.
 
 // The answer: the refusal, whose number is 0 where there is none, and the plan with the guest's tasks in the order
 // proposed, or on a refusal as it was.
@@ -20,10 +22,9 @@ pub struct Ordered {
     pub plan: Plan,
 }
 
-// What becomes of a guest: the number of the tests after 7, and the guest with its tasks by deadline, or on a refusal as
-// it was.
+// What becomes of a guest: the refusal, and the guest with its tasks by deadline, or on a refusal as it was.
 pub struct Settled {
-    pub number: u32,
+    pub refusal: Refusal,
     pub guest: Guest,
 }
 
@@ -31,24 +32,11 @@ pub struct Settled {
 pub fn propose(mut plan: Plan, id: u32) -> Ordered
     ensures { λ r. ⌜ Orders plan id r ⌝ }
 {
-    let records = check(plan);
-    let columns = columns_of(plan);
-    let ids = columns.ids;
-    let found = look_up(records, &ids, plan.count, id);
-    let mut refusal = found.refusal;
-    if refusal.number < 1 {
-        let k = found.place;
-        let capacities = columns.capacities;
-        let periods = columns.periods;
-        let deferrable = columns.deferrable;
-        let jitters = jitters_of(&deferrable, &capacities, &periods);
-        let settled = trying::settle(plan.guests[k], &capacities, &periods, &jitters, k);
-        let h = settled.guest;
-        refusal = Refusal {
-            number: settled.number,
-            place: 0,
-        };
-        plan.guests[k] = h;
-    }
+    let seat = seat_of(check(plan), columns_of(plan), plan.count, id);
+    let k = seat.place;
+    let settled = trying::settle(seat, plan.guests[k]);
+    let h = settled.guest;
+    plan.guests[k] = h;
+    let refusal = settled.refusal;
     Ordered { refusal, plan }
 }

@@ -1,5 +1,5 @@
 -- How a loop fills a column, and the columns of a plan. Assumes nothing.
-use mathlib.Core.Path.{refl, _∙_}
+use mathlib.Core.Path.{_≡_, refl, _∙_}
 use mathlib.Core.Logic.{⊎-elim}
 use mathlib.Core.List.{List}
 use Prim.Native.Nat.{ℕ, _+_, _≤_, _<_}
@@ -64,6 +64,17 @@ columns-next k l f = record {
   tasks = filled-next _ k l (f .tasks);
   deferrable = filled-next _ k l (f .deferrable);
 }
+
+-- the same of a guest that was read into a record
+pub columns-read : {gs : List Guest} {c : Columns} (k : ℕ) → k < 16 → (g : Guest) → g ≡ guestAt gs k → ColumnsOf gs k c
+    → ColumnsOf gs (k + 1) (record {
+      ids = set (c .ids) k (g .id);
+      capacities = set (c .capacities) k (g .capacity);
+      periods = set (c .periods) k (g .period);
+      tasks = set (c .tasks) k (g .tasks);
+      deferrable = set (c .deferrable) k (g .deferrable);
+    })
+columns-read k l g e f = rw e (columns-next k l f)
 
 -- a loop's end: the columns of k guests are those of the first n of them
 pub columns-done : {gs : List Guest} {c : Columns} (k n : ℕ) → n ≤ k → ColumnsOf gs k c → ColumnsOf gs n c

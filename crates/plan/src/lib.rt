@@ -8,7 +8,6 @@ mod column;
 mod find;
 mod guests;
 mod marks;
-mod periodic;
 mod ranges;
 
 pub use column::columns_of;
@@ -19,7 +18,6 @@ pub use guests::guest_number;
 pub use guests::new_id;
 pub use marks::is_marked;
 pub use marks::live_marks;
-pub use periodic::start_refusal;
 pub use ranges::LONGEST;
 pub use ranges::count_ok;
 pub use ranges::head_ok;

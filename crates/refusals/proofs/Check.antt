@@ -6,11 +6,9 @@ use mathlib.Core.List.{List}
 use Prim.Native.Nat.{ℕ, _+_, _≤_, _<_}
 use native.Mathlib.Omega.{arith}
 use lib.Dec.{leb}
-use lib.ListN.{set}
 use borrow.Author.Tests.{lt-ltb, le-ltb, le-leb, lt-leb, leb-true}
 use Rattle.lists.specs.Places.{nth}
 use Rattle.lists.specs.All.{allTo}
-use Rattle.plan.specs.declared.Guest.{Guest}
 use Rattle.plan.specs.declared.Plan.{Plan}
 use Rattle.plan.specs.declared.Columns.{Columns}
 use Rattle.plan.specs.Records.{guestAt}
@@ -20,7 +18,6 @@ use Rattle.plan.specs.Filled.{Filled, ColumnsOf}
 use Rattle.refusals.specs.declared.Checked.{Checked}
 use Rattle.refusals.specs.Rows.{guestIsOk, rowIsBlank}
 use Rattle.refusals.specs.Check.{goes, pastOk, passes, Examined}
-use Rattle.plan.proofs.Filled.{columns-next}
 use Rattle.lists.proofs.All.{and-left, and-right, and-false-left, and-false-right, all-turn, all-by, all-at, all-ext}
 
 -- The ids in the column are the records'.
@@ -87,14 +84,3 @@ module _ (p : Plan) (left position rest wait age : List ℕ) where
         let g = and-right (newId (λ j. guestAt (p .guests) j .id) k) _ (all-at (goes p left position rest wait age) (p .count) k h a) in
         let r = and-left (guestOk (guestAt (p .guests) k) && tasksOk (guestAt (p .guests) k)) _ g in
         (and-left (guestOk (guestAt (p .guests) k)) _ r, and-right (guestOk (guestAt (p .guests) k)) _ r)
-
--- one guest more, read into a record
-pub columns-read : {gs : List Guest} {c : Columns} (k : ℕ) → k < 16 → (g : Guest) → g ≡ guestAt gs k → ColumnsOf gs k c
-    → ColumnsOf gs (k + 1) (record {
-      ids = set (c .ids) k (g .id);
-      capacities = set (c .capacities) k (g .capacity);
-      periods = set (c .periods) k (g .period);
-      tasks = set (c .tasks) k (g .tasks);
-      deferrable = set (c .deferrable) k (g .deferrable);
-    })
-columns-read k l g e f = rw e (columns-next k l f)

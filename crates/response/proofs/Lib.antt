@@ -7,5 +7,6 @@ pub mod GapsLaws
 pub mod JittersLaws
 pub mod ColumnsLaws
 pub mod ReadyLaws
+pub mod SeatLaws
 pub mod TrialLaws
 pub mod PlacedLaws

@@ -4,5 +4,6 @@ pub mod Task
 pub mod Met
 pub mod Columns
 pub mod Ready
+pub mod Seat
 pub mod Window
 pub mod Trial

@@ -4,6 +4,7 @@ mod gaps;
 mod guest;
 mod jitters;
 mod met;
+mod seat;
 mod task;
 mod trial;
 
@@ -14,6 +15,8 @@ pub use guest::guest_response;
 pub use guest::response_at;
 pub use jitters::jitters_of;
 pub use met::first_unmet;
+pub use seat::Seat;
+pub use seat::seat_of;
 pub use task::task_response;
 pub use trial::Trial;
 pub use trial::try_guest;

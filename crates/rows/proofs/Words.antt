@@ -4,13 +4,14 @@ use mathlib.Core.List.{List, [], map}
 use Prim.Native.Nat.{ℕ, _+_, _*_, _/_, _%_, _<_}
 use native.Mathlib.Decide.{ℕ-discrete}
 use native.Mathlib.Omega.{arith}
-use lib.ListN.{length, getD, set, length-map}
+use lib.ListN.{length, getD, set, length-map, length-set}
 use lib.Seq.{ext-getD, getD-set-same, getD-set-other}
 use Rattle.lists.specs.Table.{table}
 use Rattle.plan.specs.declared.Guest.{Guest}
 use Rattle.plan.specs.declared.Plan.{Plan}
+use Rattle.plan.specs.Placed.{withGuest}
 use Rattle.plan.specs.Records.{absent, guestAt}
-use Rattle.rows.specs.Words.{guestOf, planOf}
+use Rattle.rows.specs.Words.{guestOf, guestsOf, planOf}
 use Rattle.lists.proofs.Table.{table-length, table-at, table-ext}
 
 -- the guest at place k of a plan that is read from rows
@@ -46,14 +47,30 @@ rows-next gs rows k row l h e j b =
       | no q ↦ ap guestOf (getD-set-other rows k j row [] q) ∙ h j (omega arith)
     ]
 
+-- a row put at a place says the plan with its guest there
+pub plan-put : (count : ℕ) (rows : List (List ℕ)) (k : ℕ) (row : List ℕ) {g : Guest} → k < 8 → length rows ≡ 8 → guestOf row ≡ g
+    → planOf count (set rows k row) ≡ withGuest (planOf count rows) k g
+unfolding withGuest
+plan-put count rows k row {g} h long e =
+    let f : ℕ → Guest = λ j. guestOf (getD (set rows k row) j []) in
+    let same : guestsOf (set rows k row) ≡ set (guestsOf rows) k g =
+    ext-getD absent (table f 8) (set (guestsOf rows) k g)
+    (table-length f 8 ∙ sym (length-set (guestsOf rows) k g ∙ table-length (λ j. guestOf (getD rows j [])) 8))
+    (λ j l.
+    let b : j < 8 = omega (arith, table-length f 8) in
+    table-at f absent 8 j b
+    ∙ elim (ℕ-discrete j k) [
+      | yes q ↦
+          rw q (ap guestOf (getD-set-same rows k row [] (omega arith)) ∙ e
+          ∙ sym (getD-set-same (guestsOf rows) k g absent (omega (arith, table-length (λ j. guestOf (getD rows j [])) 8))))
+      | no q ↦
+          ap guestOf (getD-set-other rows k j row [] q) ∙ guest-is count rows j b ∙ sym (getD-set-other (guestsOf rows) k j g absent q)
+    ]) in
+    ap (λ (gs : List Guest). record { count = count; guests = gs }) same
+
 -- two halves of a word
 pub low-half : (a b : ℕ) → a < 65536 → (a + b * 65536) % 65536 ≡ a
 low-half a b h = omega arith
 
 pub high-half : (a b : ℕ) → a < 65536 → (a + b * 65536) / 65536 ≡ b
 high-half a b h = omega arith
-
--- a plan with this count and these guests
-pub plan-same : (p : Plan) {count : ℕ} {guests : List Guest} → p .count ≡ count → p .guests ≡ guests
-    → p ≡ record { count = count; guests = guests }
-plan-same p e q = rw (← e, ← q) refl

@@ -27,6 +27,10 @@ guestOf row = record {
   deadline = column row 38;
 }
 
--- the plan of 8 such records
+-- the guests of 8 such rows
+abbrev pub guestsOf : List (List ℕ) → List Guest
+guestsOf rows = table (λ k. guestOf (getD rows k [])) 8
+
+-- the plan of so many of them
 abbrev pub planOf : (count : ℕ) → List (List ℕ) → Plan
-planOf count rows = record { count = count; guests = table (λ k. guestOf (getD rows k [])) 8 }
+planOf count rows = record { count = count; guests = guestsOf rows }

@@ -7,6 +7,12 @@ ghost use Rattle.rows.specs.Put.{ColumnPut};
 use plan::Guest;
 use plan::Plan;
 
+mod checking;
+
+pub use checking::check_in;
+pub use checking::columns_in;
+pub use checking::start_refusal;
+
 // The low half of a word is this many numbers.
 const HALF: u32 = 65536;
 
@@ -103,18 +109,4 @@ pub fn rows_of(plan: Plan) -> [[u32; 54]; 8]
         k += 1;
     }
     rows
-}
-
-// The plan that rows say.
-pub fn plan_of(count: u32, rows: &[[u32; 54]; 8]) -> Plan
-    ensures { λ r. ⌜ r ≡ planOf count (now (rows .entry)) ⌝ }
-{
-    let mut plan = plan::blank_plan();
-    plan.count = count;
-    let mut k: usize = 0;
-    while k < 8 {
-        plan.guests[k] = guest_of(&rows[k]);
-        k += 1;
-    }
-    plan
 }

@@ -10,7 +10,7 @@ ghost use Rattle.dispatcher.specs.Lent.{stateOf};
 ghost use Rattle.sheet.specs.Sheet.{mostPairs};
 ghost use Rattle.sheet.specs.Promises.{Sheets};
 use crate::pairs::take_all;
-use jobs::jobs_of;
+use jobs::put_jobs;
 use refusals::examine;
 
 // The most pairs on a sheet.
@@ -62,27 +62,26 @@ pub fn release_all_in(
         (now (answers .exit)))
         ⌝ }
 {
-    let found = examine(count, rows, left, position, rest, wait, age);
-    let number = whole_number(found.ok, pairs.len(), answers.len());
+    let checked = examine(count, rows, left, position, rest, wait, age);
+    let number = whole_number(checked.ok, pairs.len(), answers.len());
     if 0 < number {
         return number;
     }
-    let columns = found.columns;
+    let columns = checked.columns;
     let ids = columns.ids;
     let tasks = columns.tasks;
     let n = count as usize;
-    let set = jobs_of(count, rows, position);
-    let barred = set.barred;
-    let clear = set.clear;
-    let runs = set.runs;
-    let periods = set.periods;
+    let mut runs = [0u32; 128];
+    let mut periods = [0u32; 128];
+    let found = put_jobs(count, rows, position, &mut runs, &mut periods);
+    let barred = found.barred;
     take_all(
         pairs,
         answers,
         &ids,
         &tasks,
         &barred,
-        clear,
+        found.clear,
         &runs,
         &periods,
         n,

@@ -4,13 +4,15 @@ use plan::Plan;
 use plan::check;
 use plan::columns_of;
 use plan::count_ok;
-use plan::has_task;
-use plan::look_up;
-use response::jitters_of;
-use response::response_at;
+use response::seat_of;
 
 mod accepting;
 mod judge;
+mod placing;
+
+pub use placing::accept_in; // Inner: for the calls in place, as the two below.
+pub use placing::guest_verdict_in; // Inner: as above.
+pub use placing::task_verdict_in; // Inner: as above.
 
 // The verdict of a guest: a refusal's number and place; fitted with its response; unfit.
 pub enum GuestVerdict {
@@ -40,44 +42,16 @@ pub enum Acceptance {
 pub fn guest_verdict(plan: Plan, id: u32) -> GuestVerdict
     ensures { λ r. ⌜ GuestJudged plan id r ⌝ }
 {
-    let records = check(plan);
-    let columns = columns_of(plan);
-    let ids = columns.ids;
-    let capacities = columns.capacities;
-    let periods = columns.periods;
-    let found = look_up(records, &ids, plan.count, id);
-    let refusal = found.refusal;
-    if 0 < refusal.number {
-        return GuestVerdict::Refused(refusal.number, refusal.place);
-    }
-    let deferrable = columns.deferrable;
-    let jitters = jitters_of(&deferrable, &capacities, &periods);
-    judge::guest_says(response_at(&capacities, &periods, &jitters, found.place))
+    judge::guest_at(seat_of(check(plan), columns_of(plan), plan.count, id))
 }
 
 // The verdict of task number `task`, from 1, of the guest with an id.
 pub fn task_verdict(plan: Plan, id: u32, task: u32) -> TaskVerdict
     ensures { λ r. ⌜ TaskJudged plan id task r ⌝ }
 {
-    let records = check(plan);
-    let columns = columns_of(plan);
-    let ids = columns.ids;
-    let capacities = columns.capacities;
-    let periods = columns.periods;
-    let found = look_up(records, &ids, plan.count, id);
-    let refusal = found.refusal;
-    if 0 < refusal.number {
-        return TaskVerdict::Refused(refusal.number, refusal.place);
-    }
-    let k = found.place;
-    let guests = plan.guests;
-    let g = guests[k];
-    if !has_task(g.tasks, task) {
-        return TaskVerdict::Refused(8, 0);
-    }
-    let deferrable = columns.deferrable;
-    let jitters = jitters_of(&deferrable, &capacities, &periods);
-    judge::judge_task(g, &capacities, &periods, &jitters, k, (task - 1) as usize)
+    let seat = seat_of(check(plan), columns_of(plan), plan.count, id);
+    let k = seat.place;
+    judge::task_at(seat, plan.guests[k], task)
 }
 
 // Whether all guests are fitted and all tasks met.

@@ -5,6 +5,7 @@ mod amended;
 mod convert;
 pub mod desk;
 mod dispatcher;
+mod lent;
 mod order;
 mod salvage;
 mod sheets;
@@ -12,10 +13,10 @@ mod statements;
 
 use crate::inputs;
 use coreshare::exports as ours;
-use dispatcher::{release, run, tick, tick_in_place};
+use dispatcher::{release, release_in_place, run, tick, tick_in_place};
 use plain::exports as same;
 use plain::verdict::TaskVerdict;
-use sheets::{sheet, singles};
+use sheets::{sheet, sheet_in_place, singles};
 use std::hint::black_box;
 
 /// A call to be made again and again; what it gives shows that all sides do the same.
@@ -45,6 +46,7 @@ fn case(
 
 pub fn all() -> Vec<Case> {
     let mut all = judging();
+    all.extend(lent::all());
     all.extend(order::all());
     all.extend(amended::all());
     all.extend(dispatching());
@@ -110,6 +112,8 @@ fn dispatching() -> Vec<Case> {
         sheet("sheet-16", inputs::endless(), inputs::last_guests()),
         tick("tick-plan-a", inputs::plan_a()),
         tick("tick-full", inputs::endless()),
+        release_in_place("release-full-in-place", inputs::endless()),
+        sheet_in_place("sheet-256-in-place", inputs::endless(), inputs::twice()),
         tick_in_place("tick-plan-a-in-place", inputs::plan_a()),
         tick_in_place("tick-full-in-place", inputs::endless()),
         run("run-million-plan-a-idle", inputs::plan_a(), false),
@@ -123,7 +127,7 @@ fn dispatching() -> Vec<Case> {
 const FILES: f64 = 1.2;
 const DISPATCHER: f64 = 1.5;
 
-/// The aim for the dispatcher where the state stays where it lies, beside plain Rust that does the same.
+/// The aim where the plan or the state stays where it lies, beside plain Rust that does the same.
 const PLACED: f64 = 1.2;
 
 /// Where recurrences decide, fewer divisions than plain Rust makes: the aim for a full plan's acceptance and smallest

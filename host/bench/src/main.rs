@@ -8,9 +8,10 @@
 //!
 //! All sides are compiled at level 3 for generic x86-64, with no optimisation across the border of the
 //! library. `same` is plain Rust behind the library's interface, where plans and states cross by value;
-//! `reference` is plain Rust as it is usually written, by reference and in place. In the cases `amended-by-parts`
-//! one call of the library stands beside its parts: `same` is those by the library's own calls, `reference` by
-//! plain Rust's. The desk's cases are no part of all cases, since some last for seconds; `--one` takes them too.
+//! `reference` is plain Rust as it is usually written, by reference and in place. In the cases `in-place` both are
+//! that, beside the library's calls in place. In the cases `amended-by-parts` one call of the library stands beside its
+//! parts: `same` is those by the library's own calls, `reference` by plain Rust's. The desk's cases are no part of all
+//! cases, since some last for seconds; `--one` takes them too.
 #![forbid(unsafe_code)]
 
 mod cases;
@@ -49,14 +50,14 @@ fn desk(hold: bool) -> Option<ExitCode> {
 
 fn table(names: &[&str]) -> Option<ExitCode> {
     println!(
-        "{:<26} {:>14} {:>14} {:>7} {:>14} {:>7} {:>5}",
+        "{:<30} {:>14} {:>14} {:>7} {:>14} {:>7} {:>5}",
         "case", "ours ns", "same ns", "ratio", "reference ns", "ratio", "aim"
     );
     let wanted = |case: &Case| names.is_empty() || names.contains(&case.name);
     for mut case in cases::all().into_iter().filter(wanted) {
         let [ours, same, reference] = measure(case.name, &mut case.sides);
         println!(
-            "{:<26} {ours:>14.1} {same:>14.1} {:>7.2} {reference:>14.1} {:>7.2} {:>5}",
+            "{:<30} {ours:>14.1} {same:>14.1} {:>7.2} {reference:>14.1} {:>7.2} {:>5}",
             case.name,
             ours / same,
             ours / reference,

@@ -18,10 +18,10 @@ pub const PRODUCT: Side = Side {
     check: |plan| refusal(exports::check(&plan_in(plan))),
     write: |guest, place, buffer| refusal(exports::write(&guest_in(guest), place, buffer)),
     find: |bytes, id| refusal(exports::find(bytes, id)),
-    guest_verdict: |plan, id| verdict(exports::guest_verdict(&plan_in(plan), id)),
-    task_verdict: |plan, id, task| verdict(exports::task_verdict(&plan_in(plan), id, task)),
-    accept: |plan| verdict(exports::accept(&plan_in(plan))),
-    smallest_capacity: |plan, id| verdict(exports::smallest_capacity(&plan_in(plan), id)),
+    guest_verdict: |plan, id| verdict(placed::guest_verdict(&plan_in(plan), id)),
+    task_verdict: |plan, id, task| verdict(placed::task_verdict(&plan_in(plan), id, task)),
+    accept: |plan| verdict(placed::accept(&plan_in(plan))),
+    smallest_capacity: |plan, id| verdict(placed::smallest_capacity(&plan_in(plan), id)),
     fresh: |plan| start(placed::fresh(&plan_in(plan))),
     release: |state, id, task| released(placed::release(&state_in(state), id, task)),
     sheet: |state, pairs, answers| released(placed::sheet(&state_in(state), pairs, answers)),
@@ -41,7 +41,7 @@ pub const PRODUCT: Side = Side {
     statement: |running, plan, log| stated(exports::statement(&statement_in(running), plan, log)),
     write_log: |jobs, buffer| refusal(exports::write_log(&jobs_in(jobs), buffer)),
     salvage: |file, out| salvaged(exports::salvage(file, out)),
-    order: |plan, id| ordered(exports::order(&plan_in(plan), id)),
+    order: |plan, id| ordered(placed::order(&plan_in(plan), id)),
     convert: |plan, out| refusal(exports::convert(plan, out)),
 };
 

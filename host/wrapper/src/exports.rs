@@ -2,6 +2,7 @@
 
 mod amended;
 mod convert;
+mod lent;
 mod placed;
 mod salvage;
 mod statement;
@@ -11,6 +12,7 @@ pub use amended::{
     amended_task_verdict,
 };
 pub use convert::convert;
+pub use lent::{accept_in, guest_verdict_in, order_in, smallest_capacity_in, task_verdict_in};
 pub use placed::{fresh_in, release_in, run_in, sheet_in, tick_in};
 pub use salvage::salvage;
 pub use statement::{statement, write_log};
@@ -19,8 +21,11 @@ use crate::{
     Dispatcher, Guest, Ordered, Plan, Read, Refusal, Released, Run, Start, Ticked, Verdict,
 };
 
-/// The library's declarations: all that is unsafe is here, in `amended`, in `statement`, in `salvage`, in `convert` and
-/// in `placed`.
+/// A plan's records, as they are lent to a call in place.
+type Rows = [[u32; 54]; 8];
+
+/// The library's declarations: all that is unsafe is here, in `amended`, in `statement`, in `salvage`, in `convert`, in
+/// `lent` and in `placed`.
 #[allow(unsafe_code)]
 mod library {
     use super::*;

@@ -26,7 +26,7 @@ impl Plan {
     /// # Ok::<(), coreshare::Refusal>(())
     /// ```
     pub fn ordered(&self, id: u32) -> Result<Plan, Refusal> {
-        let outcome = exports::order(self, id);
-        outcome.refusal.or(outcome.plan)
+        let mut plan = *self;
+        exports::order_in(&mut plan, id).or(plan)
     }
 }

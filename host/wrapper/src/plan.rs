@@ -160,7 +160,7 @@ impl Plan {
     /// assert_eq!(does_not.guest_verdict(2), Ok(GuestVerdict::Unfit));
     /// ```
     pub fn guest_verdict(&self, id: u32) -> Result<GuestVerdict, Refusal> {
-        exports::guest_verdict(self, id).of_guest()
+        exports::guest_verdict_in(self, id).of_guest()
     }
 
     /// The verdict of a task of the guest with this id; tasks are numbered from 1.
@@ -177,7 +177,7 @@ impl Plan {
     /// assert_eq!(plan.task_verdict(9, 3).unwrap_err().number, 8);
     /// ```
     pub fn task_verdict(&self, id: u32, task: u32) -> Result<TaskVerdict, Refusal> {
-        exports::task_verdict(self, id, task).of_task()
+        exports::task_verdict_in(self, id, task).of_task()
     }
 
     /// Whether all guests are fitted and all tasks met.
@@ -189,7 +189,7 @@ impl Plan {
     /// assert_eq!(Plan::new(&[Guest::new(7, 2, 5, &[[1, 20, 3]])]).accepted(), Ok(false));
     /// ```
     pub fn accepted(&self) -> Result<bool, Refusal> {
-        exports::accept(self).of_plan()
+        exports::accept_in(self).of_plan()
     }
 
     /// The smallest capacity at which the guest with this id is fitted and all its tasks are met.
@@ -204,7 +204,7 @@ impl Plan {
     /// assert_eq!(none.smallest_capacity(9).unwrap_err().number, 11);
     /// ```
     pub fn smallest_capacity(&self, id: u32) -> Result<u32, Refusal> {
-        exports::smallest_capacity(self, id).of_capacity()
+        exports::smallest_capacity_in(self, id).of_capacity()
     }
 }
 

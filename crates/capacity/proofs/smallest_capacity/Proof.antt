@@ -1,11 +1,10 @@
--- `capacity::smallest_capacity` meets its promise: the way in, then the search off the columns. Assumes nothing.
+-- `capacity::smallest_capacity` meets its promise: the search for the guest at its seat. Assumes nothing.
+use mathlib.Core.Path.{refl}
 use native.Mathlib.Omega.{arith}
 use borrow.Author.Needs.{needs}
-use Rattle.capacity.specs.Answer.{smallestCapacity}
-use Rattle.capacity.specs.declared.CapacityAnswer.the-variants.{Refused}
-use Rattle.plan.proofs.LookUp.{lent, lent-few, look-refuses, look-order, look-here, look-few}
-use Rattle.response.proofs.ReadyLaws.{seated-at}
-use Rattle.capacity.proofs.Answer.{capacity-judged}
+use Rattle.plan.proofs.LookUp.{lent-few}
+use Rattle.response.proofs.SeatLaws.{sits-seated, sits-in}
+use borrow.Author.Needs.{needs}
 use Rattle.capacity.proofs.smallest_capacity.Statement.{statement}
 use Rattle.capacity.proofs.smallest_capacity.Tie as tie
 
@@ -15,65 +14,25 @@ check-requires c κs = search needs
 columns-of-requires : tie.Need-columns-of-requires
 columns-of-requires c κs = search needs
 
-look-up-requires : tie.Need-look-up-requires
-look-up-requires c κs = lent-few _ (c .before .before .before .before .before .check .ensures)
+seat-of-requires : tie.Need-seat-of-requires
+seat-of-requires c κs = lent-few _ (c .before .check .ensures)
+
+mul-capacity-at : tie.Need-mul-capacity-at
+mul-capacity-at c = record { fits = omega (arith, c .seat-of .ensures _ (c .before .before .check .ensures) (c .before .columns-of .ensures) refl .inside) }
+
+element-copy-out-capacity-at : tie.Need-element-copy-out-capacity-at
+element-copy-out-capacity-at c = c .seat-of .ensures _ (c .before .before .check .ensures) (c .before .columns-of .ensures) refl .inside
+
+capacity-at-requires : tie.Need-capacity-at-requires
+capacity-at-requires c κs =
+    let s = c .before in
+    let t = s .seat-of .ensures _ (s .before .before .check .ensures) (s .before .columns-of .ensures) refl in
+    (sits-seated t, λ h. sits-in t h .head .many)
 
 returns : tie.Need-returns
-unfolding smallestCapacity
-returns found =
-    let look = found .before .before .before in
-    let columns = look .before .before .before .before .before in
-    let l = look .look-up .ensures _ (lent (columns .before .check .ensures) (columns .columns-of .ensures)) in
-    look-refuses l Refused _ _ (found .if1 .taken)
-
-jitters-of-requires : tie.Need-jitters-of-requires
-jitters-of-requires c κs = search needs
-
-mul-smallest-at : tie.Need-mul-smallest-at
-mul-smallest-at c =
-    let servers = c .before .before .before .before in
-    let found = servers .before .before in
-    let look = found .before .before .before in
-    let columns = look .before .before .before .before .before in
-    let l = look .look-up .ensures _ (lent (columns .before .check .ensures) (columns .columns-of .ensures)) in
-    omega (arith, look-few l (found .if1 .left))
-
-array-copy-out-smallest-at : tie.Need-array-copy-out-smallest-at
-array-copy-out-smallest-at c =
-    let servers = c .before .before .before .before in
-    let found = servers .before .before in
-    let look = found .before .before .before in
-    let columns = look .before .before .before .before .before in
-    let l = look .look-up .ensures _ (lent (columns .before .check .ensures) (columns .columns-of .ensures)) in
-    look-few l (found .if1 .left)
-
-smallest-at-requires : tie.Need-smallest-at-requires
-smallest-at-requires c κs =
-    let jitters = c .before .before .before .before in
-    let servers = jitters .before .before .before .before in
-    let found = servers .before .before in
-    let look = found .before .before .before in
-    let columns = look .before .before .before .before .before in
-    let l = look .look-up .ensures _ (lent (columns .before .check .ensures) (columns .columns-of .ensures)) in
-    let h = found .if1 .left in (
-      seated-at _ _ (columns .columns-of .ensures) (jitters .jitters-of .ensures) (look-order l h) _ (look-here l h),
-      look-order l h .guests _ (look-here l h) .head .many,
-    )
-
-capacity-says-requires : tie.Need-capacity-says-requires
-capacity-says-requires c κs = search needs
-
-returns-2 : tie.Need-returns-2
-returns-2 c =
-    let said = c .before .before in
-    let jitters = said .before .before .before .before in
-    let servers = jitters .before .before .before .before in
-    let found = servers .before .before in
-    let look = found .before .before .before in
-    let columns = look .before .before .before .before .before in
-    let l = look .look-up .ensures _ (lent (columns .before .check .ensures) (columns .columns-of .ensures)) in
-    capacity-judged l (found .if1 .left) (columns .columns-of .ensures) (jitters .jitters-of .ensures)
-    (c .before .smallest-at .ensures) (c .capacity-says .ensures)
+returns c =
+    let s = c .before .before in
+    c .capacity-at .ensures _ _ (s .seat-of .ensures _ (s .before .before .check .ensures) (s .before .columns-of .ensures) refl) refl
 
 pub smallest-capacity-spec : {M : Type 1} → statement M
 smallest-capacity-spec =
@@ -81,11 +40,8 @@ smallest-capacity-spec =
     (tie.spec
     check-requires
     columns-of-requires
-    look-up-requires
-    returns
-    jitters-of-requires
-    mul-smallest-at
-    array-copy-out-smallest-at
-    smallest-at-requires
-    capacity-says-requires
-    returns-2)
+    seat-of-requires
+    mul-capacity-at
+    element-copy-out-capacity-at
+    capacity-at-requires
+    returns)

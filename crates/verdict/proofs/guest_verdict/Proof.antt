@@ -1,11 +1,9 @@
--- `verdict::guest_verdict` meets its promise: the way in, then the guest's response off the columns. Assumes nothing.
-use native.Mathlib.Omega.{arith}
+-- `verdict::guest_verdict` meets its promise: the guest at its seat. Assumes nothing.
+use mathlib.Core.Path.{refl}
 use borrow.Author.Needs.{needs}
-use Rattle.verdict.specs.Verdict.{guestVerdict}
-use Rattle.verdict.specs.declared.GuestVerdict.the-variants.{Refused}
-use Rattle.plan.proofs.LookUp.{lent, lent-few, look-refuses, look-order, look-here}
-use Rattle.response.proofs.ReadyLaws.{seated-at, seated-above}
-use Rattle.verdict.proofs.Verdict.{guest-judged}
+use Rattle.plan.proofs.LookUp.{lent-few}
+use Rattle.response.proofs.SeatLaws.{sits-servers}
+use borrow.Author.Needs.{needs}
 use Rattle.verdict.proofs.guest_verdict.Statement.{statement}
 use Rattle.verdict.proofs.guest_verdict.Tie as tie
 
@@ -15,54 +13,18 @@ check-requires c κs = search needs
 columns-of-requires : tie.Need-columns-of-requires
 columns-of-requires c κs = search needs
 
-look-up-requires : tie.Need-look-up-requires
-look-up-requires c κs = lent-few _ (c .before .before .before .before .before .check .ensures)
+seat-of-requires : tie.Need-seat-of-requires
+seat-of-requires c κs = lent-few _ (c .before .check .ensures)
+
+guest-at-requires : tie.Need-guest-at-requires
+guest-at-requires c κs = sits-servers (c .seat-of .ensures _ (c .before .before .check .ensures) (c .before .columns-of .ensures) refl)
 
 returns : tie.Need-returns
-unfolding guestVerdict
-returns found =
-    let look = found .before .before .before in
-    let columns = look .before .before .before .before .before in
-    let l = look .look-up .ensures _ (lent (columns .before .check .ensures) (columns .columns-of .ensures)) in
-    look-refuses l Refused _ _ (found .if1 .taken)
-
-jitters-of-requires : tie.Need-jitters-of-requires
-jitters-of-requires c κs = search needs
-
-response-at-requires : tie.Need-response-at-requires
-response-at-requires c κs =
-    let jitters = c .before .before .before in
-    let found = jitters .before .before .before .before .before in
-    let look = found .before .before .before in
-    let columns = look .before .before .before .before .before in
-    let l = look .look-up .ensures _ (lent (columns .before .check .ensures) (columns .columns-of .ensures)) in
-    let h = found .if1 .left in
-    let s = seated-at _ _ (columns .columns-of .ensures) (jitters .jitters-of .ensures) (look-order l h) _
-    (look-here l h) in
-    ((omega (arith, s .place), seated-above _ _ _ _ _ s .1), s .ranged _ (omega arith))
-
-guest-says-requires : tie.Need-guest-says-requires
-guest-says-requires c κs = search needs
-
-returns-2 : tie.Need-returns-2
-returns-2 c =
-    let jitters = c .before .before .before .before .before in
-    let found = jitters .before .before .before .before .before in
-    let look = found .before .before .before in
-    let columns = look .before .before .before .before .before in
-    let l = look .look-up .ensures _ (lent (columns .before .check .ensures) (columns .columns-of .ensures)) in
-    guest-judged l (found .if1 .left) (columns .columns-of .ensures) (jitters .jitters-of .ensures)
-    (c .before .response-at .ensures) (c .guest-says .ensures)
+returns c =
+    let s = c .before in
+    c .guest-at .ensures _ _ (s .seat-of .ensures _ (s .before .before .check .ensures) (s .before .columns-of .ensures) refl)
 
 pub guest-verdict-spec : {M : Type 1} → statement M
 guest-verdict-spec =
     tie.close
-    (tie.spec
-    check-requires
-    columns-of-requires
-    look-up-requires
-    returns
-    jitters-of-requires
-    response-at-requires
-    guest-says-requires
-    returns-2)
+    (tie.spec check-requires columns-of-requires seat-of-requires guest-at-requires returns)

@@ -20,7 +20,6 @@ pub fn states(bytes: &[u8], busy: bool) -> (coreshare::Dispatcher, plain::Dispat
 /// A release into a fresh state each time; in place, the job is taken back.
 pub fn release(name: &'static str, bytes: Vec<u8>) -> Case {
     let (product, plain) = states(&bytes, false);
-    let mut placed = plain;
     case(
         name,
         DISPATCHER,
@@ -32,14 +31,38 @@ pub fn release(name: &'static str, bytes: Vec<u8>) -> Case {
             let next = same::release(*black_box(&plain), 8, 16).dispatcher;
             u64::from(next.rest[127])
         },
-        move || {
-            let state = black_box(&mut placed);
-            state.release(8, 16).expect("taken");
-            let rest = std::mem::take(&mut state.rest[127]);
-            state.wait[127] = 0;
-            u64::from(rest)
-        },
+        released_in_place(plain),
     )
+}
+
+/// The same into a state that stays where it lies; plain Rust in place on both sides.
+pub fn release_in_place(name: &'static str, bytes: Vec<u8>) -> Case {
+    let (mut product, plain) = states(&bytes, false);
+    case(
+        name,
+        PLACED,
+        move || {
+            let state = black_box(&mut product);
+            state.release(8, 16).expect("taken");
+            taken_back(&mut state.rest, &mut state.wait)
+        },
+        released_in_place(plain),
+        released_in_place(plain),
+    )
+}
+
+fn released_in_place(mut placed: plain::Dispatcher) -> impl FnMut() -> u64 {
+    move || {
+        let state = black_box(&mut placed);
+        state.release(8, 16).expect("taken");
+        taken_back(&mut state.rest, &mut state.wait)
+    }
+}
+
+/// The run left of the last task, whose job is taken back.
+fn taken_back(rest: &mut [u32; 128], wait: &mut [u32; 128]) -> u64 {
+    wait[127] = 0;
+    u64::from(std::mem::take(&mut rest[127]))
 }
 
 /// One tick after another.

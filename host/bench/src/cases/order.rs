@@ -1,6 +1,6 @@
 //! Orders for a guest's tasks.
 
-use super::{Case, FILES, case, ours, plans, same};
+use super::{Case, FILES, PLACED, case, ours, plans, same};
 use crate::inputs;
 use std::hint::black_box;
 
@@ -9,6 +9,7 @@ pub fn all() -> Vec<Case> {
         ordered("order-plan-a", inputs::plan_a_exchanged(), 9, 0),
         ordered("order-full", inputs::descending(), 8, 0),
         ordered("order-none", inputs::no_order(), 8, 22),
+        ordered_in_place("order-plan-a-in-place", inputs::plan_a_exchanged(), 9),
     ]
 }
 
@@ -34,6 +35,38 @@ fn ordered(name: &'static str, bytes: Vec<u8>, id: u32, number: u32) -> Case {
             Err(refusal) => told(refusal.number, &plain.guests[lowest].run),
         },
     )
+}
+
+/// An order for the lowest guest's tasks in a plan that stays where it lies, the guest being put back each time; plain
+/// Rust in place on both sides.
+fn ordered_in_place(name: &'static str, bytes: Vec<u8>, id: u32) -> Case {
+    let (mut product, plain) = plans(&bytes);
+    let lowest = plain.listed().len() - 1;
+    let before = product.guests[lowest];
+    case(
+        name,
+        PLACED,
+        move || {
+            let plan = black_box(&mut product);
+            let refusal = ours::order_in(plan, id);
+            let told = told(refusal.number, &plan.guests[lowest].run);
+            plan.guests[lowest] = before;
+            told
+        },
+        sorted_in_place(plain, lowest, id),
+        sorted_in_place(plain, lowest, id),
+    )
+}
+
+fn sorted_in_place(mut placed: plain::Plan, lowest: usize, id: u32) -> impl FnMut() -> u64 {
+    let before = placed.guests[lowest];
+    move || {
+        let plan = black_box(&mut placed);
+        let refusal = plan.order(id).err().unwrap_or_default();
+        let told = told(refusal.number, &plan.guests[lowest].run);
+        plan.guests[lowest] = before;
+        told
+    }
 }
 
 /// What shows that all sides do the same: the refusal, and the runs of the highest tasks.

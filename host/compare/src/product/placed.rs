@@ -1,6 +1,45 @@
-//! Each call of the dispatcher by value, held to the same call in place: both must give one outcome, and leave one state.
+//! Each call that has a form in place, made by value and in place: both must give one outcome, and leave one plan or
+//! state.
 
-use coreshare::{Dispatcher, Plan, Released, Run, Start, Ticked, exports};
+use coreshare::{Dispatcher, Ordered, Plan, Released, Run, Start, Ticked, Verdict, exports};
+
+pub fn guest_verdict(plan: &Plan, id: u32) -> Verdict {
+    let told = exports::guest_verdict_in(plan, id);
+    held(exports::guest_verdict(plan, id), told, plan)
+}
+
+pub fn task_verdict(plan: &Plan, id: u32, task: u32) -> Verdict {
+    let told = exports::task_verdict_in(plan, id, task);
+    held(exports::task_verdict(plan, id, task), told, plan)
+}
+
+pub fn accept(plan: &Plan) -> Verdict {
+    held(exports::accept(plan), exports::accept_in(plan), plan)
+}
+
+pub fn smallest_capacity(plan: &Plan, id: u32) -> Verdict {
+    let told = exports::smallest_capacity_in(plan, id);
+    held(exports::smallest_capacity(plan, id), told, plan)
+}
+
+/// The verdict by value, once that in place is held to it. A verdict does not show its plan, so a difference has to.
+fn held(outcome: Verdict, told: Verdict, plan: &Plan) -> Verdict {
+    assert_eq!(told, outcome, "a verdict in place, of {plan:?}");
+    outcome
+}
+
+pub fn order(plan: &Plan, id: u32) -> Ordered {
+    let outcome = exports::order(plan, id);
+    let mut placed = *plan;
+    let refusal = exports::order_in(&mut placed, id);
+    assert_eq!(refusal, outcome.refusal, "an order in place");
+    let left = match refusal.number {
+        0 => outcome.plan,
+        _ => *plan,
+    };
+    assert_eq!(placed, left, "an order in place");
+    outcome
+}
 
 /// A state that no fresh start leaves, so that what a start in place writes shows.
 fn used(plan: &Plan) -> Dispatcher {

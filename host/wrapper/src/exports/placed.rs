@@ -1,9 +1,8 @@
 //! The exports that change a state where it lies.
 #![allow(unsafe_code)]
 
+use super::Rows;
 use crate::{Dispatcher, Refusal, RunIn, TickIn};
-
-type Rows = [[u32; 54]; 8];
 
 // SAFETY: these are the signatures of `coreshare.h`, and the structs have its layout.
 unsafe extern "C" {

@@ -1,17 +1,14 @@
 -- `dispatcher::starting::start_in` meets its contract: what the records' refusals say, and then zeros or nothing. Assumes
 -- nothing.
-use mathlib.Core.Path.{_∙_, ap}
+use mathlib.Core.Path.{ap}
 use native.Mathlib.Omega.{arith}
 use borrow.Author.Needs.{needs}
-use Rattle.plan.specs.Periodic.{startRefusal}
 use Rattle.plan.specs.declared.Refusal.{Refusal}
 use Rattle.dispatcher.specs.Fresh.{idle}
 use Rattle.dispatcher.proofs.Fresh.{started-in, refused-in}
+use borrow.Author.Needs.{needs}
 use Rattle.dispatcher.proofs.starting.start_in.Statement.{statement}
 use Rattle.dispatcher.proofs.starting.start_in.Tie as tie
-
-plan-of-requires : tie.Need-plan-of-requires
-plan-of-requires c κs = search needs
 
 start-refusal-requires : tie.Need-start-refusal-requires
 start-refusal-requires c κs = search needs
@@ -20,15 +17,13 @@ returns : tie.Need-returns
 unfolding idle
 returns c =
     let t = c .before .before .before .before .before .before in
-    let s = t .before .before in
-    let e = s .start-refusal .ensures ∙ ap startRefusal (s .before .plan-of .ensures) in
+    let e = t .before .before .start-refusal .ensures in
     (e, started-in _ _ (omega (arith, t .if1 .taken, ap (λ (r : Refusal). r .number) e)))
 
 returns-2 : tie.Need-returns-2
 returns-2 c =
-    let s = c .before .before in
-    let e = s .start-refusal .ensures ∙ ap startRefusal (s .before .plan-of .ensures) in
+    let e = c .before .before .start-refusal .ensures in
     (e, refused-in _ _ (omega (arith, c .if1 .left, ap (λ (r : Refusal). r .number) e)))
 
 pub start-in-spec : {M : Type 1} → statement M
-start-in-spec = tie.close (tie.spec plan-of-requires start-refusal-requires returns returns-2)
+start-in-spec = tie.close (tie.spec start-refusal-requires returns returns-2)

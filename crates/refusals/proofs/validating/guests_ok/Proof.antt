@@ -10,7 +10,8 @@ use Rattle.rows.specs.Words.{planOf}
 use Rattle.rows.proofs.Words.{guest-is}
 use Rattle.lists.proofs.All.{all-none, all-end}
 use Rattle.plan.proofs.Filled.{columns-none, columns-done}
-use Rattle.refusals.proofs.Check.{goes-turn, columns-read}
+use Rattle.plan.proofs.Filled.{columns-read}
+use Rattle.refusals.proofs.Check.{goes-turn}
 use Rattle.refusals.proofs.validating.guests_ok.Statement.{statement}
 use Rattle.refusals.proofs.validating.guests_ok.Tie as tie
 

@@ -1,5 +1,6 @@
 -- `sheet::placing::release_all_in` meets its contract: the check once, then the whole refusals in order, then the pairs. Assumes
 -- nothing.
+use mathlib.Core.Path.{refl}
 use mathlib.Core.List.{List, []}
 use Prim.Native.Nat.{ℕ}
 use borrow.Author.Needs.{needs}
@@ -22,11 +23,11 @@ lent s usage =
     (s .args .rest .now) (s .args .wait .now) (s .args .age .now) usage
 
 -- From past the arrays that are lent to past the columns that are gathered, and to past the whole refusals.
-abbrev gathered : tie.After-take-all-arg4 → tie.After-jobs-of
-gathered c = c .before .before .before .before .before .before .before .before .before .before .before .before
+abbrev gathered : tie.After-take-all-arg4 → tie.After-put-jobs
+gathered c = c .before .before .before .before .before .before .before .before .before .before
 
-abbrev past1 : tie.After-jobs-of → tie.Else1
-past1 c = c .before .before .before .before
+abbrev past1 : tie.After-put-jobs → tie.Else1
+past1 c = c .before .before .before .before .before .before
 
 examine-requires : tie.Need-examine-requires
 examine-requires c κs = search needs
@@ -39,12 +40,14 @@ returns c =
     let s = c .before .before .before .before .before .before .before .before in
     λ usage. whole-refused (lent s usage) _ _ (examines (c .before .before .examine .ensures) _) (c .before .whole-number .ensures) (c .if1 .taken)
 
-jobs-of-requires : tie.Need-jobs-of-requires
-jobs-of-requires c κs =
-    let e = c .before .before .before in
-    let s = start e in
-    plan-fine (lent s []) (s .args .pairs .now) (s .args .answers .now) (examines (e .before .before .examine .ensures) [])
-    (e .before .whole-number .ensures) (e .if1 .left)
+put-jobs-requires : tie.Need-put-jobs-requires
+put-jobs-requires c κs =
+    let e = c .before .before .before .before .before in
+    let s = start e in (
+      plan-fine (lent s []) (s .args .pairs .now) (s .args .answers .now) (examines (e .before .before .examine .ensures) [])
+          (e .before .whole-number .ensures) (e .if1 .left),
+      record { runs-long = refl; periods-long = refl },
+    )
 
 take-all-requires : tie.Need-take-all-requires
 take-all-requires c κs =
@@ -53,7 +56,7 @@ take-all-requires c κs =
     let s = start e in
     let E = examines (e .before .before .examine .ensures) [] in
     let N = e .before .whole-number .ensures in (
-      (small (lent s []) (s .args .pairs .now) (s .args .answers .now) E N (e .if1 .left), set .jobs-of .ensures .1 .nothing),
+      (small (lent s []) (s .args .pairs .now) (s .args .answers .now) E N (e .if1 .left), set .put-jobs .ensures .1 .nothing),
       room-enough (lent s []) (s .args .pairs .now) (s .args .answers .now) E N (e .if1 .left),
     )
 
@@ -72,7 +75,7 @@ returns-2 c =
     let N = e .before .whole-number .ensures in
     whole-taken (lent s usage) (a .pairs .now) (a .answers .now) E N (e .if1 .left)
     (t .take-all .ensures (planOf (a .count) (a .rows .now)) (a .left .now) (a .position .now) usage
-    (sheet-columns (lent s usage) (a .pairs .now) (a .answers .now) E N (e .if1 .left) (set .jobs-of .ensures))
+    (sheet-columns (lent s usage) (a .pairs .now) (a .answers .now) E N (e .if1 .left) (set .put-jobs .ensures))
     (state-in (lent s usage) (a .pairs .now) (a .answers .now) E N (e .if1 .left)))
 
 pub release-all-in-spec : {M : Type 1} → statement M
@@ -82,7 +85,7 @@ release-all-in-spec =
     examine-requires
     whole-number-requires
     returns
-    jobs-of-requires
+    put-jobs-requires
     take-all-requires
     same-length
     returns-2)

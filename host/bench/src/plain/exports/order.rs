@@ -10,12 +10,6 @@ pub struct Ordered {
 
 #[inline(never)]
 pub extern "C" fn order(mut plan: Plan, id: u32) -> Ordered {
-    let refusal = match plan.ordered(id) {
-        Ok((guest, sorted)) => {
-            plan.guests[guest] = sorted;
-            Refusal::default()
-        }
-        Err(refusal) => refusal,
-    };
+    let refusal = plan.order(id).err().unwrap_or_default();
     Ordered { refusal, plan }
 }

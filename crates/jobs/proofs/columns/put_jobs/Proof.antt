@@ -1,6 +1,6 @@
--- `jobs::columns::jobs_of` meets its contract: a turn puts the row of one guest and its barred tasks, and the rows
+-- `jobs::columns::put_jobs` meets its contract: a turn puts the row of one guest and its barred tasks, and the rows
 -- before it stand. Assumes nothing.
-use mathlib.Core.Path.{_≡_, refl, _∙_}
+use mathlib.Core.Path.{_≡_, _∙_}
 use Prim.Native.Nat.{_≤_, _-_}
 use native.Mathlib.Omega.{arith}
 use borrow.Author.Needs.{needs}
@@ -11,22 +11,22 @@ use Rattle.rows.proofs.Words.{guest-is}
 use Rattle.plan.proofs.Order.{PlanIn, plan-in}
 use Rattle.jobs.proofs.Barred.{barred-none, barred-next, barred-done}
 use Rattle.jobs.proofs.Rows.{RowsTo, rows-none, rows-next, rows-done, runs-short}
-use Rattle.jobs.proofs.columns.jobs_of.Statement.{statement}
-use Rattle.jobs.proofs.columns.jobs_of.Tie as tie
+use Rattle.jobs.proofs.columns.put_jobs.Statement.{statement}
+use Rattle.jobs.proofs.columns.put_jobs.Tie as tie
 
 abbrev Inv-loop : tie.InvT-loop
-Inv-loop count rows position n runs₀ periods₀ barred₀ clear₀ k₀ runs periods barred clear k =
+Inv-loop count rows position runs₀ periods₀ n barred₀ clear₀ k₀ runs periods barred clear k =
     (k ≤ n)
     × (PlanIn (planOf count rows)
     × (RowsTo (planOf count rows) k runs periods × BarredTo (planOf count rows) position k barred clear))
 
 abbrev μ-loop : tie.MeasureT-loop
-μ-loop count rows position n runs₀ periods₀ barred₀ clear₀ k₀ runs periods barred clear k = n - k
+μ-loop count rows position runs₀ periods₀ n barred₀ clear₀ k₀ runs periods barred clear k = n - k
 
 loop-holds : tie.Need-loop-holds Inv-loop μ-loop
 loop-holds c = (
   search needs,
-  (plan-in _ (c .pre), (rows-none _ _ _ record { runs-long = refl; periods-long = refl }, barred-none _ _)),
+  (plan-in _ (c .pre .0), (rows-none _ _ _ (c .pre .1), barred-none _ _)),
 )
 
 mul-guest-of : tie.Need-mul-guest-of Inv-loop μ-loop
@@ -98,8 +98,8 @@ returns c =
     let l = c .before .loop in
     (rows-done _ _ (c .loop-test .left) (l .inv .1 .1 .0), barred-done _ _ (c .loop-test .left) (l .inv .1 .1 .1))
 
-pub jobs-of-spec : {M : Type 1} → statement M
-jobs-of-spec =
+pub put-jobs-spec : {M : Type 1} → statement M
+put-jobs-spec =
     tie.close
     (tie.spec
     Inv-loop
