@@ -65,7 +65,7 @@ pub rows-same : (count : ℕ) (a b : List (List ℕ)) → length a ≡ 8 → len
     → a ≡ b
 rows-same count a b p q long e =
     ext-getD [] a b (p ∙ sym q) (λ k h.
-        let l : k < 8 = omega arith in
-        let here : guestOf (getD a k []) ≡ guestOf (getD b k []) =
-        guest-is count a k l ∙ ap (λ (x : Plan). guestAt (x .guests) k) e ∙ sym (guest-is count b k l) in
-        row-same (getD a k []) (getD b k []) here (long k l .0) (long k l .1))
+    let l : k < 8 = omega arith in
+    let here : guestOf (getD a k []) ≡ guestOf (getD b k []) =
+    guest-is count a k l ∙ ap (λ (x : Plan). guestAt (x .guests) k) e ∙ sym (guest-is count b k l) in
+    row-same (getD a k []) (getD b k []) here (long k l .0) (long k l .1))
