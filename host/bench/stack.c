@@ -42,6 +42,7 @@ EXPORT(cs_task_verdict, CsVerdict, (CsPlan p, uint32_t id, uint32_t task), (plan
 EXPORT(cs_accept, CsVerdict, (CsPlan p), (plan))
 EXPORT(cs_smallest_capacity, CsVerdict, (CsPlan p, uint32_t id), (wide, GUESTS))
 EXPORT(cs_order, CsOrdered, (CsPlan p, uint32_t id), (unordered, GUESTS))
+EXPORT(cs_least_capacities, CsChosen, (CsPlan p), (wide))
 EXPORT(cs_fresh, CsStart, (CsPlan p), (plan))
 EXPORT(cs_release, CsReleased, (CsDispatcher d, uint32_t id, uint32_t task), (states, GUESTS, TASKS))
 EXPORT(cs_tick, CsTicked, (CsDispatcher d), (states))
@@ -104,6 +105,7 @@ static const struct {
     {"cs_accept", call_cs_accept, sizeof(CsPlan), 0},
     {"cs_smallest_capacity", call_cs_smallest_capacity, sizeof(CsPlan), 0},
     {"cs_order", call_cs_order, sizeof(CsPlan), 0},
+    {"cs_least_capacities", call_cs_least_capacities, sizeof(CsPlan), 0},
     {"cs_amended_find", call_cs_amended_find, 0, 0},
     {"cs_amended_guest_verdict", call_cs_amended_guest_verdict, 0, 0},
     {"cs_amended_task_verdict", call_cs_amended_task_verdict, 0, 0},

@@ -61,7 +61,8 @@ static void make_plan(void) {
     }
     wide = plan;
     bind_tasks(&wide.guests[GUESTS - 1], 1000000);
-    if (cs_accept(plan).verdict != 1 || cs_smallest_capacity(wide, GUESTS).verdict != 1) {
+    if (cs_accept(plan).verdict != 1 || cs_smallest_capacity(wide, GUESTS).verdict != 1 ||
+        cs_least_capacities(wide).refusal.number != 0) {
         fail("the full plan is not accepted");
     }
 }

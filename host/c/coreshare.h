@@ -1,12 +1,13 @@
 /* The core-sharing library's C interface, for x86-64. Link libcoreshare.a, which `rt staticlib coreshare` writes.
  *
  * On one core, up to 8 guests share the time, each with up to 16 tasks. Every rule stands in document 01,
- * as the requests P1 to P13 of document 02 change it.
+ * as the requests P1 to P13 of document 02 change it; that of cs_least_capacities stands where it is declared.
  *
  * - Records and states cross by value, or are lent to a call in place; what is lent, as bytes are, is lent for the call
  *   alone: the library keeps no pointer and no state of its own, so calls from several threads need no lock.
  * - No call asks anything of its input: any value of any field is taken, and what is out of range is
- *   refused by its number. Number 0 is no refusal; the place of a refusal 7 to 15, 17, 18 or 20 to 23, is 0.
+ *   refused by its number. Number 0 is no refusal; the place of a refusal 7 to 15, 17, 18 or 20 to 23, is 0, but that
+ *   of 11 from cs_least_capacities is a guest's.
  * - A pointer must be good for its length, for the whole call, and not be NULL even where the length is 0. The library
  *   does not test that, and promises nothing where it does not hold.
  * - A CsGuest is 216 bytes, a CsPlan 1,732, a CsDispatcher 3,472 and a CsStatement 2,568, both aligned to 8. By value
@@ -78,6 +79,11 @@ typedef struct CsOrdered {
     CsRefusal refusal;
     CsPlan plan; /* unchanged on a refusal */
 } CsOrdered;
+
+typedef struct CsChosen {
+    CsRefusal refusal;
+    CsPlan plan; /* unchanged on a refusal */
+} CsChosen;
 
 /* A verdict with its ticks, both 0 on a refusal. */
 typedef struct CsVerdict {
@@ -259,6 +265,15 @@ CsVerdict cs_smallest_capacity(CsPlan plan, uint32_t id);
  * Refusals: those of cs_check, then 7 no such guest, 21 the guest is Deferrable or has a mark among its tasks', 22 no
  * order works: the guest or one above is unfit, or in every order some task is not met. */
 CsOrdered cs_order(CsPlan plan, uint32_t id);
+
+/* Chooses the least capacities at which the plan is accepted: from the highest guest down, each guest's is the smallest
+ * from 1 to its period at which the guest is fitted and all its tasks are met, the guests above having theirs. They are
+ * least in every place at once: in any choice of capacities at which the plan is accepted no guest has less. Of the
+ * capacities handed in only the ranges are looked at. Everything else comes back as handed in, guests past the count
+ * too.
+ * Refusals: those of cs_check, then 23 a Deferrable guest among those of the count, then 11 no capacity works, with the
+ * place of the first guest of which that holds: the plan is then accepted at no choice of capacities. */
+CsChosen cs_least_capacities(CsPlan plan);
 
 /* The next five do the same for a plan that lies in the caller's memory, and copy none of it: its records are lent as
  * rows of words, as a CsGuest lies in memory on a machine that stores the low byte first. The functions with a CsPlan

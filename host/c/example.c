@@ -1,6 +1,7 @@
 /* Plan A of document 01 from C: its blocks written, read and judged, an amendment to it tried, its tasks put in order,
- * a task bound, an old card of it converted, and its dispatcher run until a job finishes; then where the ticks went, a
- * sheet of releases, a statement of finished jobs, and last what is left of the plan when its first block is damaged.
+ * its least capacities chosen, a task bound, an old card of it converted, and its dispatcher run until a job finishes;
+ * then where the ticks went, a sheet of releases, a statement of finished jobs, and last what is left of the plan when
+ * its first block is damaged.
  * From this folder: cc -O2 example.c ../../target/staticlib/libcoreshare.a -o example */
 #include "coreshare.h"
 
@@ -110,6 +111,17 @@ static int order_tasks(const CsPlan *plan) {
     printf("in the order proposed they are met %u and %u, which is %s\n", cs_task_verdict(ordered.plan, 9, 1).ticks,
            cs_task_verdict(ordered.plan, 9, 2).ticks,
            memcmp(&ordered.plan, plan, sizeof *plan) == 0 ? "plan A" : "another plan");
+    return 0;
+}
+
+/* Guest 7 needs less than it has, and so guest 9 needs less than where guest 7 keeps what it has. */
+static int choose_capacities(const CsPlan *plan) {
+    CsChosen chosen = cs_least_capacities(*plan);
+    if (refused("choice", chosen.refusal)) {
+        return 1;
+    }
+    printf("the least capacities are %u and %u, and the plan is %s with them\n", chosen.plan.guests[0].capacity,
+           chosen.plan.guests[1].capacity, cs_accept(chosen.plan).verdict == 1 ? "accepted" : "not accepted");
     return 0;
 }
 
@@ -262,8 +274,8 @@ int main(void) {
         return 1;
     }
     print_verdicts(&read.plan);
-    if (try_an_amendment(bytes, sizeof bytes) || order_tasks(&read.plan) || bind_a_task(read.plan) ||
-        convert_an_old_card(bytes, sizeof bytes)) {
+    if (try_an_amendment(bytes, sizeof bytes) || order_tasks(&read.plan) || choose_capacities(&read.plan) ||
+        bind_a_task(read.plan) || convert_an_old_card(bytes, sizeof bytes)) {
         return 1;
     }
     return run_until_finished(&read.plan) || state_finished_jobs(bytes, sizeof bytes) ||

@@ -33,6 +33,9 @@ static void records(void) {
     STRUCT(CsOrdered);
     FIELD(CsOrdered, refusal);
     FIELD(CsOrdered, plan);
+    STRUCT(CsChosen);
+    FIELD(CsChosen, refusal);
+    FIELD(CsChosen, plan);
     STRUCT(CsVerdict);
     FIELD(CsVerdict, number);
     FIELD(CsVerdict, place);

@@ -2,7 +2,7 @@
 -- in every plan that passes the check. Assumes nothing.
 use mathlib.Core.Path.{_≡_, refl, sym, _∙_, ap, fun-ext}
 use mathlib.Core.Bool.{Bool, true, _&&_}
-use mathlib.Core.List.{List}
+use mathlib.Core.List.{List, []}
 use Prim.Native.Nat.{ℕ, _≤_, _<_}
 use native.Mathlib.Omega.{arith}
 use lib.ListN.{length}
@@ -12,8 +12,9 @@ use Rattle.lists.specs.declared.Found.the-variants.{At}
 use Rattle.equation.specs.System.{taskUnder}
 use Rattle.plan.specs.Charge.{charged}
 use Rattle.plan.specs.Filled.{ColumnsOf}
-use Rattle.plan.specs.Order.{planRefusal}
-use Rattle.plan.specs.Ranges.{mostGuests}
+use Rattle.plan.specs.First.{fine}
+use Rattle.plan.specs.Order.{newId, numberOf, guestNumber, planRefusal}
+use Rattle.plan.specs.Ranges.{mostGuests, guestOk, tasksOk}
 use Rattle.plan.specs.Records.{guestAt, runOf, everyOf}
 use Rattle.plan.specs.declared.Columns.{Columns}
 use Rattle.plan.specs.declared.Plan.{Plan}
@@ -24,8 +25,10 @@ use Rattle.response.specs.Columns.{guestsTake, fittedAt, acceptedUnder}
 use Rattle.capacity.specs.Capacity.{atCapacity, withCapacity, works, smallest}
 use Rattle.capacity.specs.Search.{fitsAt}
 use Rattle.plan.proofs.Charge.{charged-least}
-use Rattle.plan.proofs.Order.{PlanIn, plan-in}
-use Rattle.plan.proofs.Placed.{in-list, placed-own, placed-there}
+use Rattle.lists.proofs.Refusals.{passed}
+use Rattle.plan.proofs.Order.{PlanIn, plan-in, numbers-none}
+use Rattle.plan.proofs.Placed.{in-list, placed-own, placed-there, placed-fine}
+use Rattle.plan.proofs.RangesLaws.{head-right}
 use Rattle.response.proofs.ColumnsLaws.{interference-grows, columns-take, columns-fit}
 use Rattle.response.proofs.JittersLaws.{JittersOf}
 use Rattle.response.proofs.PlacedLaws.{placed-take, placed-works}
@@ -72,6 +75,24 @@ smallest-is p o c f late k h =
     let few : k ≤ 8 = omega (arith, o .few) in
     rw (columns-fit p c f late k few, columns-take p c f late k few)
     (ap (λ (t : ℕ → Bool). least t (guestAt (p .guests) k .period) 1) (fun-ext (λ x. sym (works-split p k (in-list p o k h) x))))
+
+-- a plan that passes the check does so with another capacity of a guest, from 1 to its period
+pub capacity-fine : (p : Plan) → planRefusal p .number ≡ 0 → (k : ℕ) → k < p .count → (c : ℕ) → 1 ≤ c
+    → c ≤ guestAt (p .guests) k .period → planRefusal (withCapacity p k c) ≡ fine
+unfolding guestNumber numberOf tasksOk
+capacity-fine p ok k h c low high =
+    let g = guestAt (p .guests) k in
+    let o = plan-in p ok .guests k h .head in
+    let head = head-right record {
+      named = o .named;
+      some = low;
+      fits = high;
+      short = o .short;
+      many = o .many;
+      few = o .few;
+    } in
+    let four = passed (guestOk g && newId (λ j. guestAt (p .guests) j .id) k) 4 _ (omega arith) (numbers-none p ok k h) in
+    placed-fine p ok k h (atCapacity g c) refl head (passed (tasksOk g) 6 [] (omega arith) (four .1) .0)
 
 -- the theorem, for every plan that passes the check and each of its guests
 module _ (p : Plan) (ok : planRefusal p .number ≡ 0) (k : ℕ) (h : k < p .count) where

@@ -10,6 +10,7 @@ mod search;
 mod settling;
 
 pub use placing::smallest_capacity_in; // Inner: for the calls in place.
+pub use settling::smallest_at; // Inner: for choices, which search guest by guest.
 
 // The answer: a refusal's number and place; the smallest capacity.
 pub enum CapacityAnswer {

@@ -109,7 +109,7 @@ fn settled(
 
 // The smallest capacity of the guest g at place k, which has a task; none works under an unfit guest. What does not
 // depend on the capacity is read off the record once.
-fn smallest_at(
+pub fn smallest_at(
     g: Guest,
     capacities: &[u32; 16],
     periods: &[u32; 16],

@@ -5,6 +5,7 @@ use plan::Refusal;
 
 mod amending;
 mod blocks;
+mod choosing;
 mod converting;
 mod dispatching;
 mod judging;

@@ -20,14 +20,12 @@ use Rattle.verdict.specs.declared.TaskVerdict.the-variants.{Met, UnmetAt, Unmet
 use Rattle.verdict_laws.specs.Guests.{There, GuestSolves, AllFit, GuestMeans}
 use Rattle.verdict_laws.specs.Tasks.{TaskSolves, InPeriod, TaskQuoted, TaskMet, TaskMeans}
 use Rattle.dominance.specs.Stays.{NoLarger, FittedStays, MetStays, QuotedStays, AcceptedStays}
-use Rattle.plan.proofs.First.{no-number}
 use Rattle.plan.proofs.Converted.{converted-at, same-id, same-refusal}
-use Rattle.verdict_laws.proofs.Acceptances.{accepted-said, said-accepted}
+use Rattle.verdict_laws.proofs.Acceptances.{accepted-order, accepted-said, said-accepted}
 use Rattle.verdict_laws.proofs.Guests.{guest-verdict-means, fitted-means}
 use Rattle.verdict_laws.proofs.Tasks.{task-verdict-means, judged-means, quotes-mean, quoted-means, quoted-where}
 use Rattle.dominance.proofs.Interference.{guest-sooner, task-sooner}
 use Rattle.dominance.proofs.Records.{there-stays}
-use Rattle.verdict.specs.declared.Acceptance.the-variants as plan
 use Rattle.verdict.specs.declared.GuestVerdict.the-variants as guest
 use Rattle.verdict.specs.declared.TaskVerdict.the-variants as task
 
@@ -64,12 +62,6 @@ module _ (q : Plan) (id k : ℕ) (t : There q id k) where
         go (UnmetAt r) c m = absurd (omega (arith, m .late))
         go Unmet c m = absurd c
         go Unjudged c m = absurd c
-
--- The records of a plan that is accepted are in order.
-accepted-order : (q : Plan) → acceptance q ≡ Accepted → planRefusal q .number ≡ 0
-unfolding acceptance
-accepted-order q e =
-    no-number plan.Refused {a = Accepted} (λ n k r. (let z : _≡_ {A = ℕ} 0 1 = cc in omega arith)) _ _ _ e .0
 
 -- ---- the plan before, and the plan with every guest made Periodic
 module _ (p : Plan) where

@@ -50,6 +50,7 @@ use Rattle.worked.specs.Plans.{A, A35, planB, planD, planE}
 use Rattle.amendment_laws.proofs.Worked.{answers-7}
 use Rattle.history.proofs.Times.{early-again, due-again}
 use Rattle.order_laws.proofs.Worked as orders
+use Rattle.choice_laws.proofs.Worked as choices
 use Rattle.statement_laws.proofs.Worked as logs
 use Rattle.amendment_laws.proofs.Worked as pairs
 
@@ -179,6 +180,7 @@ computed = record {
     second-line = logs.second-line;
     second-passed = logs.second-passed;
     orders = orders.worked;
+    choices = choices.worked;
   };
   there-A = record { order = refl; place = omega arith; named = refl };
   there-A35 = record { order = refl; place = omega arith; named = refl };

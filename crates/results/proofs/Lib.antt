@@ -8,6 +8,7 @@ pub mod Conversion
 pub mod Verdicts
 pub mod Amendments
 pub mod Ordering
+pub mod Choosing
 pub mod Dispatcher
 pub mod Word
 pub mod Sheets

@@ -28,6 +28,7 @@ use Rattle.statement.specs.Lines.{empty}
 use Rattle.statement.specs.Call.{stated}
 use Rattle.statement_laws.specs.Taken.{statementAfter}
 use Rattle.order_laws.specs.Worked.{WorkedOrders}
+use Rattle.choice_laws.specs.Worked.{WorkedChoices}
 use Rattle.statement_laws.specs.Worked.{logged, told, log, figures}
 use Rattle.history.specs.Calls.{running, start, play, released, times}
 
@@ -140,3 +141,5 @@ pub record Numbers : Type 0 where
       ≡ 1 ∷ 1 ∷ 3 ∷ []
   -- P12: What is proposed: plan A with guest 9's tasks exchanged, equal deadlines, and what is refused.
   pub orders : WorkedOrders
+  -- After P14: What is chosen: the least capacities of plan A, and what is refused.
+  pub choices : WorkedChoices

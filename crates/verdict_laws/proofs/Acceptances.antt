@@ -22,6 +22,7 @@ use Rattle.verdict_laws.specs.Acceptances.{AllGood, AcceptMeans, AllSaid
 use Rattle.lists.proofs.All.{all-at, all-by, and-left, and-right, and-true}
 use Rattle.verdict_laws.proofs.Guests.{fits-fitted, fitted-all}
 use Rattle.verdict_laws.proofs.Tasks.{met-in-time, in-time-met, task-verdict-means, judged-unjudged}
+use Rattle.plan.proofs.First.{no-number}
 use Rattle.plan.proofs.Order.{plan-in}
 use Rattle.verdict.specs.declared.Acceptance.the-variants as plan
 use Rattle.verdict.specs.declared.TaskVerdict.the-variants as task
@@ -67,6 +68,12 @@ acceptance-only p ok v a = go v (acceptance p) a (acceptance-means p ok)
     go NotAccepted (plan.Refused n m) a b = absurd b
     go NotAccepted Accepted a b = absurd (a b)
     go NotAccepted NotAccepted a b = refl
+
+-- the records of a plan that is accepted are in order
+pub accepted-order : (q : Plan) → acceptance q ≡ Accepted → planRefusal q .number ≡ 0
+unfolding acceptance
+accepted-order q e =
+    no-number plan.Refused {a = Accepted} (λ n k r. (let z : _≡_ {A = ℕ} 0 1 = cc in omega arith)) _ _ _ e .0
 
 -- records in order, and their guest at place k
 there-at : (p : Plan) → planRefusal p .number ≡ 0 → (k : ℕ) → k < p .count → There p (guestAt (p .guests) k .id) k

@@ -1,14 +1,11 @@
 -- The stored capacity plays no part in the smallest: the plan with another one passes the check, and each trial is of
 -- the same plan. Assumes nothing.
 use mathlib.Core.Path.{_≡_, refl, sym, _∙_, ap, fun-ext}
-use mathlib.Core.Bool.{true, _&&_}
-use mathlib.Core.List.{[]}
+use mathlib.Core.Bool.{_&&_}
 use Prim.Native.Nat.{ℕ, _≤_, _<_}
 use native.Mathlib.Omega.{arith}
 use lib.ListN.{length}
-use Rattle.plan.specs.Order.{newId, numberOf, guestNumber}
 use Rattle.plan.specs.Placed.{withGuest}
-use Rattle.plan.specs.Ranges.{guestOk, tasksOk}
 use Rattle.plan.specs.Records.{guestAt}
 use Rattle.plan.specs.declared.Guest.{Guest}
 use Rattle.plan.specs.declared.Plan.{Plan}
@@ -18,11 +15,9 @@ use Rattle.response.specs.Met.{allMet}
 use Rattle.capacity.specs.Capacity.{atCapacity, withCapacity, works, smallest}
 use Rattle.capacity.specs.Answer.{capacitySays, smallestCapacity}
 use Rattle.verdict_laws.specs.Guests.{There}
-use Rattle.lists.proofs.Refusals.{passed}
-use Rattle.plan.proofs.Order.{PlanIn, plan-in, numbers-none}
-use Rattle.plan.proofs.RangesLaws.{head-right}
-use Rattle.plan.proofs.Placed.{in-list, placed-again, placed-fine}
-use Rattle.capacity.proofs.Capacity.{guest-there}
+use Rattle.plan.proofs.Order.{PlanIn, plan-in}
+use Rattle.plan.proofs.Placed.{in-list, placed-again}
+use Rattle.capacity.proofs.Capacity.{guest-there, capacity-fine}
 use Rattle.verdict_laws.proofs.Capacities.{capacity-answer-is}
 
 module _ (p : Plan) (id k c : ℕ) (t : There p id k) (low : 1 ≤ c) (high : c ≤ guestAt (p .guests) k .period) where
@@ -38,34 +33,14 @@ module _ (p : Plan) (id k c : ℕ) (t : There p id k) (low : 1 ≤ c) (high : c 
   here : k < length (p .guests)
   here = in-list p order k (t .place)
 
-  -- the guest's tasks are in their ranges
-  tasks-in : tasksOk (guestAt (p .guests) k) ≡ true
-  unfolding guestNumber numberOf
-  tasks-in =
-      let g = guestAt (p .guests) k in
-      let a = passed (guestOk g && newId (λ j. guestAt (p .guests) j .id) k) 4 _ (omega arith)
-      (numbers-none p (t .order) k (t .place)) in
-      passed (tasksOk g) 6 [] (omega arith) (a .1) .0
-
   -- the guest is in the plan with the other capacity
   there : There q id k
-  unfolding withGuest tasksOk
-  there =
-      let h = order .guests k (t .place) .head in
-      let in-range = head-right record {
-        named = h .named;
-        some = low;
-        fits = high;
-        short = h .short;
-        many = h .many;
-        few = h .few;
-      } in
-      record {
-        order = ap (λ (r : Refusal). r .number)
-            (placed-fine p (t .order) k (t .place) (atCapacity (guestAt (p .guests) k) c) refl in-range tasks-in);
-        place = t .place;
-        named = ap (λ (g : Guest). g .id) (guest-there p k here c) ∙ t .named;
-      }
+  unfolding withGuest
+  there = record {
+    order = ap (λ (r : Refusal). r .number) (capacity-fine p (t .order) k (t .place) c low high);
+    place = t .place;
+    named = ap (λ (g : Guest). g .id) (guest-there p k here c) ∙ t .named;
+  }
 
   -- a trial is of the same plan
   same-trial : (x : ℕ) → withCapacity q k x ≡ withCapacity p k x

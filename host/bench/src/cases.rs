@@ -2,6 +2,7 @@
 //! interface, and of plain Rust by reference and in place.
 
 mod amended;
+mod choice;
 mod convert;
 pub mod desk;
 mod dispatcher;
@@ -48,6 +49,7 @@ pub fn all() -> Vec<Case> {
     let mut all = judging();
     all.extend(lent::all());
     all.extend(order::all());
+    all.extend(choice::all());
     all.extend(amended::all());
     all.extend(dispatching());
     all.extend(statements::all());
@@ -122,8 +124,8 @@ fn dispatching() -> Vec<Case> {
     ]
 }
 
-/// The aim for plan files, orders, statements, salvages, conversions and what is asked of small plans, and the one for
-/// the dispatcher. The desk's are in `desk`.
+/// The aim for plan files, orders, least capacities, statements, salvages, conversions and what is asked of small
+/// plans, and the one for the dispatcher. The desk's are in `desk`.
 const FILES: f64 = 1.2;
 const DISPATCHER: f64 = 1.5;
 

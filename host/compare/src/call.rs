@@ -10,7 +10,7 @@ use reference::plan::{Guest, Plan, Refusal};
 use reference::statement::Statement;
 
 /// The exports' names, in the order of [`Call`].
-pub const EXPORTS: [&str; 23] = [
+pub const EXPORTS: [&str; 24] = [
     "cs_read",
     "cs_check",
     "cs_write",
@@ -34,6 +34,7 @@ pub const EXPORTS: [&str; 23] = [
     "cs_salvage",
     "cs_order",
     "cs_convert",
+    "cs_least_capacities",
 ];
 
 #[derive(Clone, Debug, PartialEq)]
@@ -57,6 +58,7 @@ pub enum Call {
     Salvage(Vec<u8>, Vec<u8>),
     Order(Box<Plan>, u32),
     Convert(Vec<u8>, Vec<u8>),
+    LeastCapacities(Box<Plan>),
 }
 
 /// A plan's blocks and a log.
@@ -110,6 +112,7 @@ impl Call {
             Call::Salvage(..) => 20,
             Call::Order(..) => 21,
             Call::Convert(..) => 22,
+            Call::LeastCapacities(..) => 23,
         }
     }
 
@@ -145,6 +148,7 @@ impl Call {
             Call::Salvage(file, out) => salvaged(side, file, out),
             Call::Order(plan, id) => Outcome::Ordered((side.order)(plan, *id).into()),
             Call::Convert(plan, out) => converted(side, plan, out),
+            Call::LeastCapacities(plan) => Outcome::Chosen((side.least_capacities)(plan).into()),
         }
     }
 

@@ -5,6 +5,7 @@ pub mod amendments;
 mod blocks;
 pub mod bound;
 mod call;
+pub mod choice;
 pub mod convert;
 pub mod deferrable;
 mod exhaustive;
@@ -42,6 +43,7 @@ pub fn everything(session: &mut Session, budget: Duration) {
     statements::compare(session);
     salvage::compare(session);
     order::compare(session);
+    choice::compare(session);
     convert::compare(session);
     let end = Instant::now() + budget;
     while Instant::now() < end {
@@ -50,6 +52,7 @@ pub fn everything(session: &mut Session, budget: Duration) {
         statements::round(session);
         salvage::round(session);
         order::round(session);
+        choice::round(session);
         convert::round(session);
         histories::history(session);
         promise::histories(session);

@@ -10,6 +10,7 @@ use crate::plans::{self, FULL, LARGE, SMALL, Size, TINY, some_id};
 use crate::session::Session;
 use crate::show;
 use crate::side::Side;
+pub(crate) use around::filled;
 use reference::order::{by_deadline, reordered};
 use reference::plan::{Guest, Plan, check};
 use reference::verdict::YES;

@@ -136,6 +136,7 @@ fn every_plan_call(session: &mut Session, plan: &Plan) {
     session.compare(Call::Check(Box::new(*plan)));
     session.compare(Call::Accept(Box::new(*plan)));
     session.compare(Call::Fresh(Box::new(*plan)));
+    session.compare(Call::LeastCapacities(Box::new(*plan)));
     for (id, task) in [(9, 1), (9, 0), (0, 1)] {
         session.compare(Call::GuestVerdict(Box::new(*plan), id));
         session.compare(Call::TaskVerdict(Box::new(*plan), id, task));

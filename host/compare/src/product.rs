@@ -5,6 +5,7 @@ mod placed;
 use compare::side::Side;
 use coreshare::exports;
 use reference::amendment::Located;
+use reference::choice::Chosen;
 use reference::dispatcher::{Answer, Dispatcher, Released, Run, Start, Ticked};
 use reference::log::LogEntries;
 use reference::order::Ordered;
@@ -43,6 +44,7 @@ pub const PRODUCT: Side = Side {
     salvage: |file, out| salvaged(exports::salvage(file, out)),
     order: |plan, id| ordered(placed::order(&plan_in(plan), id)),
     convert: |plan, out| refusal(exports::convert(plan, out)),
+    least_capacities: |plan| chosen(exports::least_capacities(&plan_in(plan))),
 };
 
 fn guest_in(guest: &Guest) -> coreshare::Guest {
@@ -235,6 +237,13 @@ fn salvaged(outcome: coreshare::Salvaged) -> Salvaged {
 
 fn ordered(outcome: coreshare::Ordered) -> Ordered {
     Ordered {
+        refusal: refusal(outcome.refusal),
+        plan: plan(&outcome.plan),
+    }
+}
+
+fn chosen(outcome: coreshare::Chosen) -> Chosen {
+    Chosen {
         refusal: refusal(outcome.refusal),
         plan: plan(&outcome.plan),
     }

@@ -35,11 +35,12 @@ pub fn round(session: &mut Session) {
     }
 }
 
-/// Every verdict of a plan that is well formed, an order for each guest's tasks, and its start.
+/// Every verdict of a plan that is well formed, an order for each guest's tasks, its least capacities, and its start.
 pub fn every_verdict(session: &mut Session, plan: &Plan) {
     session.compare(Call::Check(Box::new(*plan)));
     session.compare(Call::Accept(Box::new(*plan)));
     session.compare(Call::Fresh(Box::new(*plan)));
+    session.compare(Call::LeastCapacities(Box::new(*plan)));
     for guest in plan.listed() {
         session.compare(Call::GuestVerdict(Box::new(*plan), guest.id));
         session.compare(Call::SmallestCapacity(Box::new(*plan), guest.id));
@@ -78,6 +79,7 @@ fn hostile_records(session: &mut Session) {
         session.compare(Call::GuestVerdict(Box::new(plan), id));
         session.compare(Call::TaskVerdict(Box::new(plan), id, task));
         session.compare(Call::SmallestCapacity(Box::new(plan), id));
+        session.compare(Call::LeastCapacities(Box::new(plan)));
     }
 }
 

@@ -5,6 +5,7 @@ mod statements;
 
 use crate::call::{Amended, Call, EXPORTS, Outcome, Question};
 use crate::side::{REFERENCE, Side};
+use reference::choice::Chosen;
 use reference::dispatcher::{Dispatcher, parts};
 use reference::order::Ordered;
 use reference::plan::{Guest, MOST_TASKS, Plan};
@@ -28,7 +29,9 @@ fn input(call: &Call) -> String {
         Call::Write(of, place, buffer) => {
             format!("{name} place {place} length {} {}", buffer.len(), guest(of))
         }
-        Call::Check(of) | Call::Accept(of) | Call::Fresh(of) => format!("{name} {}", plan(of)),
+        Call::Check(of) | Call::Accept(of) | Call::Fresh(of) | Call::LeastCapacities(of) => {
+            format!("{name} {}", plan(of))
+        }
         Call::GuestVerdict(of, id) | Call::SmallestCapacity(of, id) | Call::Order(of, id) => {
             format!("{name} id {id} {}", plan(of))
         }
@@ -72,6 +75,7 @@ fn outcome(outcome: &Outcome) -> String {
         Outcome::Stated(outcome) => stated(outcome),
         Outcome::Salvaged(outcome, out) => salvaged(outcome, out),
         Outcome::Ordered(outcome) => ordered(outcome),
+        Outcome::Chosen(outcome) => chosen(outcome),
         Outcome::Start(start) => format!("{:?} {}", start.refusal, state(&start.dispatcher)),
         Outcome::Released(next) => format!("{:?} {}", next.refusal, state(&next.dispatcher)),
         Outcome::Sheet(next, answers) => {
@@ -97,6 +101,11 @@ fn outcome(outcome: &Outcome) -> String {
 
 /// The refusal, and the plan that was handed back.
 pub fn ordered(of: &Ordered) -> String {
+    format!("{:?} {}", of.refusal, plan(&of.plan))
+}
+
+/// The same of a choice.
+pub fn chosen(of: &Chosen) -> String {
     format!("{:?} {}", of.refusal, plan(&of.plan))
 }
 

@@ -53,6 +53,7 @@ fn smaller(call: &Call) -> Vec<Call> {
         Call::Salvage(file, out) => files::smaller(file, out, Call::Salvage),
         Call::Order(plan, id) => of_plan(plan, |plan| Call::Order(plan, *id)),
         Call::Convert(plan, out) => files::smaller(plan, out, Call::Convert),
+        Call::LeastCapacities(plan) => of_plan(plan, Call::LeastCapacities),
     }
 }
 

@@ -1,6 +1,7 @@
 //! The two sides that are compared, behind the same signatures.
 
 use reference::amendment::{self, Located};
+use reference::choice::{self, Chosen};
 use reference::convert;
 use reference::dispatcher::{self, Dispatcher, Released, Run, Start, Ticked};
 use reference::log::{self, LogEntries};
@@ -36,6 +37,7 @@ pub struct Side {
     pub salvage: fn(&[u8], &mut [u8]) -> Salvaged,
     pub order: fn(&Plan, u32) -> Ordered,
     pub convert: fn(&[u8], &mut [u8]) -> Refusal,
+    pub least_capacities: fn(&Plan) -> Chosen,
 }
 
 /// The reference: the documents' sentences in plain Rust.
@@ -63,4 +65,5 @@ pub const REFERENCE: Side = Side {
     salvage: salvage::salvage,
     order: order::order,
     convert: convert::convert,
+    least_capacities: choice::least_capacities,
 };

@@ -1,8 +1,10 @@
 //! The comparison itself is tried: each wrong implementation that document 01 names must be found, two of
-//! its errors that look reasonable, and some of P1's, P2's and P5's to P13's.
+//! its errors that look reasonable, and some of P1's, P2's, P5's to P13's and the least capacities'.
 
 #[path = "planted/amendments.rs"]
 mod amendments;
+#[path = "planted/choice.rs"]
+mod choice;
 #[path = "planted/convert.rs"]
 mod convert;
 #[path = "planted/deferrable.rs"]

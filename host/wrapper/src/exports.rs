@@ -18,7 +18,7 @@ pub use salvage::salvage;
 pub use statement::{statement, write_log};
 
 use crate::{
-    Dispatcher, Guest, Ordered, Plan, Read, Refusal, Released, Run, Start, Ticked, Verdict,
+    Chosen, Dispatcher, Guest, Ordered, Plan, Read, Refusal, Released, Run, Start, Ticked, Verdict,
 };
 
 /// A plan's records, as they are lent to a call in place.
@@ -49,6 +49,7 @@ mod library {
         pub safe fn cs_accept(plan: Plan) -> Verdict;
         pub safe fn cs_smallest_capacity(plan: Plan, id: u32) -> Verdict;
         pub safe fn cs_order(plan: Plan, id: u32) -> Ordered;
+        pub safe fn cs_least_capacities(plan: Plan) -> Chosen;
         pub safe fn cs_fresh(plan: Plan) -> Start;
         pub safe fn cs_release(dispatcher: Dispatcher, id: u32, task: u32) -> Released;
         pub safe fn cs_tick(dispatcher: Dispatcher) -> Ticked;
@@ -124,6 +125,12 @@ pub fn smallest_capacity(plan: &Plan, id: u32) -> Verdict {
 /// Refusals: those of the records, then 7, 21, 22.
 pub fn order(plan: &Plan, id: u32) -> Ordered {
     library::cs_order(*plan, id)
+}
+
+/// The plan with the least capacities at which it is accepted.
+/// Refusals: those of the records, then 23, then 11 with the guest's place.
+pub fn least_capacities(plan: &Plan) -> Chosen {
+    library::cs_least_capacities(*plan)
 }
 
 /// A fresh state. Refusals: those of the records, then 23.

@@ -2,9 +2,10 @@
 //!
 //! On one core, up to 8 guests share the time, each with up to 16 tasks. The library reads and
 //! writes plan blocks, judges guests and tasks, searches the smallest capacity, does the same for a
-//! standing plan with amendments, proposes an order for a guest's tasks, dispatches, states the
-//! finished jobs of a log, salvages a damaged plan file, and converts an old plan's Deferrable guests.
-//! Every rule stands in document 01, as the requests P1 to P13 of document 02 change it; a refusal carries
+//! standing plan with amendments, proposes an order for a guest's tasks, chooses a plan's least
+//! capacities, dispatches, states the finished jobs of a log, salvages a damaged plan file, and
+//! converts an old plan's Deferrable guests. Every rule stands in document 01, as the requests P1 to
+//! P13 of document 02 change it, and that of [`Plan::least_capacities`] with it; a refusal carries
 //! document 01's number and place.
 //!
 //! The root of this crate has the calls as Rust has them, with `Result` and enums. [`exports`] has
@@ -25,6 +26,7 @@
 #![deny(unsafe_code)]
 
 mod amended;
+mod choice;
 mod convert;
 mod dispatcher;
 pub mod exports;
@@ -42,8 +44,8 @@ pub use convert::convert;
 pub use dispatcher::{Progress, Tick, pair};
 pub use plan::{BLOCK, GuestVerdict, TaskVerdict, find, mark};
 pub use records::{
-    Answer, Dispatcher, Fate, Guest, Located, LogEntries, LogEntry, Ordered, Plan, Read, Refusal,
-    Released, Run, RunIn, Salvaged, Start, Stated, Statement, TickIn, Ticked, Verdict,
+    Answer, Chosen, Dispatcher, Fate, Guest, Located, LogEntries, LogEntry, Ordered, Plan, Read,
+    Refusal, Released, Run, RunIn, Salvaged, Start, Stated, Statement, TickIn, Ticked, Verdict,
 };
 pub use salvage::{BlockFate, Fates, NotSalvaged, Salvage, salvage};
 pub use statement::{Line, MOST_JOBS, Passed, PassedOver, write_log};

@@ -1,8 +1,10 @@
 //! The structs that cross the C interface, field by field as `coreshare.h` has them.
 
+mod proposed;
 mod salvage;
 mod statement;
 
+pub use proposed::{Chosen, Ordered};
 pub use salvage::{Fate, Salvaged};
 pub use statement::{LogEntries, LogEntry, Stated, Statement};
 
@@ -74,14 +76,6 @@ pub struct Refusal {
 #[repr(C)]
 #[derive(Clone, Copy, Debug, Default, PartialEq, Eq)]
 pub struct Read {
-    pub refusal: Refusal,
-    pub plan: Plan,
-}
-
-/// What is proposed as the order of a guest's tasks. The plan of a refused call is unchanged.
-#[repr(C)]
-#[derive(Clone, Copy, Debug, Default, PartialEq, Eq)]
-pub struct Ordered {
     pub refusal: Refusal,
     pub plan: Plan,
 }
@@ -235,7 +229,9 @@ impl Refusal {
             20 => "no block of the file is kept",
             21 => "a guest whose tasks are to be ordered is Deferrable, or a task of it is bound",
             22 => "no order of the guest's tasks works",
-            23 => "a Deferrable guest handed to the writer or to a fresh start",
+            23 => {
+                "a Deferrable guest handed to the writer, to a fresh start or to a choice of capacities"
+            }
             _ => "no number of document 01 or 02",
         }
     }

@@ -7,8 +7,9 @@ use std::path::{Path, PathBuf};
 use std::process::Command;
 
 use coreshare::{
-    Answer, Dispatcher, Fate, Guest, Located, LogEntries, LogEntry, Ordered, Plan, Read, Refusal,
-    Released, Run, RunIn, Salvaged, Start, Stated, Statement, TickIn, Ticked, Verdict, mark, pair,
+    Answer, Chosen, Dispatcher, Fate, Guest, Located, LogEntries, LogEntry, Ordered, Plan, Read,
+    Refusal, Released, Run, RunIn, Salvaged, Start, Stated, Statement, TickIn, Ticked, Verdict,
+    mark, pair,
 };
 
 /// Compiles a C file of the folder `c` beside this crate, runs it and gives what it wrote.
@@ -63,6 +64,7 @@ fn layout() -> String {
     lines!(to, "CsRefusal", Refusal, number place);
     lines!(to, "CsRead", Read, refusal plan);
     lines!(to, "CsOrdered", Ordered, refusal plan);
+    lines!(to, "CsChosen", Chosen, refusal plan);
     lines!(to, "CsVerdict", Verdict, number place verdict ticks);
     lines!(to, "CsLocated", Located, number place sheet);
     lines!(to, "CsDispatcher", Dispatcher, plan usage left position rest wait age);
@@ -125,6 +127,7 @@ with capacity 7 guest 9 is fitted 13 and its tasks are met 38 and 86
 so the plan is accepted, and needs 7
 exchanged, task 1 of guest 9 is met 26, and task 2 is unmet
 in the order proposed they are met 36 and 80, which is plan A
+the least capacities are 1 and 6, and the plan is accepted with them
 task 1 has 36, and bound 24
 bound, it is answered 0 at position 0 and 17 at position 1
 guest 9 fitted 16

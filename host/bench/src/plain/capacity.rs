@@ -32,7 +32,7 @@ impl Plan {
 
 /// A task that is met stays met at each larger capacity that is fitted, so the capacity only rises from task to task.
 /// Where 1 is unfit all are.
-fn smallest(above: &[Guest], own: &Guest) -> Option<u32> {
+pub(crate) fn smallest(above: &[Guest], own: &Guest) -> Option<u32> {
     guest_response(above, 1, own.period)?;
     (0..own.tasks as usize).try_fold(1, |from, task| smallest_from(above, own, task, from))
 }

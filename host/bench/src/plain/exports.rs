@@ -3,6 +3,7 @@
 #![allow(improper_ctypes_definitions)] // slices, as the library takes them: a pointer and a length
 
 mod amended;
+mod choice;
 mod convert;
 mod order;
 mod salvage;
@@ -12,6 +13,7 @@ pub use amended::{
     Located, amended_accept, amended_find, amended_guest_verdict, amended_smallest_capacity,
     amended_task_verdict,
 };
+pub use choice::{Chosen, least_capacities};
 pub use convert::convert;
 pub use order::{Ordered, order};
 pub use salvage::{Salvaged, salvage};

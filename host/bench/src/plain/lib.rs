@@ -5,6 +5,7 @@
 pub mod amended;
 pub mod block;
 pub mod capacity;
+mod choice;
 pub mod convert;
 pub mod dispatcher;
 pub mod exports;

@@ -1,6 +1,7 @@
 //! Holds plain Rust to the reference, as the library is held: what is measured must be right.
 
 mod capacity;
+mod choice;
 mod convert;
 mod order;
 mod salvage;
@@ -45,6 +46,7 @@ const PLAIN: Side = Side {
     salvage: salvage::salvage,
     order: order::order,
     convert: convert::convert,
+    least_capacities: choice::least_capacities,
 };
 
 #[test]

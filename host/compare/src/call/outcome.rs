@@ -1,6 +1,7 @@
 //! The outcome of a call, whole.
 
 use reference::amendment::Located;
+use reference::choice::Chosen;
 use reference::dispatcher::{Dispatcher, Released, Run, Start, Ticked};
 use reference::order::Ordered;
 use reference::plan::{Read, Refusal};
@@ -24,6 +25,7 @@ pub enum Outcome {
     Stated(Box<Stated>),
     Salvaged(Box<Salvaged>, Vec<u8>),
     Ordered(Box<Ordered>),
+    Chosen(Box<Chosen>),
 }
 
 impl Outcome {
@@ -41,6 +43,7 @@ impl Outcome {
             Outcome::Stated(outcome) => outcome.refusal.number,
             Outcome::Salvaged(outcome, _) => outcome.refusal.number,
             Outcome::Ordered(outcome) => outcome.refusal.number,
+            Outcome::Chosen(outcome) => outcome.refusal.number,
         }
     }
 

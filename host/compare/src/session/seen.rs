@@ -38,8 +38,12 @@ const ORDERED: [usize; 7] = [0, 1, 4, 6, 7, 21, 22];
 const CONVERT: usize = 22;
 const CONVERTED: [usize; 8] = [0, 1, 2, 3, 4, 5, 6, 12];
 
+/// The export that chooses the least capacities, and what it gives of Periodic guests.
+const CHOICE: usize = 23;
+const CHOSEN: [usize; 5] = [0, 1, 4, 6, 11];
+
 /// The exports that a Deferrable guest must not be handed to, and the number that they refuse it by.
-const NO_DEFERRABLE: [usize; 2] = [2, 8];
+const NO_DEFERRABLE: [usize; 3] = [2, 8, CHOICE];
 const IS_DEFERRABLE: usize = 23;
 
 impl Session {
@@ -65,6 +69,9 @@ impl Session {
         }
         for number in CONVERTED {
             self.demand_of(CONVERT, number, "each old plan's number seen");
+        }
+        for number in CHOSEN {
+            self.demand_of(CHOICE, number, "each number of choices seen");
         }
         for export in NO_DEFERRABLE {
             self.demand_of(export, IS_DEFERRABLE, "each old plan's number seen");

@@ -65,6 +65,20 @@ fn a_deferrable_guest_of_full_capacity_has_no_jitter() {
     assert_eq!([under(0), under(1)], [15, 15]);
 }
 
+/// With less capacity it can put off more, which is why least capacities are chosen for Periodic guests alone.
+#[test]
+fn a_deferrable_guest_with_less_capacity_can_take_more_of_a_window() {
+    let taken = |deferrable, capacity| {
+        let above = Guest {
+            deferrable,
+            ..Guest::new(1, capacity, 10, &[[1, 20, 20]])
+        };
+        taken_above(&[above], 5)
+    };
+    assert_eq!([taken(1, 5), taken(1, 4)], [5, 8]);
+    assert_eq!([taken(0, 5), taken(0, 4)], [5, 4]);
+}
+
 #[test]
 fn deadlines_between_the_two_kinds() {
     let mut plan = plan_a_of([1, 0]);

@@ -1,0 +1,3 @@
+-- Laws, each file named after the definitions that it is about.
+pub mod CapacitiesLaws
+pub mod Promises

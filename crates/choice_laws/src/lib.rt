@@ -1,0 +1,1 @@
+// Theorems of the numbers chosen for a plan, about the definitions alone.
