@@ -1,34 +1,32 @@
 -- How the loop comes to the least capacities. Assumes nothing.
 use mathlib.Core.Path.{_≡_, refl, sym, _∙_, ap}
 use mathlib.Core.Bool.{true, _&&_}
-use mathlib.Core.List.{List, [], _∷_}
-use Prim.Native.Nat.{ℕ, zero, suc, _+_, _-_, _≤_, _<_}
-use native.Mathlib.Decide.{ℕ-discrete}
+use mathlib.Core.List.{List}
+use Prim.Native.Nat.{ℕ, suc, _+_, _-_, _≤_, _<_}
 use native.Mathlib.Omega.{arith}
-use lib.ListN.{length, set, length-set}
+use lib.ListN.{set}
 use borrow.Author.Tests.{eqb-true}
-use lib.Seq.{getD-set-same, getD-set-other}
 use Rattle.lists.specs.All.{allTo}
 use Rattle.lists.specs.Places.{nth}
 use Rattle.lists.specs.Search.{least}
 use Rattle.lists.specs.declared.Found.{Found}
 use Rattle.lists.specs.declared.Found.the-variants.{At, Nothing}
 use Rattle.plan.specs.declared.Columns.{Columns}
-use Rattle.plan.specs.declared.Guest.{Guest}
 use Rattle.plan.specs.declared.Plan.{Plan}
 use Rattle.plan.specs.declared.Refusal.{Refusal}
-use Rattle.plan.specs.Filled.{Filled, ColumnsOf}
+use Rattle.plan.specs.Filled.{ColumnsOf}
 use Rattle.plan.specs.First.{refuseOr}
 use Rattle.plan.specs.Order.{planRefusal}
 use Rattle.plan.specs.Periodic.{allPeriodic, startRefusal}
 use Rattle.plan.specs.Placed.{withGuest}
 use Rattle.plan.specs.Ranges.{mostGuests}
-use Rattle.plan.specs.Records.{guestAt, absent}
-use Rattle.response.specs.Columns.{jitterAt, guestsTake, fittedAt, acceptedUnder}
+use Rattle.plan.specs.Records.{guestAt}
+use Rattle.response.specs.Columns.{guestsTake, fittedAt, acceptedUnder}
 use Rattle.response.specs.Ready.{Seated}
 use Rattle.capacity.specs.Capacity.{atCapacity, withCapacity, works, smallest}
 use Rattle.choice.specs.declared.Chosen.{Chosen}
-use Rattle.choice.specs.Capacities.{answering, ticksOf, chosenFrom, leastCapacities}
+use Rattle.response.specs.Window.{ticksOf}
+use Rattle.choice.specs.Capacities.{answering, chosenFrom, leastCapacities}
 use Rattle.lists.proofs.Search.{Says, least-says}
 use Rattle.plan.proofs.First.{number-refuses, number-passes}
 use Rattle.plan.proofs.Order.{plan-in}
@@ -37,6 +35,7 @@ use Rattle.plan.proofs.PeriodicLaws.{periodic-at}
 use Rattle.response.proofs.JittersLaws.{JittersOf}
 use Rattle.response.proofs.ReadyLaws.{seated-at}
 use Rattle.capacity.proofs.Capacity.{smallest-is, capacity-fine}
+use Rattle.choice.proofs.ColumnsPut.{columns-put, jitters-put}
 
 -- What a search says: nothing is found, or a capacity from 1 to the period.
 pub record Within (p : Plan) (k c : ℕ) : Type 0 where
@@ -102,77 +101,6 @@ module _ (given p : Plan) (n k : ℕ) (h : k < n) where
 pub chosen-end : (given p : Plan) (n k : ℕ) → n ≤ k → answering p 0 0 ≡ chosenFrom given p (n - k) k
 unfolding chosenFrom
 chosen-end given p n k h = let e : n - k ≡ 0 = omega arith in rw e refl
-
--- The columns after a guest has another capacity.
-module _ (gs : List Guest) (k c : ℕ) (here : k < length gs) where
-  abbrev after : List Guest
-  after = set gs k (atCapacity (guestAt gs k) c)
-
-  -- a number of each guest that is not the capacity is as it was
-  kept : (f : Guest → ℕ) → f (atCapacity (guestAt gs k) c) ≡ f (guestAt gs k) → (j : ℕ) → f (guestAt gs j) ≡ f (guestAt after j)
-  kept f e j =
-      elim (ℕ-discrete j k) [
-        | yes q ↦ rw q (sym (ap f (getD-set-same gs k (atCapacity (guestAt gs k) c) absent here) ∙ e))
-        | no q ↦ ap f (sym (getD-set-other gs k j (atCapacity (guestAt gs k) c) absent q))
-      ]
-
-  -- a column of such numbers stands
-  stands : (f : Guest → ℕ) → f (atCapacity (guestAt gs k) c) ≡ f (guestAt gs k) → {r : List ℕ} {n : ℕ}
-      → Filled r (λ j. f (guestAt gs j)) n → Filled r (λ j. f (guestAt after j)) n
-  stands f e F = record { long = F .long; holds = λ j h. F .holds j h ∙ kept f e j }
-
-  -- the column of capacities has the other one at its place
-  capacities-put : {r : List ℕ} {n : ℕ} → k < 16 → Filled r (λ j. guestAt gs j .capacity) n
-      → Filled (set r k c) (λ j. guestAt after j .capacity) n
-  capacities-put {r} {n} l F = record {
-    long = length-set r k c ∙ F .long;
-    holds = λ j h.
-        elim (ℕ-discrete j k) [
-          | yes q ↦
-              rw q (getD-set-same r k c 0 (omega (arith, F .long))
-              ∙ sym (ap (λ (g : Guest). g .capacity) (getD-set-same gs k (atCapacity (guestAt gs k) c) absent here)))
-          | no q ↦
-              getD-set-other r k j c 0 q ∙ F .holds j h
-              ∙ ap (λ (g : Guest). g .capacity) (sym (getD-set-other gs k j (atCapacity (guestAt gs k) c) absent q))
-        ];
-  }
-
-  -- so the columns are those of the guests after
-  pub columns-put : {t : Columns} {n : ℕ} → k < 16 → ColumnsOf gs n t
-      → ColumnsOf after n (record {
-        ids = t .ids;
-        capacities = set (t .capacities) k c;
-        periods = t .periods;
-        tasks = t .tasks;
-        deferrable = t .deferrable;
-      })
-  columns-put l C = record {
-    ids = stands (λ g. g .id) refl (C .ids);
-    capacities = capacities-put l (C .capacities);
-    periods = stands (λ g. g .period) refl (C .periods);
-    tasks = stands (λ g. g .tasks) refl (C .tasks);
-    deferrable = stands (λ g. g .deferrable) refl (C .deferrable);
-  }
-
--- The jitters stand: the guest whose capacity is another is Periodic, and puts nothing off.
-pub jitters-put : (t : Columns) (jitters : List ℕ) (k c : ℕ) → k < 16 → nth (t .deferrable) k ≡ 0
-    → JittersOf t jitters
-    → JittersOf (record {
-      ids = t .ids;
-      capacities = set (t .capacities) k c;
-      periods = t .periods;
-      tasks = t .tasks;
-      deferrable = t .deferrable;
-    }) jitters
-unfolding jitterAt
-jitters-put t jitters k c l z J = record {
-  long = J .long;
-  holds = λ j h.
-      elim (ℕ-discrete j k) [
-        | yes q ↦ rw q (rw q at (J .holds j h) ∙ rw z refl)
-        | no q ↦ J .holds j h ∙ rw (getD-set-other (t .capacities) k j c 0 q) refl
-      ];
-}
 
 -- The loop after k turns: the plan's records are in order, the columns are its own, no guest of it is Deferrable, and
 -- its guests from place k on have the answer.

@@ -3,7 +3,6 @@
 use mathlib.Core.List.{[], _∷_}
 use Prim.Native.Nat.{ℕ, zero, suc}
 use Rattle.lists.specs.Refusals.{_orRefuse_}
-use Rattle.lists.specs.declared.Found.{Found}
 use Rattle.lists.specs.declared.Found.the-variants.{At, Nothing}
 use Rattle.plan.specs.First.{refused, refuseOr}
 use Rattle.plan.specs.Order.{recordsThen}
@@ -15,11 +14,6 @@ use Rattle.choice.specs.declared.Chosen.{Chosen}
 -- an answer: the refusal's number, 0 for none, and its place, and the plan that comes back
 abbrev pub answering : Plan → (number place : ℕ) → Chosen
 answering p number place = record { refusal = refused number place; plan = p }
-
--- the ticks that were found, or 0
-abbrev pub ticksOf : Found → ℕ
-ticksOf Nothing = 0
-ticksOf (At c) = c
 
 -- The plan p with the m guests from place k on at their smallest capacities, one after the other; where none works for
 -- one of them, 11 with its place, and the plan as it was given.

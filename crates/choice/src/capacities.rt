@@ -1,11 +1,11 @@
 // The least capacities, guest by guest.
 ghost use mathlib.Core.Path.{_≡_};
 ghost use mathlib.Core.Bool.{true};
-ghost use Prim.Native.Nat.{_≤_};
 ghost use Rattle.plan.specs.Order.{planRefusal};
 ghost use Rattle.plan.specs.Periodic.{allPeriodic};
 ghost use Rattle.capacity.specs.Capacity.{atCapacity};
-ghost use Rattle.choice.specs.Capacities.{chosenFrom, ticksOf};
+ghost use Rattle.response.specs.Window.{ticksOf};
+ghost use Rattle.choice.specs.Capacities.{chosenFrom};
 use crate::Chosen;
 use capacity::smallest_at;
 use lists::Found;

@@ -1,8 +1,8 @@
 -- The least capacities are accepted, and the least of all choices: those above take no more than in any other choice, so
 -- that what works there for a guest works here. Assumes nothing.
 use mathlib.Core.Path.{_≡_, refl, sym, _∙_, ap, subst}
-use mathlib.Core.Bool.{true, false, false≢true, _&&_}
-use Prim.Native.Nat.{ℕ, zero, suc, _+_, _*_, _≤_, _<_}
+use mathlib.Core.Bool.{true, false, false≢true}
+use Prim.Native.Nat.{ℕ, zero, suc, _+_, _≤_, _<_}
 use native.Mathlib.Decide.{decLt}
 use native.Mathlib.Nat.{mul-le-mul-left}
 use native.Mathlib.Omega.{arith}
@@ -10,15 +10,13 @@ use Rattle.lists.specs.All.{allTo}
 use Rattle.lists.specs.declared.Found.{Found}
 use Rattle.lists.specs.declared.Found.the-variants.{At, Nothing}
 use Rattle.rounding.specs.Asked.{asked}
-use Rattle.plan.specs.First.{refuseOr, refusedBy}
 use Rattle.plan.specs.Order.{planRefusal}
-use Rattle.plan.specs.Periodic.{allPeriodic, startRefusal}
+use Rattle.plan.specs.Periodic.{startRefusal}
 use Rattle.plan.specs.Ranges.{mostGuests}
 use Rattle.plan.specs.Records.{guestAt, absent}
 use Rattle.plan.specs.Server.{isDeferrable}
 use Rattle.plan.specs.declared.Guest.{Guest}
 use Rattle.plan.specs.declared.Plan.{Plan}
-use Rattle.plan.specs.declared.Refusal.{Refusal}
 use Rattle.response.specs.Columns.{acceptedUnder}
 use Rattle.response.specs.Guest.{fitted}
 use Rattle.response.specs.Interference.{jitter, interference}
@@ -28,7 +26,8 @@ use Rattle.verdict.specs.declared.Acceptance.the-variants.{Accepted}
 use Rattle.capacity.specs.Capacity.{atCapacity, withCapacity, works, smallest}
 use Rattle.choice.specs.Capacities.{answering, chosenFrom, leastCapacities}
 use Rattle.choice.specs.declared.Chosen.{Chosen}
-use Rattle.choice_laws.specs.Capacities.{withCapacities, chosenFor, Chooses, LeastOfAll, NoChoice}
+use Rattle.choice_laws.specs.Capacities.{withCapacities, Chooses, LeastOfAll, NoChoice}
+use Rattle.verdict_laws.specs.Acceptances.{AllGood}
 use Rattle.lists.proofs.All.{and-left, and-right, and-true, all-at}
 use Rattle.lists.proofs.Search.{Says, least-says}
 use Rattle.lists.proofs.Sum.{sum-le}
@@ -39,11 +38,10 @@ use Rattle.plan.proofs.Order.{plan-in}
 use Rattle.plan.proofs.PeriodicLaws.{starts-in-order, starts-periodic, none-deferrable}
 use Rattle.plan.proofs.Placed.{in-list, placed-there, placed-other}
 use Rattle.response.proofs.ColumnsLaws.{interference-grows, accepted-is}
-use Rattle.verdict_laws.specs.Acceptances.{AllGood}
 use Rattle.verdict_laws.proofs.Acceptances.{acceptance-means, accepted-order, good-accepted, accepted-good, acceptance-only}
 use Rattle.capacity.proofs.Capacity.{works-split}
 use Rattle.choice_laws.proofs.Less.{accepted-less}
-use Rattle.choice_laws.proofs.Stages.{Stage, stage-first, stage-last, Least, least-of, stage-next, chosen-stage}
+use Rattle.choice_laws.proofs.Stages.{Stage, stage-first, stage-last, least-of, stage-next, chosen-stage}
 
 -- costs that are no more ask no more
 asked-cheaper : (cost cost′ every late : ℕ → ℕ) (n v : ℕ) → ((j : ℕ) → j < n → cost j ≤ cost′ j)

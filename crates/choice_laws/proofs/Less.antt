@@ -1,10 +1,9 @@
 -- A guest that is accepted under guests stays so under guests that take no more from any window. Assumes nothing.
-use mathlib.Core.Path.{_≡_, refl, sym, _∙_, ap}
-use mathlib.Core.Bool.{true, false≢true, _&&_}
-use Prim.Native.Nat.{ℕ, _+_, _≤_, _<_}
+use mathlib.Core.Path.{_≡_, refl, ap}
+use mathlib.Core.Bool.{true, false≢true}
+use Prim.Native.Nat.{ℕ, _≤_, _<_}
 use native.Mathlib.Nat.{le-refl}
 use native.Mathlib.Omega.{arith}
-use Rattle.lists.specs.All.{allTo}
 use Rattle.lists.specs.Search.{isAt}
 use Rattle.lists.specs.declared.Found.{Found}
 use Rattle.lists.specs.declared.Found.the-variants.{At, Nothing}
@@ -17,7 +16,7 @@ use Rattle.response.specs.Task.{systemOf}
 use Rattle.lists.proofs.All.{and-left, and-right, and-true, all-at, all-by}
 use Rattle.equation.proofs.Respond.{Roomier, respond-sooner}
 use Rattle.equation.proofs.Rise.{Grows, rise-to}
-use Rattle.equation.proofs.Solve.{Solved, Answers, solve-answers, solve-by}
+use Rattle.equation.proofs.Solve.{Solved, solve-answers, solve-by}
 use Rattle.equation.proofs.System.{Regular}
 use Rattle.plan.proofs.Charge.{charged-least}
 use Rattle.plan.proofs.RangesLaws.{GuestIn}

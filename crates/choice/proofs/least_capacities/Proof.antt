@@ -6,7 +6,6 @@ use Rattle.plan.specs.declared.Refusal.{Refusal}
 use Rattle.plan.specs.Periodic.{startRefusal}
 use Rattle.plan.proofs.PeriodicLaws.{starts-in-order, starts-periodic}
 use Rattle.choice.proofs.CapacitiesLaws.{choice-refused, choice-made}
-use borrow.Author.Needs.{needs}
 use Rattle.choice.proofs.least_capacities.Statement.{statement}
 use Rattle.choice.proofs.least_capacities.Tie as tie
 

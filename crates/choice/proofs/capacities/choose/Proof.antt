@@ -6,7 +6,7 @@ use native.Mathlib.Omega.{arith}
 use borrow.Author.Needs.{needs}
 use Rattle.plan.specs.Placed.{withGuest}
 use Rattle.capacity.specs.Capacity.{smallest}
-use Rattle.choice.specs.Capacities.{ticksOf}
+use Rattle.response.specs.Window.{ticksOf}
 use Rattle.choice.proofs.CapacitiesLaws.{Goes, goes-first, turn-few, turn-seated, turn-tasks, turn-search, turn-none, turn-next, goes-end}
 use Rattle.choice.proofs.capacities.choose.Statement.{statement}
 use Rattle.choice.proofs.capacities.choose.Tie as tie
