@@ -80,6 +80,11 @@ for new, names in taken.items():
             table[name] = new + "_lem"
         elif is_old(name):
             table[name] = new
+# What stands between an operator's holes is spelled as the operator is.
+for name in [n for n in table if "◌" in n]:
+    for part, new in zip(name.split("◌"), table[name].split("◌")):
+        if part != new:
+            table[part] = new
 # A field of a record is spelled plainly wherever it stands.
 for path in antt:
     if not path.endswith(("Proof.antt", "Answers.antt", "Invariants.antt")):

@@ -29,7 +29,7 @@ known_at plan sheet k = is_found_at (first_with plan (id_at sheet k)) (place_in 
 
 -- The number that the sheet's block k is refused by once all blocks were read.
 unfoldable pub foreign_number : (plan sheet : List ℕ) → ℕ → ℕ
-foreign_number plan sheet k = refusal (known_at plan sheet k orRefuse 16 ∷ [])
+foreign_number plan sheet k = refusal (known_at plan sheet k or_refuse 16 ∷ [])
 
 -- The sheet's refusal: 1, then block by block 2, 3 by the kind alone, 4, 5, 6; then, block by block, 16.
 unfoldable pub sheet_refusal : (plan sheet : List ℕ) → Refusal

@@ -1,5 +1,7 @@
 // Amendments tried against a standing plan: the pair of a plan and a sheet of blocks, both lent, answered for as the
 // plan with those blocks in the place of its own.
+#![tactic(auto)]
+
 ghost use Rattle.amendment.specs.Promises.{LocatesIn, FindsIn, GuestJudgedIn, TaskJudgedIn, AcceptsPair, SizedIn};
 
 use capacity::CapacityAnswer;
@@ -14,7 +16,7 @@ pub use records::read; // Inner: the exports hand the amended plan to those of a
 // A refusal's number and place, or number 0 and a found block's place; `sheet` is 1 where the place is one in the
 // sheet, 0 where it is one in the plan.
 #[repr(C)]
-#[derive(Drop)]
+#[derive(Clone, Copy)]
 pub struct Located {
     pub number: u32,
     pub place: u32,
@@ -22,7 +24,7 @@ pub struct Located {
 }
 
 // A pair read: the refusal, or where it has number 0 the amended plan.
-#[derive(Drop)]
+#[derive(Clone, Copy)]
 pub struct Paired {
     pub refusal: Located,
     pub plan: Plan,

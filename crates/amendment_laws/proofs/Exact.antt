@@ -29,7 +29,7 @@ use Rattle.amendment_laws.proofs.Ids.{one_place}
 module _ (plan sheet : List ℕ) (k : ℕ) (ok : (file_refusal plan).number ≡ 0) where
   -- What 16's test says, by what the search for the block's id found.
   fails_by : (f : Found) → first_with plan (id_at sheet k) ≡ f
-      → (is_found_at f (place_in (block_at sheet k)) ≡ false) exactlyWhen Foreign plan sheet k
+      → (is_found_at f (place_in (block_at sheet k)) ≡ false) exactly_when Foreign plan sheet k
   unfolding is_found_at
   fails_by Nothing e =
       let w : Nowhere (λ j. eqb (id_at plan j) (id_at sheet k)) (blocks_in plan) 0 =
@@ -50,7 +50,7 @@ module _ (plan sheet : List ℕ) (k : ℕ) (ok : (file_refusal plan).number ≡ 
       )
 
   -- 16, of block k: its id is not in the plan, or its place is not its guest's.
-  pub foreign_exactly : (foreign_number plan sheet k ≡ 16) exactlyWhen Foreign plan sheet k
+  pub foreign_exactly : (foreign_number plan sheet k ≡ 16) exactly_when Foreign plan sheet k
   unfolding foreign_number among
   foreign_exactly =
       given_first (known_at plan sheet k) 16 [] (omega arith) refl
@@ -60,11 +60,11 @@ module _ (plan sheet : List ℕ) where
   other_number : (n k : ℕ) → (16 ≡ suc n → ⊥) → foreign_number plan sheet k ≡ suc n → ⊥
   unfolding foreign_number among
   other_number n k d e =
-      not_given (known_at plan sheet k orRefuse 16 ∷ []) (suc n) (omega arith) (rw (ne_eqb 16 (suc n) d) refl) e
+      not_given (known_at plan sheet k or_refuse 16 ∷ []) (suc n) (omega arith) (rw (ne_eqb 16 (suc n) d) refl) e
 
   -- 1 to 6 of the sheet are those of reading its blocks.
   pub sheet_exactly : (n k : ℕ) → suc n ≤ 6
-      → (sheet_refusal plan sheet ≡ refused (suc n) k) exactlyWhen (blocks_refusal false sheet ≡ refused (suc n) k)
+      → (sheet_refusal plan sheet ≡ refused (suc n) k) exactly_when (blocks_refusal false sheet ≡ refused (suc n) k)
   unfolding sheet_refusal or_else
   sheet_exactly n k l = (
     by (blocks_refusal false sheet).number (blocks_refusal false sheet).place,
@@ -81,7 +81,7 @@ module _ (plan sheet : List ℕ) where
   -- 16 at position k: all blocks of the sheet are read, and block k is the first of no guest of the plan.
   pub sixteen_exactly : (k : ℕ)
       → (sheet_refusal plan sheet ≡ refused 16 k)
-      exactlyWhen
+      exactly_when
       (((blocks_refusal false sheet).number ≡ 0) × FirstAt (foreign_number plan sheet) (blocks_in sheet) 0 16 k)
   unfolding sheet_refusal
   sixteen_exactly k = (
@@ -112,7 +112,7 @@ of_sheet (suc x) q y z n k e = absurd (let d : ◌≡◌ {A = ℕ} 0 1 = ap (λ 
 
 module _ (plan sheet : List ℕ) (n k : ℕ) where
   -- The plan's refusals come first.
-  pub plan_first : (pair_refusal plan sheet ≡ in_plan (suc n) k) exactlyWhen (file_refusal plan ≡ refused (suc n) k)
+  pub plan_first : (pair_refusal plan sheet ≡ in_plan (suc n) k) exactly_when (file_refusal plan ≡ refused (suc n) k)
   unfolding pair_refusal refused_by
   plan_first = (
     of_plan (file_refusal plan).number (file_refusal plan).place (sheet_refusal plan sheet).number
@@ -123,7 +123,7 @@ module _ (plan sheet : List ℕ) (n k : ℕ) where
   -- The sheet's come where the plan has none.
   pub sheet_second :
       (pair_refusal plan sheet ≡ in_sheet (suc n) k)
-      exactlyWhen (((file_refusal plan).number ≡ 0) × (sheet_refusal plan sheet ≡ refused (suc n) k))
+      exactly_when (((file_refusal plan).number ≡ 0) × (sheet_refusal plan sheet ≡ refused (suc n) k))
   unfolding pair_refusal refused_by
   sheet_second = (
     of_sheet (file_refusal plan).number (file_refusal plan).place (sheet_refusal plan sheet).number

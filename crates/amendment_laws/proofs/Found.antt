@@ -153,7 +153,7 @@ module _ (plan sheet : List ℕ) (ok : Fine plan sheet) (id : ℕ) where
 
   -- In the sheet at position j: block j of the sheet has the id.
   pub in_sheet_exactly : (j : ℕ)
-      → (pair_place plan sheet id ≡ in_sheet 0 j) exactlyWhen ((j < blocks_in sheet) × (id_at sheet j ≡ id))
+      → (pair_place plan sheet id ≡ in_sheet 0 j) exactly_when ((j < blocks_in sheet) × (id_at sheet j ≡ id))
   unfolding standing
   in_sheet_exactly j = (
     λ e. found_at sheet id j (from_sheet _ (first_with plan id) j (sym stands ∙ e)),
@@ -163,7 +163,7 @@ module _ (plan sheet : List ℕ) (ok : Fine plan sheet) (id : ℕ) where
   -- In the plan at place k: no block of the sheet has the id, and block k of the plan has it.
   pub in_plan_exactly : (k : ℕ)
       → (pair_place plan sheet id ≡ in_plan 0 k)
-      exactlyWhen ((HasId sheet id → ⊥) × ((k < blocks_in plan) × (id_at plan k ≡ id)))
+      exactly_when ((HasId sheet id → ⊥) × ((k < blocks_in plan) × (id_at plan k ≡ id)))
   unfolding standing
   in_plan_exactly k = (
     λ e. let o = from_plan _ _ k (sym stands ∙ e) in (none_by sheet o.0, found_at plan id k o.1),
@@ -173,7 +173,7 @@ module _ (plan sheet : List ℕ) (ok : Fine plan sheet) (id : ℕ) where
   )
 
   -- 7: the plan has no guest of that id.
-  pub seven_exactly : (pair_place plan sheet id ≡ in_plan 7 0) exactlyWhen (HasId plan id → ⊥)
+  pub seven_exactly : (pair_place plan sheet id ≡ in_plan 7 0) exactly_when (HasId plan id → ⊥)
   unfolding standing
   seven_exactly = (
     λ e. none_by plan (from_none (first_with sheet id) _ (sym stands ∙ e)),

@@ -1,4 +1,6 @@
 // The dispatcher's numbers in lent arrays: the parts of a tick, and where it went.
+#![tactic(auto)]
+
 mod jobs;
 mod server;
 mod usage;

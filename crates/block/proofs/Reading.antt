@@ -107,7 +107,7 @@ marks_are b w kind n p q s h l = marks_by (eqb kind extended_kind) w n h l ∙ r
 
 -- In kind 2 the tasks alone can have marks, and the server is one of two.
 pub marks_of_two : (b : List ℕ) → kind_in b ≡ extended_kind
-    → (marks_ok b ≡ true) exactlyWhen ((marks_in b < 2 ^ task_count b) × (server_half b ≤ deferrable_server))
+    → (marks_ok b ≡ true) exactly_when ((marks_in b < 2 ^ task_count b) × (server_half b ≤ deferrable_server))
 unfolding marks_ok
 marks_of_two b e =
     rw (eq-eqb (kind_in b) extended_kind e) (
@@ -120,7 +120,7 @@ marks_of_two b e =
 
 -- In another kind nothing can have marks, and the server is Periodic.
 pub marks_of_other : (b : List ℕ) → (kind_in b ≡ extended_kind → ⊥)
-    → (marks_ok b ≡ true) exactlyWhen (word b marks_server_word ≡ 0)
+    → (marks_ok b ≡ true) exactly_when (word b marks_server_word ≡ 0)
 unfolding marks_ok
 marks_of_other b n =
     rw (ne_eqb (kind_in b) extended_kind n) (

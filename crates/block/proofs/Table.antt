@@ -52,7 +52,7 @@ pub byte_of : (b : List ℕ) (i : ℕ) → word b (i / 4) ≡ 0 → nth b i ≡ 
 byte_of b i e = let q : 4 * (i / 4) + i % 4 ≡ i = omega arith in rw q at (byte_at b (i / 4) (i % 4) (omega arith) e)
 
 -- The words from one on, up to another, are zero exactly when their bytes are.
-pub zero_bytes : (b : List ℕ) (from to : ℕ) → (zero_between b from to ≡ true) exactlyWhen ZeroBytes b (4 * from) (4 * to)
+pub zero_bytes : (b : List ℕ) (from to : ℕ) → (zero_between b from to ≡ true) exactly_when ZeroBytes b (4 * from) (4 * to)
 zero_bytes b from to = (
   λ e i l h. byte_of b i (zero_at b from to (i / 4) (omega arith) (omega arith) e),
   λ h.
@@ -68,7 +68,7 @@ zero_bytes b from to = (
 
 -- A block of kind 2 has marks of which none is past the tasks, a server beside them, and zero in byte 23.
 extended_stand : (b : List ℕ) → Bytes b → kind_in b ≡ extended_kind
-    → (marks_ok b ≡ true) exactlyWhen ((u16_at b 20 < 2 ^ task_count b) × ((nth b 22 ≤ 1) × (nth b 23 ≡ 0)))
+    → (marks_ok b ≡ true) exactly_when ((u16_at b 20 < 2 ^ task_count b) × ((nth b 22 ≤ 1) × (nth b 23 ≡ 0)))
 extended_stand b h t =
     let low = low_bytes b marks_server_word h in
     let high = high_bytes b marks_server_word h in (
@@ -79,7 +79,7 @@ extended_stand b h t =
     )
 
 -- A block of another kind has zero there.
-plain_stand : (b : List ℕ) → (kind_in b ≡ extended_kind → ⊥) → (marks_ok b ≡ true) exactlyWhen ZeroBytes b 20 24
+plain_stand : (b : List ℕ) → (kind_in b ≡ extended_kind → ⊥) → (marks_ok b ≡ true) exactly_when ZeroBytes b 20 24
 unfolding zero_between all_to
 plain_stand b t =
     let zero = zero_bytes b marks_server_word spare_from in (
@@ -96,7 +96,7 @@ pub record MarksStand (b : List ℕ) (n : ℕ) : Type 0 where
   pub served : u16_at b 0 ≡ 2 → nth b 22 ≤ 1
   pub last : nth b 23 ≡ 0
 
-marks_stand : (b : List ℕ) → Bytes b → (marks_ok b ≡ true) exactlyWhen MarksStand b (task_count b)
+marks_stand : (b : List ℕ) → Bytes b → (marks_ok b ≡ true) exactly_when MarksStand b (task_count b)
 marks_stand b h =
     let k = low_bytes b kind_place_word h in
     elim (ℕ_discrete (kind_in b) extended_kind) [
@@ -125,7 +125,7 @@ marks_stand b h =
 
 -- The bytes that must be zero: the words past the tasks are the entries past them and the bytes past the entries.
 zeros_stand : (b : List ℕ) → Bytes b → task_count b ≤ most_tasks
-    → (zeros_ok b ≡ true) exactlyWhen ZerosStand b (task_count b)
+    → (zeros_ok b ≡ true) exactly_when ZerosStand b (task_count b)
 zeros_stand b h few =
     let marks = marks_stand b h in
     let spare = zero_bytes b spare_from spare_to in

@@ -96,9 +96,9 @@ zeros_ok b = marks_ok b && zero_between b spare_from spare_to && zero_between b 
 unfoldable pub block_number : List ℕ → (placeOk new_id : Bool) → ℕ
 block_number b placeOk new_id =
     refusal (
-    sums_to_zero b orRefuse 2
-    ∷ (kind_ok b && placeOk) orRefuse 3
-    ∷ (guest_ok (guest_of b) && new_id) orRefuse 4
-    ∷ zeros_ok b orRefuse 5
-    ∷ tasks_ok (guest_of b) orRefuse 6
+    sums_to_zero b or_refuse 2
+    ∷ (kind_ok b && placeOk) or_refuse 3
+    ∷ (guest_ok (guest_of b) && new_id) or_refuse 4
+    ∷ zeros_ok b or_refuse 5
+    ∷ tasks_ok (guest_of b) or_refuse 6
     ∷ [])

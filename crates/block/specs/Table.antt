@@ -39,5 +39,5 @@ pub record InBytes (b : List ℕ) : Type 0 where
   pub run : (i : ℕ) → i < most_tasks → run_of (guest_of b) i ≡ u32_at b (32 + 12 * i)
   pub every : (i : ℕ) → i < most_tasks → every_of (guest_of b) i ≡ u32_at b (36 + 12 * i)
   pub deadline : (i : ℕ) → i < most_tasks → deadline_of (guest_of b) i ≡ u32_at b (40 + 12 * i)
-  pub zeros : (guest_of b).tasks ≤ most_tasks → (zeros_ok b ≡ true) exactlyWhen ZerosStand b (guest_of b).tasks
-  pub check : (sums_to_zero b ≡ true) exactlyWhen ((sum_to (λ k. u32_at b (4 * k)) 127 + u32_at b 508) % word_wrap ≡ 0)
+  pub zeros : (guest_of b).tasks ≤ most_tasks → (zeros_ok b ≡ true) exactly_when ZerosStand b (guest_of b).tasks
+  pub check : (sums_to_zero b ≡ true) exactly_when ((sum_to (λ k. u32_at b (4 * k)) 127 + u32_at b 508) % word_wrap ≡ 0)

@@ -1,4 +1,6 @@
 // The layout of a guest's block of 512 bytes, and one read into a record. Inner.
+#![tactic(auto)]
+
 pub mod layout;
 mod reader;
 

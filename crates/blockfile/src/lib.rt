@@ -1,5 +1,7 @@
 // Blocks one after the other: the refusal of reading them, one of them by its place or its id, and their records.
 // Inner.
+#![tactic(auto)]
+
 mod files;
 mod guests;
 

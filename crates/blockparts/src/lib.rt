@@ -1,4 +1,6 @@
 // What plan blocks and log blocks have in common when they are written: an entry of three words, and the check. Inner.
+#![tactic(auto)]
+
 ghost use Rattle.std.specs.Prelude.{◌≡◌, ◌+◌, ◌*◌, ◌≤◌, length};
 ghost use Rattle.words.specs.Word.{word};
 ghost use Rattle.words.specs.Bytes.{with_word};

@@ -57,11 +57,11 @@ block_of g place = bytes_of (nth (with_check (words_of g place))) block_words
 unfoldable pub write_number : Guest → (place size : ℕ) → ℕ
 write_number g place size =
     refusal (
-    leb block_size size orRefuse 12
-    ∷ leb place last_place orRefuse 3
-    ∷ guest_ok g orRefuse 4
-    ∷ tasks_ok g orRefuse 6
-    ∷ is_periodic g orRefuse 23
+    leb block_size size or_refuse 12
+    ∷ leb place last_place or_refuse 3
+    ∷ guest_ok g or_refuse 4
+    ∷ tasks_ok g or_refuse 6
+    ∷ is_periodic g or_refuse 23
     ∷ [])
 
 -- Numbers 2 to 6 come with the place, all others with place 0.

@@ -1,4 +1,6 @@
 // One guest's block of 512 bytes, written from a record.
+#![tactic(auto)]
+
 ghost use Rattle.std.specs.Prelude.{◌≡◌};
 ghost use Rattle.blockwriter.specs.Writing.{with_place};
 ghost use Rattle.blockwriter.specs.Promises.{Writes};

@@ -21,8 +21,8 @@ use Rattle.capacity.specs.Told.{capacity_told, CapacityTells}
 
 -- 11 is the last of the tests, and fails where nothing was found
 last_test : (x k : ℕ) (b : Bool) (f : Found)
-    → capacity_told (refuse_or Refused (or_else x k (refused (refusal (b orRefuse 7 ∷ [])) 0)) (capacity_says f))
-    ≡ refuse_or refusing (or_else x k (refused (refusal (b orRefuse 7 ∷ is_at f orRefuse 11 ∷ [])) 0)) (saying (value_of f))
+    → capacity_told (refuse_or Refused (or_else x k (refused (refusal (b or_refuse 7 ∷ [])) 0)) (capacity_says f))
+    ≡ refuse_or refusing (or_else x k (refused (refusal (b or_refuse 7 ∷ is_at f or_refuse 11 ∷ [])) 0)) (saying (value_of f))
 unfolding capacity_told refused_by or_else refusal unless
 last_test zero k true (At c) = refl
 last_test zero k true Nothing = refl

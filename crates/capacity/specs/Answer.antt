@@ -19,4 +19,4 @@ capacity_says Nothing = Refused 11 0
 -- the smallest capacity of a guest: the records' order, then 7, then 11
 unfoldable pub smallest_capacity : Plan → ℕ → CapacityAnswer
 smallest_capacity p id =
-    refuse_or Refused (records_then p (has_guest p id orRefuse 7 ∷ [])) (capacity_says (smallest p (place_of p id)))
+    refuse_or Refused (records_then p (has_guest p id or_refuse 7 ∷ [])) (capacity_says (smallest p (place_of p id)))

@@ -20,5 +20,5 @@ capacity_told (Smallest c) = saying (c ∷ [])
 abbrev pub CapacityTells : Plan → ℕ → CapacityAnswer → Type 0
 CapacityTells p id r =
     let found = smallest p (place_of p id) in
-    capacity_told r ≡ refuse_or refusing (records_then p (has_guest p id orRefuse 7 ∷ is_at found orRefuse 11 ∷ []))
+    capacity_told r ≡ refuse_or refusing (records_then p (has_guest p id or_refuse 7 ∷ is_at found or_refuse 11 ∷ []))
     (saying (value_of found))

@@ -1,4 +1,6 @@
 // The smallest capacity at which a guest is fitted and all its tasks are met.
+#![tactic(auto)]
+
 ghost use Rattle.capacity.specs.Promises.{Sized};
 
 use plan::{Plan, check, columns_of};
@@ -12,7 +14,7 @@ pub use placing::smallest_capacity_in; // Inner: for the calls in place.
 pub use settling::smallest_at; // Inner: for choices, which search guest by guest.
 
 // The answer: a refusal's number and place; the smallest capacity.
-#[derive(Drop)]
+#[derive(Clone, Copy)]
 pub enum CapacityAnswer {
     Refused(u32, u32),
     Smallest(u32),

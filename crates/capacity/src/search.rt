@@ -13,7 +13,7 @@ use response::{gaps_of, guest_response, task_response};
 const FEW: u32 = 32;
 
 // The capacities left to try, from lo on and below hi, and the smallest so far that works, or 0.
-#[derive(Drop)]
+#[derive(Clone, Copy)]
 struct Span {
     lo: u32,
     hi: u32,

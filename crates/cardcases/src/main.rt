@@ -1,6 +1,8 @@
 // Plan files salvaged and converted: cards with blocks damaged, lost, out of place and repeated, and old cards.
 // Standard input has the cases, a line for each guest, task, damage or call: its first letter says which. Each line is
 // written out again, a call with its outcome; a line that starts with # says why the outcome is right and is left out.
+#![tactic(auto)]
+
 use casework::damage;
 use draft::text;
 use draft::text::Row;
@@ -11,7 +13,7 @@ mod looking;
 mod saving;
 
 // What is in hand: the plan, the card's bytes, and the line.
-#[derive(Drop)]
+#[derive(Clone, Copy)]
 struct Desk {
     plan: Plan,
     file: [u8; 4608],

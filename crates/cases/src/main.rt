@@ -3,6 +3,8 @@
 // Standard input has the cases, a line for each guest, task or call: its first letter says which. Each line is
 // written out again, a call with its outcome;
 // a line that starts with # says why the outcome is right and is left out.
+#![tactic(auto)]
+
 use dispatcher::Dispatcher;
 use draft::text;
 use draft::text::Row;

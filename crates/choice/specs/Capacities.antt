@@ -27,4 +27,4 @@ chosen_from given p (suc m) k =
 -- The least capacities: the records' order, then 23 for a Deferrable guest, then 11 with the place of the first guest at
 -- which none works, each with the plan as it was; else the plan with them.
 unfoldable pub least_capacities : Plan → Chosen
-least_capacities p = refuse_or (answering p) (records_then p (all_periodic p orRefuse 23 ∷ [])) (chosen_from p p p.count 0)
+least_capacities p = refuse_or (answering p) (records_then p (all_periodic p or_refuse 23 ∷ [])) (chosen_from p p p.count 0)

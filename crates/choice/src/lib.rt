@@ -1,4 +1,6 @@
 // Choosing a plan's numbers: the least capacities at which it is accepted.
+#![tactic(auto)]
+
 ghost use Rattle.choice.specs.Promises.{ChoosesCapacities};
 
 use plan::{Plan, Refusal};
@@ -9,7 +11,7 @@ mod capacities;
 // The answer: the refusal, whose number is 0 where there is none, and the plan with the numbers chosen, or on a refusal
 // as it was.
 #[repr(C)]
-#[derive(Drop)]
+#[derive(Clone, Copy)]
 pub struct Chosen {
     pub refusal: Refusal,
     pub plan: Plan,

@@ -8,7 +8,7 @@ use Rattle.conversion.specs.Converting.{converted_bytes}
 
 -- The number that an output of so many bytes is refused by: 12 where it is shorter than the plan.
 unfoldable pub room_number : (size room : ℕ) → ℕ
-room_number size room = refusal (leb size room orRefuse 12 ∷ [])
+room_number size room = refusal (leb size room or_refuse 12 ∷ [])
 
 -- The converter's refusal for an output of so many bytes: the reading order, then 12.
 unfoldable pub convert_refusal : List ℕ → (room : ℕ) → Refusal

@@ -1,4 +1,6 @@
 // A plan's bytes converted: every Deferrable guest is made a Periodic one with the same numbers.
+#![tactic(auto)]
+
 ghost use Rattle.std.specs.Prelude.{◌≡◌};
 ghost use Rattle.conversion.specs.Outcome.{convert_refusal};
 ghost use Rattle.conversion.specs.Promises.{Converts};

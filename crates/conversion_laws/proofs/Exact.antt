@@ -22,7 +22,7 @@ module _ (s : List ℕ) (room : ℕ) where
 
   -- 12: the bytes read as a plan, and the output is shorter than it.
   pub twelve_exactly : ((convert_refusal s room).number ≡ 12)
-      exactlyWhen (((file_refusal s).number ≡ 0) × (room < length s))
+      exactly_when (((file_refusal s).number ≡ 0) × (room < length s))
   twelve_exactly = (
     λ e.
         elim (dec_lt 0 (file_refusal s).number) [
@@ -45,7 +45,7 @@ module _ (s : List ℕ) (room : ℕ) where
   twelve_place e = let h = twelve_exactly.0 e in sym (twelve s room (omega (arith, h.0)) h.1)
 
   -- No refusal: the bytes read as a plan, and the output has room for it.
-  pub none_exactly : (convert_refusal s room ≡ fine) exactlyWhen (((file_refusal s).number ≡ 0) × (length s ≤ room))
+  pub none_exactly : (convert_refusal s room ≡ fine) exactly_when (((file_refusal s).number ≡ 0) × (length s ≤ room))
   none_exactly = (
     λ e. convert_in s room (ap (λ (r : Refusal). r.number) e),
     λ h. sym (none s room (omega (arith, h.0)) h.1),

@@ -1,5 +1,7 @@
 // The public entries for C and Rust: numbers and structs by value, the case of an enum as a number.
 // Of what the finder gives, the place alone crosses.
+#![tactic(auto)]
+
 use dispatcher::Dispatcher;
 use plan::Refusal;
 
@@ -17,7 +19,7 @@ mod telling;
 
 // A verdict with its ticks under number 0, or a refusal's number and place with both 0.
 #[repr(C)]
-#[derive(Drop)]
+#[derive(Clone, Copy)]
 pub struct Verdict {
     pub number: u32,
     pub place: u32,
@@ -27,7 +29,7 @@ pub struct Verdict {
 
 // Who had a tick, by its kind; a field that means nothing for the kind is 0.
 #[repr(C)]
-#[derive(Drop)]
+#[derive(Clone, Copy)]
 pub struct Told {
     pub kind: u32,
     pub guest: u32,
@@ -38,7 +40,7 @@ pub struct Told {
 
 // What one tick gives: the next state, the refusal or number 0, and who had the tick.
 #[repr(C)]
-#[derive(Drop)]
+#[derive(Clone, Copy)]
 pub struct Tick {
     pub state: Dispatcher,
     pub refusal: Refusal,
@@ -47,7 +49,7 @@ pub struct Tick {
 
 // What a run gives: the refusal or number 0, the ticks done, who had the last of them, and the next state.
 #[repr(C)]
-#[derive(Drop)]
+#[derive(Clone, Copy)]
 pub struct Run {
     pub refusal: Refusal,
     pub done: u32,
@@ -57,7 +59,7 @@ pub struct Run {
 
 // What one tick in place gives: the number of its refusal, or 0, and who had the tick.
 #[repr(C)]
-#[derive(Drop)]
+#[derive(Clone, Copy)]
 pub struct TickIn {
     pub number: u32,
     pub answer: Told,
@@ -65,7 +67,7 @@ pub struct TickIn {
 
 // What a run in place gives: the number of its refusal, or 0, the ticks done, and who had the last of them.
 #[repr(C)]
-#[derive(Drop)]
+#[derive(Clone, Copy)]
 pub struct RunIn {
     pub number: u32,
     pub done: u32,

@@ -22,7 +22,7 @@ ticked_by (suc n) d = record { refusal = refused (suc n) 0; answer = Silent; sta
 
 -- a tick
 unfoldable pub tick : Dispatcher → Ticked
-tick d = ticked_by (refusal (state_ok d orRefuse 14 ∷ [])) d
+tick d = ticked_by (refusal (state_ok d or_refuse 14 ∷ [])) d
 
 -- the outcome of a run of n ticks by the number that it is refused by
 unfoldable pub ran_by : ℕ → Dispatcher → ℕ → Ran
@@ -31,4 +31,4 @@ ran_by (suc x) d n = record { refusal = refused (suc x) 0; done = 0; answer = Si
 
 -- a run of n ticks
 unfoldable pub run : Dispatcher → ℕ → Ran
-run d n = ran_by (refusal (state_ok d orRefuse 14 ∷ leb n longest_run orRefuse 13 ∷ [])) d n
+run d n = ran_by (refusal (state_ok d or_refuse 14 ∷ leb n longest_run or_refuse 13 ∷ [])) d n

@@ -31,12 +31,12 @@ unfoldable pub release_number : Dispatcher → ℕ → ℕ → ℕ
 release_number d id task =
     let k = place_of d.plan id in
     refusal (
-    state_ok d orRefuse 14
-    ∷ has_guest d.plan id orRefuse 7
-    ∷ has_task d.plan id task orRefuse 8
-    ∷ may_start (guest_in d k) (nth d.position k) (task - 1) orRefuse 17
-    ∷ eqb (wait_at d k (task - 1)) 0 orRefuse 9
-    ∷ eqb (rest_at d k (task - 1)) 0 orRefuse 10
+    state_ok d or_refuse 14
+    ∷ has_guest d.plan id or_refuse 7
+    ∷ has_task d.plan id task or_refuse 8
+    ∷ may_start (guest_in d k) (nth d.position k) (task - 1) or_refuse 17
+    ∷ eqb (wait_at d k (task - 1)) 0 or_refuse 9
+    ∷ eqb (rest_at d k (task - 1)) 0 or_refuse 10
     ∷ [])
 
 -- the outcome by that number: taken, or the state as it was

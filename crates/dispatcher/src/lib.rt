@@ -1,4 +1,6 @@
 // The dispatcher: its state by value, and the calls that take it and give it back.
+#![tactic(auto)]
+
 mod answering;
 mod releasing;
 mod running;
@@ -14,7 +16,7 @@ pub use starting::start_in; // Inner: as above.
 // for task t of guest g, at place 16 g + t, the run left, the wait and the age.
 // Beside them where the ticks went: guest g's at place g, those of them that it idled away at 8 + g, nobody's at 16.
 #[repr(C)]
-#[derive(Drop)]
+#[derive(Clone, Copy)]
 pub struct Dispatcher {
     pub plan: Plan,
     pub usage: [u64; 17],
@@ -27,7 +29,7 @@ pub struct Dispatcher {
 
 // Who had a tick: nobody; a guest that idled it away; a task; a task that finished, with its age and margin.
 // Silent where there was no tick.
-#[derive(Drop)]
+#[derive(Clone, Copy)]
 pub enum Answer {
     Silent,
     Nobody,
@@ -42,7 +44,7 @@ pub enum Answer {
 }
 
 // What a run over lent arrays gives beside them.
-#[derive(Drop)]
+#[derive(Clone, Copy)]
 pub struct RunOutcome {
     pub number: u32,
     pub done: u32,
@@ -50,27 +52,27 @@ pub struct RunOutcome {
 }
 
 #[repr(C)]
-#[derive(Drop)]
+#[derive(Clone, Copy)]
 pub struct Started {
     pub refusal: Refusal,
     pub state: Dispatcher,
 }
 
 #[repr(C)]
-#[derive(Drop)]
+#[derive(Clone, Copy)]
 pub struct Released {
     pub refusal: Refusal,
     pub state: Dispatcher,
 }
 
-#[derive(Drop)]
+#[derive(Clone, Copy)]
 pub struct Ticked {
     pub state: Dispatcher,
     pub refusal: Refusal,
     pub answer: Answer,
 }
 
-#[derive(Drop)]
+#[derive(Clone, Copy)]
 pub struct Ran {
     pub refusal: Refusal,
     pub done: u32,

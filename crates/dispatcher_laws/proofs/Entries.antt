@@ -21,7 +21,7 @@ use Rattle.lists.proofs.Refusals.{none_left, go_on, stop}
 
 -- ---- a tick
 -- A tick of a state in its ranges has no number.
-tick_number : (d : Dispatcher) → state_ok d ≡ true → refusal (state_ok d orRefuse 14 ∷ []) ≡ 0
+tick_number : (d : Dispatcher) → state_ok d ≡ true → refusal (state_ok d or_refuse 14 ∷ []) ≡ 0
 tick_number d e = go_on 14 [] e ∙ none_left
 
 module _ (d : Dispatcher) (ok : state_ok d ≡ true) where
@@ -48,11 +48,11 @@ tick_same (suc n) d h = refl
 
 -- ---- a run
 -- A run of at most 1,000,000 ticks of a state in its ranges has no number.
-run_number : (n : ℕ) (d : Dispatcher) → state_ok d ≡ true → n ≤ longest_run → refusal (state_ok d orRefuse 14 ∷ leb n longest_run orRefuse 13 ∷ []) ≡ 0
+run_number : (n : ℕ) (d : Dispatcher) → state_ok d ≡ true → n ≤ longest_run → refusal (state_ok d or_refuse 14 ∷ leb n longest_run or_refuse 13 ∷ []) ≡ 0
 run_number n d ok h = go_on 14 _ ok ∙ go_on 13 [] (le-leb n longest_run h) ∙ none_left
 
 -- A longer run of a state in its ranges has 13.
-run_too_long : (n : ℕ) (d : Dispatcher) → state_ok d ≡ true → longest_run < n → refusal (state_ok d orRefuse 14 ∷ leb n longest_run orRefuse 13 ∷ []) ≡ 13
+run_too_long : (n : ℕ) (d : Dispatcher) → state_ok d ≡ true → longest_run < n → refusal (state_ok d or_refuse 14 ∷ leb n longest_run or_refuse 13 ∷ []) ≡ 13
 run_too_long n d ok h = go_on 14 _ ok ∙ stop 13 [] (lt-leb n longest_run h)
 
 -- A run of at most 1,000,000 ticks of a state in its ranges is the rule's run.

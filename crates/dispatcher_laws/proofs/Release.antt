@@ -81,9 +81,9 @@ module _ (d : Dispatcher) (id k t : ℕ) (ok : state_ok d ≡ true) (guest : pla
   past_8 :
       release_number d id (suc t)
       ≡ refusal (
-      may_start (guest_in d k) (pos_at d k) t orRefuse 17
-      ∷ eqb (wait_at d k t) 0 orRefuse 9
-      ∷ eqb (rest_at d k t) 0 orRefuse 10
+      may_start (guest_in d k) (pos_at d k) t or_refuse 17
+      ∷ eqb (wait_at d k t) 0 or_refuse 9
+      ∷ eqb (rest_at d k t) 0 or_refuse 10
       ∷ [])
   unfolding release_number has_guest has_task
   past_8 =
@@ -200,7 +200,7 @@ away_says d id task e =
 -- is past position 0.
 pub away_exactly :
     (d : Dispatcher) (id task : ℕ)
-    → ((release d id task).refusal.number ≡ 17) exactlyWhen Away d id task (place_of d.plan id) (task - 1)
+    → ((release d id task).refusal.number ≡ 17) exactly_when Away d id task (place_of d.plan id) (task - 1)
 away_exactly d id task = (
   λ e. away_says d id task (sym (release_number_lem d id task) ∙ e),
   λ A.

@@ -143,7 +143,7 @@ module _ (d e : Dispatcher) (S : SameButUsage d e) where
   -- A tick of both has one outcome but for these numbers.
   pub tick_one : TickedSame (tick d) (tick e)
   unfolding tick
-  tick_one = rw (ok_one d e S) (tick_by (refusal (state_ok e orRefuse 14 ∷ [])))
+  tick_one = rw (ok_one d e S) (tick_by (refusal (state_ok e or_refuse 14 ∷ [])))
 
   -- Runs that go by one number have one outcome but for these numbers.
   run_by : (x n : ℕ) → RanSame (ran_by x d n) (ran_by x e n)
@@ -154,4 +154,4 @@ module _ (d e : Dispatcher) (S : SameButUsage d e) where
   -- A run of both has one outcome but for these numbers.
   pub run_one : (n : ℕ) → RanSame (run d n) (run e n)
   unfolding run
-  run_one n = rw (ok_one d e S) (run_by (refusal (state_ok e orRefuse 14 ∷ leb n longest_run orRefuse 13 ∷ [])) n)
+  run_one n = rw (ok_one d e S) (run_by (refusal (state_ok e or_refuse 14 ∷ leb n longest_run or_refuse 13 ∷ [])) n)

@@ -1,4 +1,6 @@
 // Plans made step by step, and their bytes written block by block, by the writer or as old cards have them.
+#![tactic(auto)]
+
 use block::layout;
 use plan::{Guest, Plan, Refusal};
 

@@ -8,7 +8,7 @@ const OTHER: u32 = 11;
 
 // A line as far as it is read: its first byte, its numbers, whether the last byte was a digit, and how many letters of
 // its word stand behind its numbers.
-#[derive(Drop)]
+#[derive(Clone, Copy)]
 pub struct Row {
     pub first: u8,
     pub count: u32,

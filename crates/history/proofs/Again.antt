@@ -25,10 +25,10 @@ use Rattle.plan.proofs.PeriodicLaws.{starts_in_order}
 -- says that the task may start and A that it may not: 17, 9, 10 or none, each for its own cause. Inner: it serves the
 -- proofs of this file alone.
 record Again (H A : Type 0) (n period m left : ℕ) : Type 0 where
-  pub seventeen : (n ≡ 17) exactlyWhen A
-  pub nine : (n ≡ 9) exactlyWhen (H × (m < period))
-  pub ten : (n ≡ 10) exactlyWhen (H × ((period ≤ m) × (0 < left)))
-  pub none : (n ≡ 0) exactlyWhen (H × ((period ≤ m) × (left ≡ 0)))
+  pub seventeen : (n ≡ 17) exactly_when A
+  pub nine : (n ≡ 9) exactly_when (H × (m < period))
+  pub ten : (n ≡ 10) exactly_when (H × ((period ≤ m) × (0 < left)))
+  pub none : (n ≡ 0) exactly_when (H × ((period ≤ m) × (left ≡ 0)))
 
 -- Causes that shut each other out and leave nothing out are exact: first where the task may not start.
 exact_away : {H A : Type 0} (n period m left : ℕ) → (H → A → ⊥) → A → n ≡ 17 → Again H A n period m left
@@ -131,14 +131,14 @@ module _ (p : Plan) (can : CanStart p) (id number : ℕ) (cs : List Call)
   -- release.
   pub nine_exactly :
       ((release (play ds (released p id number cs)) id number).refusal.number ≡ 9)
-      exactlyWhen (StartsHere p id number (play ds (released p id number cs))
+      exactly_when (StartsHere p id number (play ds (released p id number cs))
       × (ticks_in ds (released p id number cs) < every_by p id number))
   nine_exactly = again.nine
 
   -- It is refused by 10 exactly if the task may start, its period has passed since, and the job is unfinished.
   pub ten_exactly :
       ((release (play ds (released p id number cs)) id number).refusal.number ≡ 10)
-      exactlyWhen (StartsHere p id number (play ds (released p id number cs))
+      exactly_when (StartsHere p id number (play ds (released p id number cs))
       × ((every_by p id number ≤ ticks_in ds (released p id number cs))
       × (0 < rest_by p id number (play ds (released p id number cs)))))
   ten_exactly = again.ten
@@ -146,7 +146,7 @@ module _ (p : Plan) (can : CanStart p) (id number : ℕ) (cs : List Call)
   -- It is taken exactly if the task may start, its period has passed since, and the job is finished.
   pub taken_exactly :
       ((release (play ds (released p id number cs)) id number).refusal.number ≡ 0)
-      exactlyWhen (StartsHere p id number (play ds (released p id number cs))
+      exactly_when (StartsHere p id number (play ds (released p id number cs))
       × ((every_by p id number ≤ ticks_in ds (released p id number cs))
       × (rest_by p id number (play ds (released p id number cs)) ≡ 0)))
   taken_exactly = again.none
@@ -171,7 +171,7 @@ pub seventeen_exactly :
     → CanStart p
     → (cs : List Call)
     → ((release (play cs (start p)) id number).refusal.number ≡ 17)
-    exactlyWhen ((bound_by p id number ≡ true) × (0 < position_by p id (play cs (start p))))
+    exactly_when ((bound_by p id number ≡ true) × (0 < position_by p id (play cs (start p))))
 seventeen_exactly p id number T can cs = (
   λ e. by (here_or_away p id number (play cs (start p))) e,
   λ a. away p id number T (play cs (start p)) D a.0 a.1,

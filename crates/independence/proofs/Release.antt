@@ -32,7 +32,7 @@ use Rattle.independence.proofs.Alike.{Alike, tasks_of, in_one, in_other, same_re
 -- The number of a release once the guest is known to be there: 8, 17, 9, 10.
 abbrev own_number : Bool → (tasks wait rest task : ℕ) → ℕ
 own_number may tasks wait rest task =
-    refusal (has_number tasks task orRefuse 8 ∷ may orRefuse 17 ∷ eqb wait 0 orRefuse 9 ∷ eqb rest 0 orRefuse 10 ∷ [])
+    refusal (has_number tasks task or_refuse 8 ∷ may or_refuse 17 ∷ eqb wait 0 or_refuse 9 ∷ eqb rest 0 or_refuse 10 ∷ [])
 
 -- Where the guest is there, 14 and 7 are not given.
 number_here :

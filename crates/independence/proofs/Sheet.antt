@@ -18,7 +18,7 @@ use Rattle.sheet.proofs.Entry.{sheet_number_lem}
 
 -- The whole refusals that are left once the state is in its ranges.
 abbrev whole_number : (few room : Bool) → ℕ
-whole_number few room = refusal (few orRefuse 15 ∷ room orRefuse 12 ∷ [])
+whole_number few room = refusal (few or_refuse 15 ∷ room or_refuse 12 ∷ [])
 
 -- Where both tests pass, none is given.
 both_pass : (few room : Bool) → (few && room) ≡ true → whole_number few room ≡ 0

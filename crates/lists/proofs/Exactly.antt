@@ -36,17 +36,17 @@ not_given (t ∷ ts) n h a e =
 
 -- The first test's number is given exactly when its cause holds.
 pub given_first : (b : Bool) (n : ℕ) (ts : List Test) {A : Type 0} → 0 < n → among ts n ≡ false
-    → (b ≡ false) exactlyWhen A
-    → (refusal (b orRefuse n ∷ ts) ≡ n) exactlyWhen A
+    → (b ≡ false) exactly_when A
+    → (refusal (b or_refuse n ∷ ts) ≡ n) exactly_when A
 unfolding refusal unless
 given_first true n ts h a p = (λ e. absurd (not_given ts n h a e), λ x. absurd (false≢true (sym (p.1 x))))
 given_first false n ts h a p = (λ e. p.0 refl, λ x. refl)
 
 -- A later test's number is given exactly when the first one's cause does not hold and its own, in the order of the
 -- rest, does.
-pub given_later : (b : Bool) (n m : ℕ) (ts : List Test) {A B : Type 0} → (n ≡ m → ⊥) → (b ≡ false) exactlyWhen A
-    → (refusal ts ≡ m) exactlyWhen B
-    → (refusal (b orRefuse n ∷ ts) ≡ m) exactlyWhen (A notBut B)
+pub given_later : (b : Bool) (n m : ℕ) (ts : List Test) {A B : Type 0} → (n ≡ m → ⊥) → (b ≡ false) exactly_when A
+    → (refusal ts ≡ m) exactly_when B
+    → (refusal (b or_refuse n ∷ ts) ≡ m) exactly_when (A not_but B)
 unfolding refusal unless
 given_later true n m ts d p q = (
   λ e. (λ x. false≢true (sym (p.1 x)), q.0 e),
@@ -55,8 +55,8 @@ given_later true n m ts d p q = (
 given_later false n m ts d p q = (λ e. absurd (d e), λ h. absurd (h.0 (p.0 refl)))
 
 -- Of one test, no number is given exactly when its cause does not hold.
-pub given_none : (b : Bool) (n : ℕ) {A : Type 0} → 0 < n → (b ≡ false) exactlyWhen A
-    → (refusal (b orRefuse n ∷ []) ≡ 0) exactlyWhen (A → ⊥)
+pub given_none : (b : Bool) (n : ℕ) {A : Type 0} → 0 < n → (b ≡ false) exactly_when A
+    → (refusal (b or_refuse n ∷ []) ≡ 0) exactly_when (A → ⊥)
 unfolding refusal unless
 given_none true n h p = (λ e x. false≢true (sym (p.1 x)), λ d. refl)
 given_none false n h p = (λ e. absurd (omega arith), λ d. absurd (d (p.0 refl)))

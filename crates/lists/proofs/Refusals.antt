@@ -12,12 +12,12 @@ unfolding refusal
 none_left = refl
 
 -- a test passes: what comes after decides
-pub go_on : {b : Bool} (n : ℕ) (ts : List Test) → b ≡ true → refusal (b orRefuse n ∷ ts) ≡ refusal ts
+pub go_on : {b : Bool} (n : ℕ) (ts : List Test) → b ≡ true → refusal (b or_refuse n ∷ ts) ≡ refusal ts
 unfolding refusal unless
 go_on n ts e = rw e refl
 
 -- a test fails: the number is the test's
-pub stop : {b : Bool} (n : ℕ) (ts : List Test) → b ≡ false → refusal (b orRefuse n ∷ ts) ≡ n
+pub stop : {b : Bool} (n : ℕ) (ts : List Test) → b ≡ false → refusal (b or_refuse n ∷ ts) ≡ n
 unfolding refusal unless
 stop n ts e = rw e refl
 
@@ -25,7 +25,7 @@ stop n ts e = rw e refl
 pub passed_on :
     (b : Bool) (n m : ℕ) (ts : List Test)
     → (n ≡ m → ⊥)
-    → refusal (b orRefuse n ∷ ts) ≡ m
+    → refusal (b or_refuse n ∷ ts) ≡ m
     → (b ≡ true) × (refusal ts ≡ m)
 unfolding refusal unless
 passed_on true n m ts d e = (refl, e)
@@ -33,7 +33,7 @@ passed_on false n m ts d e = absurd (d e)
 
 -- where the number is 0 the first test passed and nothing after it refused
 pub passed :
-    (b : Bool) (n : ℕ) (ts : List Test) → 0 < n → refusal (b orRefuse n ∷ ts) ≡ 0 → (b ≡ true) × (refusal ts ≡ 0)
+    (b : Bool) (n : ℕ) (ts : List Test) → 0 < n → refusal (b or_refuse n ∷ ts) ≡ 0 → (b ≡ true) × (refusal ts ≡ 0)
 passed b n ts p e = passed_on b n 0 ts (λ q. omega arith) e
 
 -- Where tests refuse, those after them do not matter.

@@ -19,4 +19,4 @@ refusal (t ∷ ts) = unless t.passes t.number (refusal ts)
 -- one line of an order of refusals, written as a test and its number
 infixl 70 ◌or_refuse◌
 abbrev pub ◌or_refuse◌ : Bool → ℕ → Test
-passes orRefuse number = record { passes = passes; number = number }
+passes or_refuse number = record { passes = passes; number = number }

@@ -31,10 +31,10 @@ rest_zero b = eqb (word b blank_word) 0 && zero_between b (past_entries (jobs_in
 -- What is asked of a block by itself.
 abbrev pub own_tests : List ℕ → List Test
 own_tests b =
-    sums_to_zero b orRefuse 2
-    ∷ is_log b orRefuse 3
-    ∷ jobs_pass b orRefuse 18
-    ∷ rest_zero b orRefuse 5
+    sums_to_zero b or_refuse 2
+    ∷ is_log b or_refuse 3
+    ∷ jobs_pass b or_refuse 18
+    ∷ rest_zero b or_refuse 5
     ∷ []
 
 -- The number that a block is refused by, by itself; 0 for none.

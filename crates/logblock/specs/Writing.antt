@@ -24,7 +24,7 @@ log_of es = bytes_of (nth (with_check (log_words es))) block_words
 -- The number that the writer refuses by, 0 for none, for a lent buffer of so many bytes.
 unfoldable pub log_number : Entries → (size : ℕ) → ℕ
 log_number es size =
-    refusal (leb block_size size orRefuse 12 ∷ jobs_ok es.count (λ i. (entry_at es i).age) orRefuse 18 ∷ [])
+    refusal (leb block_size size or_refuse 12 ∷ jobs_ok es.count (λ i. (entry_at es i).age) or_refuse 18 ∷ [])
 
 -- The writer's refusal.
 abbrev pub log_refusal : Entries → (size : ℕ) → Refusal

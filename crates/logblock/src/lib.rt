@@ -1,4 +1,6 @@
 // A log block of 512 bytes: its layout, one tested by itself, and one written from entries. Inner, but for `write_log`.
+#![tactic(auto)]
+
 ghost use Rattle.logblock.specs.Promises.{WritesLog};
 
 use plan::Refusal;
@@ -12,7 +14,7 @@ pub use reader::{age_of, guest_of, jobs_of, own_number, task_of};
 
 // A finished job: its guest's id, its task's number from 1, and its age.
 #[repr(C)]
-#[derive(Drop)]
+#[derive(Clone, Copy)]
 pub struct Entry {
     pub guest: u32,
     pub task: u32,
@@ -21,7 +23,7 @@ pub struct Entry {
 
 // The jobs of a log block: its first `count` entries.
 #[repr(C)]
-#[derive(Drop)]
+#[derive(Clone, Copy)]
 pub struct Entries {
     pub count: u32,
     pub entries: [Entry; 41],

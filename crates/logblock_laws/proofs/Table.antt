@@ -24,11 +24,11 @@ word_from : (b : List ℕ) (k from : ℕ) → 4 * k ≡ from → word b k ≡ u3
 word_from b k from e = rw (← e) (word_bytes b k)
 
 -- Bytes 4-7 are one word.
-blank_bytes : (b : List ℕ) → (eqb (word b blank_word) 0 ≡ true) exactlyWhen ZeroBytes b 4 8
+blank_bytes : (b : List ℕ) → (eqb (word b blank_word) 0 ≡ true) exactly_when ZeroBytes b 4 8
 unfolding zero_between all_to
 blank_bytes b = zero_bytes b blank_word first_entry
 
-zeros_stand : (b : List ℕ) → (rest_zero b ≡ true) exactlyWhen LogZeros b (jobs_in b)
+zeros_stand : (b : List ℕ) → (rest_zero b ≡ true) exactly_when LogZeros b (jobs_in b)
 zeros_stand b =
     let blank = blank_bytes b in
     let past = zero_bytes b (past_entries (jobs_in b)) check_word in (

@@ -16,10 +16,10 @@ pub record LogZeros (b : List ℕ) (n : ℕ) : Type 0 where
 -- Bytes 0-1 are the kind, 3; 2-3 the number of jobs; 4-7 zero; then entries of 12 bytes, each with guest, task and age;
 -- zeros past them; and 508-511 the check.
 pub record LogInBytes (b : List ℕ) : Type 0 where
-  pub kind : (is_log b ≡ true) exactlyWhen (u16_at b 0 ≡ 3)
+  pub kind : (is_log b ≡ true) exactly_when (u16_at b 0 ≡ 3)
   pub jobs : jobs_in b ≡ u16_at b 2
   pub guest : (i : ℕ) → (entry_in b i).guest ≡ u32_at b (8 + 12 * i)
   pub task : (i : ℕ) → (entry_in b i).task ≡ u32_at b (12 + 12 * i)
   pub age : (i : ℕ) → (entry_in b i).age ≡ u32_at b (16 + 12 * i)
-  pub zeros : (rest_zero b ≡ true) exactlyWhen LogZeros b (jobs_in b)
-  pub check : (sums_to_zero b ≡ true) exactlyWhen ((sum_to (λ k. u32_at b (4 * k)) 127 + u32_at b 508) % word_wrap ≡ 0)
+  pub zeros : (rest_zero b ≡ true) exactly_when LogZeros b (jobs_in b)
+  pub check : (sums_to_zero b ≡ true) exactly_when ((sum_to (λ k. u32_at b (4 * k)) 127 + u32_at b 508) % word_wrap ≡ 0)

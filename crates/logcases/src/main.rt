@@ -1,6 +1,8 @@
 // Logs of finished jobs, good and damaged in each way, and statements over them.
 // Standard input has the cases, a line for each guest, task, job or call: its first letter says which. Each line is
 // written out again, a call with its outcome; a line that starts with # says why the outcome is right and is left out.
+#![tactic(auto)]
+
 use draft::text;
 use draft::text::Row;
 use plan::Plan;
@@ -10,7 +12,7 @@ mod logging;
 mod stating;
 
 // What is in hand: the plan, the jobs of the log's next block, the statement, the log with its length, and the line.
-#[derive(Drop)]
+#[derive(Clone, Copy)]
 struct Desk {
     plan: Plan,
     jobs: Entries,

@@ -1,4 +1,6 @@
 // The margin of a finished job, and sums of margins. Inner.
+#![tactic(auto)]
+
 ghost use Rattle.std.specs.Prelude.{◌≡◌, ◌*◌, ◌^◌, ◌≤◌, ◌<◌, leb, nat_abs, ◌+ℤ◌};
 ghost use Rattle.plan.specs.Ranges.{longest};
 ghost use Rattle.margins.specs.Margin.{margin_of, widest};

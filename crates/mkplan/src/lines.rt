@@ -5,7 +5,7 @@ use plan::Plan;
 
 // The plan so far, the line in hand and its number from 1; `wrong` is the number of the first line that is none, 0
 // for none.
-#[derive(Drop)]
+#[derive(Clone, Copy)]
 pub struct Text {
     pub plan: Plan,
     pub row: Row,

@@ -1,5 +1,7 @@
 // A plan's text from standard input, its blocks to standard output. Where a line is wrong or the writer refuses a
 // guest, a message and no block.
+#![tactic(auto)]
+
 use plan::Plan;
 
 mod lines;

@@ -32,7 +32,7 @@ use Rattle.response.proofs.PlacedLaws.{placed_works}
 abbrev tests : Plan → (k : ℕ) → List Test
 tests p k =
     let g = guest_at p.guests k in
-    may_reorder g orRefuse 21 ∷ order_works p k (by_deadline g) orRefuse 22 ∷ []
+    may_reorder g or_refuse 21 ∷ order_works p k (by_deadline g) or_refuse 22 ∷ []
 
 -- The answer where no test fails.
 abbrev in_deadline_order : Plan → (k : ℕ) → Ordered

@@ -35,5 +35,5 @@ proposed p id =
     let g = guest_at p.guests k in
     refuse_or (answering p)
     (records_then p
-    (has_guest p id orRefuse 7 ∷ may_reorder g orRefuse 21 ∷ order_works p k (by_deadline g) orRefuse 22 ∷ []))
+    (has_guest p id or_refuse 7 ∷ may_reorder g or_refuse 21 ∷ order_works p k (by_deadline g) or_refuse 22 ∷ []))
     (answering (with_order p k (by_deadline g)) 0 0)

@@ -1,4 +1,6 @@
 // The order that the tasks of a guest should have.
+#![tactic(auto)]
+
 ghost use Rattle.order.specs.Promises.{Orders};
 
 use plan::{Guest, Plan, Refusal, check, columns_of};
@@ -14,14 +16,14 @@ pub use placing::propose_in; // Inner: for the calls in place.
 // The answer: the refusal, whose number is 0 where there is none, and the plan with the guest's tasks in the order
 // proposed, or on a refusal as it was.
 #[repr(C)]
-#[derive(Drop)]
+#[derive(Clone, Copy)]
 pub struct Ordered {
     pub refusal: Refusal,
     pub plan: Plan,
 }
 
 // What becomes of a guest: the refusal, and the guest with its tasks by deadline, or on a refusal as it was.
-#[derive(Drop)]
+#[derive(Clone, Copy)]
 pub struct Settled {
     pub refusal: Refusal,
     pub guest: Guest,

@@ -122,7 +122,7 @@ module _ (p : Plan) (id k : ℕ) (t : Orderable p id k) where
 
   -- 22 is given exactly if no order works.
   twenty_two : ((proposed p id).refusal.number ≡ 22)
-      exactlyWhen
+      exactly_when
       ((order : List ℕ) → IsOrder (guest_at p.guests k).tasks order → order_works p k order ≡ false)
   unfolding among
   twenty_two =
@@ -140,7 +140,7 @@ module _ (p : Plan) (id k : ℕ) (t : Orderable p id k) where
       fails false order q e o = refl
 
   -- That is, if in every order of its tasks some task is not met.
-  pub twenty_two_exactly : ((proposed p id).refusal.number ≡ 22) exactlyWhen NoOrder p id k
+  pub twenty_two_exactly : ((proposed p id).refusal.number ≡ 22) exactly_when NoOrder p id k
   unfolding order_works
   twenty_two_exactly = (
     λ e order o. (
@@ -159,7 +159,7 @@ module _ (p : Plan) (id k : ℕ) (t : Orderable p id k) where
 -- 21 is given exactly of a Deferrable guest and of one with a bound task.
 pub twenty_one_exactly : (p : Plan) (id k : ℕ) → There p id k
     → ((proposed p id).refusal.number ≡ 21)
-    exactlyWhen
+    exactly_when
     ((is_deferrable (guest_at p.guests k) ≡ true)
     ⊎ ((i : ℕ) × (i < (guest_at p.guests k).tasks) × (is_bound (guest_at p.guests k) i ≡ true)))
 unfolding among
@@ -170,7 +170,7 @@ twenty_one_exactly p id k t =
 -- 7 is given exactly if no guest of records in order has the id.
 pub seven_exactly : (p : Plan) (id : ℕ) → (plan_refusal p).number ≡ 0
     → ((proposed p id).refusal.number ≡ 7)
-    exactlyWhen ((k : ℕ) → k < p.count → (guest_at p.guests k).id ≡ id → ⊥)
+    exactly_when ((k : ℕ) → k < p.count → (guest_at p.guests k).id ≡ id → ⊥)
 unfolding among
 seven_exactly p id ok =
     rw (number_is p id ∙ records_number p (tests p id) ok)

@@ -32,7 +32,7 @@ use Rattle.verdict_laws.proofs.Guests.{there_place, there_has, has_there}
 abbrev pub tests : Plan → (id : ℕ) → List Test
 tests p id =
     let g = guest_at p.guests (place_of p id) in
-    has_guest p id orRefuse 7 ∷ may_reorder g orRefuse 21 ∷ order_works p (place_of p id) (by_deadline g) orRefuse 22 ∷ []
+    has_guest p id or_refuse 7 ∷ may_reorder g or_refuse 21 ∷ order_works p (place_of p id) (by_deadline g) or_refuse 22 ∷ []
 
 -- The number is that of the first test to fail.
 number_by : (p : Plan) (n place : ℕ) (q : Plan)
@@ -90,8 +90,8 @@ records_number p ts e = rw e refl
 -- A guest that is there is tested by 21 and 22.
 pub there_number : (p : Plan) (id k : ℕ) → There p id k
     → (proposed p id).refusal.number
-    ≡ refusal (may_reorder (guest_at p.guests k) orRefuse 21
-    ∷ order_works p k (by_deadline (guest_at p.guests k)) orRefuse 22
+    ≡ refusal (may_reorder (guest_at p.guests k) or_refuse 21
+    ∷ order_works p k (by_deadline (guest_at p.guests k)) or_refuse 22
     ∷ [])
 there_number p id k t =
     number_is p id ∙ records_number p (tests p id) t.order ∙ go_on 7 _ (there_has p id k t)
@@ -116,7 +116,7 @@ module _ (g : Guest) where
 
   -- It fails exactly of a Deferrable guest and of one with a bound task.
   pub may_not : (may_reorder g ≡ false)
-      exactlyWhen ((is_deferrable g ≡ true) ⊎ ((i : ℕ) × (i < g.tasks) × (is_bound g i ≡ true)))
+      exactly_when ((is_deferrable g ≡ true) ⊎ ((i : ℕ) × (i < g.tasks) × (is_bound g i ≡ true)))
   unfolding may_reorder
   may_not = (by (is_deferrable g) refl, back)
     where

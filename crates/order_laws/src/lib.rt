@@ -1,1 +1,2 @@
 // Theorems of the order that is proposed for a guest's tasks, about the definitions alone.
+#![tactic(auto)]

@@ -162,7 +162,7 @@ module _ {A : Type 0} (refuse : ℕ → ℕ → A) where
       {b : Bool} (n : ℕ) (ts : List Test) (v : A)
       → 0 < n
       → b ≡ false
-      → refuse n 0 ≡ refused_by refuse (refusal (b orRefuse n ∷ ts)) 0 v
+      → refuse n 0 ≡ refused_by refuse (refusal (b or_refuse n ∷ ts)) 0 v
   unfolding refused_by
   test_refuses zero ts v h e = absurd (omega arith)
   test_refuses (suc n) ts v h e = rw (stop (suc n) ts e) refl
@@ -171,7 +171,7 @@ module _ {A : Type 0} (refuse : ℕ → ℕ → A) where
   pub test_passes :
       {b : Bool} (n : ℕ) (ts : List Test) (v : A)
       → b ≡ true
-      → refused_by refuse (refusal ts) 0 v ≡ refused_by refuse (refusal (b orRefuse n ∷ ts)) 0 v
+      → refused_by refuse (refusal ts) 0 v ≡ refused_by refuse (refusal (b or_refuse n ∷ ts)) 0 v
   test_passes n ts v e = rw (go_on n ts e) refl
 
   -- where no test is left the answer is given

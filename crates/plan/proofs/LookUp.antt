@@ -47,7 +47,7 @@ module _ (id : ℕ) {records : Refusal} {ids : List ℕ} {count : ℕ} where
   unfolding records_then
   looked_refused h k p t = record {
     refusal =
-        refused_here records.number records.place (refused (refusal (has_guest p id orRefuse 7 ∷ [])) 0) h
+        refused_here records.number records.place (refused (refusal (has_guest p id or_refuse 7 ∷ [])) 0) h
         ∙ rw t.checked refl;
     place = λ z. absurd (omega arith);
   }
@@ -62,7 +62,7 @@ module _ (id : ℕ) {records : Refusal} {ids : List ℕ} {count : ℕ} where
         ∙ place_is p ids id (plan_in p (check_passes p t.checked h)).few t.column
 
     -- the way in of records in order has the number of the test of 7
-    looked : (number : ℕ) → refusal (has_guest p id orRefuse 7 ∷ []) ≡ number
+    looked : (number : ℕ) → refusal (has_guest p id or_refuse 7 ∷ []) ≡ number
         → LooksUp p id (record { refusal = refused number 0; place = k })
     unfolding records_then or_else
     looked number q = record { refusal = rw (check_passes p t.checked h, q) refl; place = λ z. place_found }
@@ -85,7 +85,7 @@ module _ {p : Plan} {id : ℕ} {r : LookedUp} (l : LooksUp p id r) where
       {A : Type 0} (refuse : ℕ → ℕ → A) (ts : List Test) (v : A)
       → 0 < r.refusal.number
       → refuse r.refusal.number r.refusal.place
-      ≡ refuse_or refuse (records_then p (has_guest p id orRefuse 7 ∷ ts)) v
+      ≡ refuse_or refuse (records_then p (has_guest p id or_refuse 7 ∷ ts)) v
   look_refuses refuse ts v h =
       number_refuses refuse r.refusal.number r.refusal.place v h
       ∙ ap (λ (x : Refusal). refuse_or refuse x v)
@@ -96,7 +96,7 @@ module _ {p : Plan} {id : ℕ} {r : LookedUp} (l : LooksUp p id r) where
     passes : ((plan_refusal p).number ≡ 0) × (has_guest p id ≡ true)
     passes =
         let z : r.refusal.number ≡ 0 = omega arith in
-        let o = records_none p (has_guest p id orRefuse 7 ∷ []) (rw l.refusal at z) in
+        let o = records_none p (has_guest p id or_refuse 7 ∷ []) (rw l.refusal at z) in
         (o.0, (passed (has_guest p id) 7 [] (omega arith) o.1).0)
 
     -- the records are in order
@@ -115,6 +115,6 @@ module _ {p : Plan} {id : ℕ} {r : LookedUp} (l : LooksUp p id r) where
     -- the tests after 7 decide the call's answer
     pub look_goes_on :
         {A : Type 0} (refuse : ℕ → ℕ → A) (ts : List Test) (v : A)
-        → refused_by refuse (refusal ts) 0 v ≡ refuse_or refuse (records_then p (has_guest p id orRefuse 7 ∷ ts)) v
+        → refused_by refuse (refusal ts) 0 v ≡ refuse_or refuse (records_then p (has_guest p id or_refuse 7 ∷ ts)) v
     look_goes_on refuse ts v =
-        test_passes refuse 7 ts v passes.1 ∙ records_pass refuse p (has_guest p id orRefuse 7 ∷ ts) v passes.0
+        test_passes refuse 7 ts v passes.1 ∙ records_pass refuse p (has_guest p id or_refuse 7 ∷ ts) v passes.0

@@ -99,7 +99,7 @@ bound_starts g position i e b = eqb-true position 0 (rw b at e)
 -- a task may not start exactly where it is bound and its guest past position 0
 pub may_not_start :
     (g : Guest) (position i : ℕ)
-    → (may_start g position i ≡ false) exactlyWhen ((is_bound g i ≡ true) × (0 < position))
+    → (may_start g position i ≡ false) exactly_when ((is_bound g i ≡ true) × (0 < position))
 unfolding may_start
 may_not_start g position i = (by (is_bound g i), λ h. rw h.0 (ne_eqb position 0 (λ z. omega (arith, h.1))))
   where

@@ -128,16 +128,16 @@ numbers_fine p l h n =
 
 -- the first test's refusal does not depend on those after it
 then_first : (x k : ℕ) (b : Bool) (n : ℕ) (ts : List Test)
-    → 0 < (or_else x k (refused (refusal (b orRefuse n ∷ [])) 0)).number
-    → or_else x k (refused (refusal (b orRefuse n ∷ [])) 0) ≡ or_else x k (refused (refusal (b orRefuse n ∷ ts)) 0)
+    → 0 < (or_else x k (refused (refusal (b or_refuse n ∷ [])) 0)).number
+    → or_else x k (refused (refusal (b or_refuse n ∷ [])) 0) ≡ or_else x k (refused (refusal (b or_refuse n ∷ ts)) 0)
 unfolding or_else refusal unless
 then_first zero k true n ts h = absurd (omega arith)
 then_first zero k false n ts h = refl
 then_first (suc x) k b n ts h = refl
 
 -- a refusal by the records' order and one test does not depend on the tests after it
-pub records_first : (p : Plan) (b : Bool) (n : ℕ) (ts : List Test) → 0 < (records_then p (b orRefuse n ∷ [])).number
-    → records_then p (b orRefuse n ∷ []) ≡ records_then p (b orRefuse n ∷ ts)
+pub records_first : (p : Plan) (b : Bool) (n : ℕ) (ts : List Test) → 0 < (records_then p (b or_refuse n ∷ [])).number
+    → records_then p (b or_refuse n ∷ []) ≡ records_then p (b or_refuse n ∷ ts)
 unfolding records_then
 records_first p b n ts h = then_first (plan_refusal p).number (plan_refusal p).place b n ts h
 

@@ -22,10 +22,10 @@ module _ (p : Plan) where
   pub records_refused : 0 < (plan_refusal p).number → plan_refusal p ≡ start_refusal p
   unfolding start_refusal records_then
   records_refused h =
-      refused_here (plan_refusal p).number (plan_refusal p).place (refused (refusal (all_periodic p orRefuse 23 ∷ [])) 0) h
+      refused_here (plan_refusal p).number (plan_refusal p).place (refused (refusal (all_periodic p or_refuse 23 ∷ [])) 0) h
 
   -- Records in order are refused by the test after them.
-  then_by : {n : ℕ} → (plan_refusal p).number ≡ 0 → n ≡ refusal (all_periodic p orRefuse 23 ∷ [])
+  then_by : {n : ℕ} → (plan_refusal p).number ≡ 0 → n ≡ refusal (all_periodic p or_refuse 23 ∷ [])
       → refused n 0 ≡ start_refusal p
   unfolding start_refusal records_then
   then_by e q =
@@ -51,13 +51,13 @@ module _ (p : Plan) where
     -- A start that is not refused has its records in order.
     pub starts_in_order : (plan_refusal p).number ≡ 0
     unfolding start_refusal
-    starts_in_order = (records_none p (all_periodic p orRefuse 23 ∷ []) e).0
+    starts_in_order = (records_none p (all_periodic p or_refuse 23 ∷ []) e).0
 
     -- A start that is not refused has Periodic guests alone.
     pub starts_periodic : all_periodic p ≡ true
     unfolding start_refusal
     starts_periodic =
-        (passed (all_periodic p) 23 [] (omega arith) (records_none p (all_periodic p orRefuse 23 ∷ []) e).1).0
+        (passed (all_periodic p) 23 [] (omega arith) (records_none p (all_periodic p or_refuse 23 ∷ []) e).1).0
 
   -- In a plan of Periodic guests each is Periodic.
   pub periodic_at : all_periodic p ≡ true → (k : ℕ) → k < p.count → is_periodic (guest_at p.guests k) ≡ true

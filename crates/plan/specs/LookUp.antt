@@ -19,5 +19,5 @@ pub record Lent (p : Plan) (records : Refusal) (ids : List ℕ) (count : ℕ) : 
 
 -- the refusal by the records' order and then 7, and where there is none the guest's place
 pub record LooksUp (p : Plan) (id : ℕ) (r : LookedUp) : Type 0 where
-  pub refusal : r.refusal ≡ records_then p (has_guest p id orRefuse 7 ∷ [])
+  pub refusal : r.refusal ≡ records_then p (has_guest p id or_refuse 7 ∷ [])
   pub place : r.refusal.number ≤ 0 → r.place ≡ place_of p id

@@ -15,7 +15,7 @@ new_id id k = all_to (λ j. not (eqb (id j) (id k))) k
 
 -- the number that a guest is refused by, 0 for none; `new` says that its id stands at no earlier place
 unfoldable pub number_of : Guest → (new : Bool) → ℕ
-number_of g new = refusal ((guest_ok g && new) orRefuse 4 ∷ tasks_ok g orRefuse 6 ∷ [])
+number_of g new = refusal ((guest_ok g && new) or_refuse 4 ∷ tasks_ok g or_refuse 6 ∷ [])
 
 -- the number that the guest at place k is refused by
 unfoldable pub guest_number : List Guest → ℕ → ℕ

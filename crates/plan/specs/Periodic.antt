@@ -14,7 +14,7 @@ all_periodic p = all_to (λ k. is_periodic (guest_at p.guests k)) p.count
 
 -- the refusal of a fresh start: the records' order, then 23
 unfoldable pub start_refusal : Plan → Refusal
-start_refusal p = records_then p (all_periodic p orRefuse 23 ∷ [])
+start_refusal p = records_then p (all_periodic p or_refuse 23 ∷ [])
 
 -- the plan with every Deferrable guest made Periodic
 unfoldable pub converted : Plan → Plan

@@ -1,4 +1,6 @@
 // A plan's records by value, the charged run, and the one check on records handed over as a plan.
+#![tactic(auto)]
+
 ghost use Rattle.std.specs.Prelude.{◌≡◌};
 ghost use Rattle.plan.specs.Records.{blank, blank_plan};
 ghost use Rattle.plan.specs.Charge.{charged_run};
@@ -19,7 +21,7 @@ pub use ranges::{LONGEST, count_ok, head_ok, tasks_ok};
 // A guest: its server, its tasks' marks, and a column for each number of its tasks. The server is Deferrable where
 // `deferrable` is not 0, and else Periodic. `every` is each task's period.
 #[repr(C)]
-#[derive(Drop)]
+#[derive(Clone, Copy)]
 pub struct Guest {
     pub id: u32,
     pub capacity: u32,
@@ -35,7 +37,7 @@ pub struct Guest {
 
 // A plan: its first `count` guests, the first with the highest priority.
 #[repr(C)]
-#[derive(Drop)]
+#[derive(Clone, Copy)]
 pub struct Plan {
     pub count: u32,
     pub guests: [Guest; 8],
@@ -43,14 +45,14 @@ pub struct Plan {
 
 // A refusal's number and place; number 0 for none.
 #[repr(C)]
-#[derive(Drop)]
+#[derive(Clone, Copy)]
 pub struct Refusal {
     pub number: u32,
     pub place: u32,
 }
 
 // Five numbers of each guest of a plan, a column for each number.
-#[derive(Drop)]
+#[derive(Clone, Copy)]
 pub struct Columns {
     pub ids: [u32; 16],
     pub capacities: [u32; 16],
@@ -60,7 +62,7 @@ pub struct Columns {
 }
 
 // A guest that was looked up by its id: the refusal, or where it has number 0 the guest's place.
-#[derive(Drop)]
+#[derive(Clone, Copy)]
 pub struct LookedUp {
     pub refusal: Refusal,
     pub place: usize,

@@ -1,4 +1,6 @@
 // Plan files: read into records, records checked, a guest's block written, and found by the guest's id.
+#![tactic(auto)]
+
 ghost use Rattle.std.specs.Prelude.{◌≡◌, ◌≤◌};
 ghost use Rattle.plan.specs.Ranges.{most_guests};
 ghost use Rattle.blockfile.specs.File.{block_at, blocks_in};
@@ -15,7 +17,7 @@ pub use plan::check;
 
 // A plan read: the refusal, number 0 for none, and the records, or on a refusal zeros.
 #[repr(C)]
-#[derive(Drop)]
+#[derive(Clone, Copy)]
 pub struct Reading {
     pub refusal: Refusal,
     pub plan: Plan,

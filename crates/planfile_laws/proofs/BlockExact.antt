@@ -15,19 +15,19 @@ use Rattle.planfile_laws.proofs.Zeros.{zeros_fail}
 -- Each is given exactly when its cause holds and none of those before it does; `Opening` is the cause of 3 and `Guest`
 -- that of 4.
 module _ (b : List ℕ) (placed new : Bool) {Opening Guest : Type 0}
-    (opening : ((kind_ok b && placed) ≡ false) exactlyWhen Opening)
-    (guest : ((guest_ok (guest_of b) && new) ≡ false) exactlyWhen Guest) where
-  pub block_two : (block_number b placed new ≡ 2) exactlyWhen WrongSum b
+    (opening : ((kind_ok b && placed) ≡ false) exactly_when Opening)
+    (guest : ((guest_ok (guest_of b) && new) ≡ false) exactly_when Guest) where
+  pub block_two : (block_number b placed new ≡ 2) exactly_when WrongSum b
   unfolding block_number among
   block_two = given_first (sums_to_zero b) 2 _ (omega arith) refl (sum_fails b)
 
-  pub block_three : (block_number b placed new ≡ 3) exactlyWhen (WrongSum b notBut Opening)
+  pub block_three : (block_number b placed new ≡ 3) exactly_when (WrongSum b not_but Opening)
   unfolding block_number among
   block_three =
       given_later (sums_to_zero b) 2 3 _ (λ q. omega arith) (sum_fails b)
       (given_first (kind_ok b && placed) 3 _ (omega arith) refl opening)
 
-  pub block_four : (block_number b placed new ≡ 4) exactlyWhen (WrongSum b notBut Opening notBut Guest)
+  pub block_four : (block_number b placed new ≡ 4) exactly_when (WrongSum b not_but Opening not_but Guest)
   unfolding block_number among
   block_four =
       given_later (sums_to_zero b) 2 4 _ (λ q. omega arith) (sum_fails b)
@@ -35,7 +35,7 @@ module _ (b : List ℕ) (placed new : Bool) {Opening Guest : Type 0}
       (given_first (guest_ok (guest_of b) && new) 4 _ (omega arith) refl guest))
 
   pub block_five :
-      (block_number b placed new ≡ 5) exactlyWhen (WrongSum b notBut Opening notBut Guest notBut WrongZero b)
+      (block_number b placed new ≡ 5) exactly_when (WrongSum b not_but Opening not_but Guest not_but WrongZero b)
   unfolding block_number among
   block_five =
       given_later (sums_to_zero b) 2 5 _ (λ q. omega arith) (sum_fails b)
@@ -45,7 +45,7 @@ module _ (b : List ℕ) (placed new : Bool) {Opening Guest : Type 0}
 
   pub block_six :
       (block_number b placed new ≡ 6)
-      exactlyWhen (WrongSum b notBut Opening notBut Guest notBut WrongZero b notBut WrongTask (guest_of b))
+      exactly_when (WrongSum b not_but Opening not_but Guest not_but WrongZero b not_but WrongTask (guest_of b))
   unfolding block_number among
   block_six =
       given_later (sums_to_zero b) 2 6 _ (λ q. omega arith) (sum_fails b)
@@ -57,7 +57,7 @@ module _ (b : List ℕ) (placed new : Bool) {Opening Guest : Type 0}
   -- No number is given exactly when none of the causes holds.
   pub block_none :
       (block_number b placed new ≡ 0)
-      exactlyWhen (WrongSum b notBut Opening notBut Guest notBut WrongZero b notBut (WrongTask (guest_of b) → ⊥))
+      exactly_when (WrongSum b not_but Opening not_but Guest not_but WrongZero b not_but (WrongTask (guest_of b) → ⊥))
   unfolding block_number
   block_none =
       given_later (sums_to_zero b) 2 0 _ (λ q. omega arith) (sum_fails b)

@@ -25,8 +25,8 @@ use Rattle.planfile_laws.specs.Causes.{Outside, WrongLength, WrongSum, WrongKind
 use Rattle.lists.proofs.All.{all_false, all_fails}
 
 -- One of two tests fails.
-pub both_fail : (a b : Bool) {A B : Type 0} → (a ≡ false) exactlyWhen A → (b ≡ false) exactlyWhen B
-    → ((a && b) ≡ false) exactlyWhen (A ⊎ B)
+pub both_fail : (a b : Bool) {A B : Type 0} → (a ≡ false) exactly_when A → (b ≡ false) exactly_when B
+    → ((a && b) ≡ false) exactly_when (A ⊎ B)
 both_fail true b p q = (
   λ e. inr (q.0 e),
   λ h. ⊎_elim (λ x. absurd (false≢true (sym (p.1 x)))) (λ y. q.1 y) h,
@@ -34,27 +34,27 @@ both_fail true b p q = (
 both_fail false b p q = (λ e. inl (p.0 refl), λ h. refl)
 
 -- One of the first n tests fails.
-pub some_fails : (f : ℕ → Bool) (n : ℕ) (A : ℕ → Type 0) → ((i : ℕ) → (f i ≡ false) exactlyWhen A i)
-    → (all_to f n ≡ false) exactlyWhen ((i : ℕ) × ((i < n) × A i))
+pub some_fails : (f : ℕ → Bool) (n : ℕ) (A : ℕ → Type 0) → ((i : ℕ) → (f i ≡ false) exactly_when A i)
+    → (all_to f n ≡ false) exactly_when ((i : ℕ) × ((i < n) × A i))
 some_fails f n A h = (
   λ e. let o = all_false f n e in (o.0, (o.1, (h o.0).0 o.2)),
   λ o. sym (all_fails f n o.0 o.1.0 ((h o.0).1 o.1.1)),
 )
 
 -- A number is below another.
-pub leb_fails : (a b : ℕ) → (leb a b ≡ false) exactlyWhen (b < a)
+pub leb_fails : (a b : ℕ) → (leb a b ≡ false) exactly_when (b < a)
 leb_fails a b = (leb-false a b, lt-leb a b)
 
 -- Two numbers differ.
-eqb_fails : (a b : ℕ) → (eqb a b ≡ false) exactlyWhen (a ≡ b → ⊥)
+eqb_fails : (a b : ℕ) → (eqb a b ≡ false) exactly_when (a ≡ b → ⊥)
 eqb_fails a b = (eqb-false a b, ne_eqb a b)
 
 -- A number is outside a range.
-pub within_fails : (low high x : ℕ) → (within low high x ≡ false) exactlyWhen Outside low high x
+pub within_fails : (low high x : ℕ) → (within low high x ≡ false) exactly_when Outside low high x
 within_fails low high x = both_fail (leb low x) (leb x high) (leb_fails low x) (leb_fails x high)
 
 -- 1: the length.
-pub length_fails : (n : ℕ) → (size_ok n ≡ false) exactlyWhen WrongLength n
+pub length_fails : (n : ℕ) → (size_ok n ≡ false) exactly_when WrongLength n
 length_fails n =
     let w =
     both_fail (within 1 most_bytes n) (eqb (n % block_size) 0) (within_fails 1 most_bytes n)
@@ -66,13 +66,13 @@ length_fails n =
     )
 
 -- 2: the sum.
-pub sum_fails : (b : List ℕ) → (sums_to_zero b ≡ false) exactlyWhen WrongSum b
+pub sum_fails : (b : List ℕ) → (sums_to_zero b ≡ false) exactly_when WrongSum b
 sum_fails b = eqb_fails (wrapped (word b) block_words) 0
 
 -- Neither marks nor a Deferrable Server.
 opened_fails : (marks server : ℕ)
     → ((leb 1 marks || eqb server deferrable_server) ≡ false)
-    exactlyWhen ((marks ≡ 0) × (server ≢ deferrable_server))
+    exactly_when ((marks ≡ 0) × (server ≢ deferrable_server))
 opened_fails marks server = (
   by (leb 1 marks) refl,
   λ h. rw (lt-leb 1 marks (omega (arith, h.0)), ne_eqb server deferrable_server h.1) refl,
@@ -84,7 +84,7 @@ opened_fails marks server = (
     by false p e = (omega (arith, leb-false 1 marks p), eqb-false server deferrable_server e)
 
 -- 3: the kind, by what it is.
-pub kind_fails : (b : List ℕ) → (kind_ok b ≡ false) exactlyWhen WrongKind b
+pub kind_fails : (b : List ℕ) → (kind_ok b ≡ false) exactly_when WrongKind b
 kind_fails b =
     elim (ℕ_discrete (kind_in b) plain_kind) [
       | yes k ↦ rw (eq-eqb (kind_in b) plain_kind k) (
@@ -102,13 +102,13 @@ kind_fails b =
 
 -- 3: kind and, where it counts, place.
 pub opening_fails : (placed : Bool) (b : List ℕ) (place : ℕ)
-    → ((kind_ok b && (not placed || own_place b place)) ≡ false) exactlyWhen WrongOpening placed b place
+    → ((kind_ok b && (not placed || own_place b place)) ≡ false) exactly_when WrongOpening placed b place
 opening_fails true b place =
     both_fail (kind_ok b) (own_place b place) (kind_fails b) (eqb_fails (place_in b) place)
 opening_fails false b place = rw (and-true (kind_ok b)) (kind_fails b)
 
 -- 4: the guest's own numbers.
-pub head_fails : (g : Guest) → (guest_ok g ≡ false) exactlyWhen WrongHead g
+pub head_fails : (g : Guest) → (guest_ok g ≡ false) exactly_when WrongHead g
 unfolding head_ok
 head_fails g =
     let a = both_fail (leb 1 g.id) _ (leb_fails 1 g.id) (within_fails 1 g.period g.capacity) in
@@ -128,23 +128,23 @@ head_fails g =
     )
 
 -- 4: the ids of earlier places.
-pub id_fails : (id : ℕ → ℕ) (k : ℕ) → (new_id id k ≡ false) exactlyWhen Seen id k
+pub id_fails : (id : ℕ → ℕ) (k : ℕ) → (new_id id k ≡ false) exactly_when Seen id k
 unfolding new_id
 id_fails id k = some_fails (λ j. not (eqb (id j) (id k))) k (λ j. id j ≡ id k) (λ j. same j)
   where
-    same : (j : ℕ) → (not (eqb (id j) (id k)) ≡ false) exactlyWhen (id j ≡ id k)
+    same : (j : ℕ) → (not (eqb (id j) (id k)) ≡ false) exactly_when (id j ≡ id k)
     same j = (λ e. eqb-true (id j) (id k) (not-false (eqb (id j) (id k)) e), λ e. rw (eq-eqb (id j) (id k) e) refl)
 
 -- 4: both.
 pub guest_fails : (g : Guest) (id : ℕ → ℕ) (k : ℕ)
-    → ((guest_ok g && new_id id k) ≡ false) exactlyWhen WrongGuest g id k
+    → ((guest_ok g && new_id id k) ≡ false) exactly_when WrongGuest g id k
 guest_fails g id k = both_fail (guest_ok g) (new_id id k) (head_fails g) (id_fails id k)
 
 -- A task's numbers.
 task_fails :
     (run every deadline : ℕ)
     → (task_ok run every deadline ≡ false)
-    exactlyWhen TaskOutside run every deadline
+    exactly_when TaskOutside run every deadline
 unfolding task_ok
 task_fails run every deadline =
     let a = both_fail _ _ (within_fails 1 longest run) (within_fails 1 longest every) in
@@ -155,7 +155,7 @@ task_fails run every deadline =
 
 -- The multiple of a bound task.
 start_fails : (bound : Bool) (period every : ℕ)
-    → (start_ok bound period every ≡ false) exactlyWhen ((bound ≡ true) × (every % period ≢ 0))
+    → (start_ok bound period every ≡ false) exactly_when ((bound ≡ true) × (every % period ≢ 0))
 unfolding start_ok
 start_fails true period every = (
   λ e. (refl, eqb-false (every % period) 0 e),
@@ -164,7 +164,7 @@ start_fails true period every = (
 start_fails false period every = (λ e. absurd (false≢true (sym e)), λ h. absurd (false≢true h.0))
 
 -- 6: the tasks.
-pub tasks_fail : (g : Guest) → (tasks_ok g ≡ false) exactlyWhen WrongTask g
+pub tasks_fail : (g : Guest) → (tasks_ok g ≡ false) exactly_when WrongTask g
 unfolding tasks_ok
 tasks_fail g =
     let a =
@@ -184,5 +184,5 @@ tasks_fail g =
     )
 
 -- 23: the server.
-pub periodic_fails : (g : Guest) → (is_periodic g ≡ false) exactlyWhen (is_deferrable g ≡ true)
+pub periodic_fails : (g : Guest) → (is_periodic g ≡ false) exactly_when (is_deferrable g ≡ true)
 periodic_fails g = (λ e. ap not e, λ e. not-true (is_periodic g) e)

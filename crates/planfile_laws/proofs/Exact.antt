@@ -35,7 +35,7 @@ use Rattle.planfile_laws.proofs.BlockExact.{block_two, block_three, block_four, 
 
 -- A block is refused by no number above 6.
 most_six : (t2 t3 t4 t5 t6 : Bool)
-    → refusal (t2 orRefuse 2 ∷ t3 orRefuse 3 ∷ t4 orRefuse 4 ∷ t5 orRefuse 5 ∷ t6 orRefuse 6 ∷ []) ≤ 6
+    → refusal (t2 or_refuse 2 ∷ t3 or_refuse 3 ∷ t4 or_refuse 4 ∷ t5 or_refuse 5 ∷ t6 or_refuse 6 ∷ []) ≤ 6
 unfolding refusal unless
 most_six false t3 t4 t5 t6 = omega arith
 most_six true false t4 t5 t6 = omega arith
@@ -47,54 +47,54 @@ most_six true true true true true = omega arith
 -- The numbers of block k: each is given exactly when its cause holds and none of those before it does.
 module _ (placed : Bool) (s : List ℕ) (k : ℕ) where
   opening : ((kind_ok (block_at s k) && (not placed || own_place (block_at s k) k)) ≡ false)
-      exactlyWhen WrongOpening placed (block_at s k) k
+      exactly_when WrongOpening placed (block_at s k) k
   opening = opening_fails placed (block_at s k) k
 
   guest : ((guest_ok (guest_of (block_at s k)) && new_id (id_at s) k) ≡ false)
-      exactlyWhen WrongGuest (guest_of (block_at s k)) (id_at s) k
+      exactly_when WrongGuest (guest_of (block_at s k)) (id_at s) k
   guest = guest_fails (guest_of (block_at s k)) (id_at s) k
 
   -- 2: the block's words do not sum to zero.
-  pub two_exactly : (number_at placed s k ≡ 2) exactlyWhen WrongSum (block_at s k)
+  pub two_exactly : (number_at placed s k ≡ 2) exactly_when WrongSum (block_at s k)
   unfolding number_at
   two_exactly = block_two (block_at s k) _ _ opening guest
 
   -- 3: the kind is neither 1 nor 2, or 2 without marks and without a Deferrable Server, or, where places count, the
   -- place is not the block's own.
   pub three_exactly :
-      (number_at placed s k ≡ 3) exactlyWhen (WrongSum (block_at s k) notBut WrongOpening placed (block_at s k) k)
+      (number_at placed s k ≡ 3) exactly_when (WrongSum (block_at s k) not_but WrongOpening placed (block_at s k) k)
   unfolding number_at
   three_exactly = block_three (block_at s k) _ _ opening guest
 
   -- 4: the id is 0 or already seen in an earlier block, or capacity, period or number of tasks is outside its range.
   pub four_exactly :
       (number_at placed s k ≡ 4)
-      exactlyWhen
-      (WrongSum (block_at s k) notBut WrongOpening placed (block_at s k) k
-      notBut WrongGuest (guest_of (block_at s k)) (id_at s) k)
+      exactly_when
+      (WrongSum (block_at s k) not_but WrongOpening placed (block_at s k) k
+      not_but WrongGuest (guest_of (block_at s k)) (id_at s) k)
   unfolding number_at
   four_exactly = block_four (block_at s k) _ _ opening guest
 
   -- 5: a byte that must be zero is not, a mark is past the tasks, or the server is neither Periodic nor Deferrable.
   pub five_exactly :
       (number_at placed s k ≡ 5)
-      exactlyWhen
+      exactly_when
       (WrongSum (block_at s k)
-      notBut WrongOpening placed (block_at s k) k
-      notBut WrongGuest (guest_of (block_at s k)) (id_at s) k
-      notBut WrongZero (block_at s k))
+      not_but WrongOpening placed (block_at s k) k
+      not_but WrongGuest (guest_of (block_at s k)) (id_at s) k
+      not_but WrongZero (block_at s k))
   unfolding number_at
   five_exactly = block_five (block_at s k) _ _ opening guest
 
   -- 6: a task's run, period or deadline is outside its range, or a bound task's period is no multiple of its guest's.
   pub six_exactly :
       (number_at placed s k ≡ 6)
-      exactlyWhen (
+      exactly_when (
       WrongSum (block_at s k)
-      notBut WrongOpening placed (block_at s k) k
-      notBut WrongGuest (guest_of (block_at s k)) (id_at s) k
-      notBut WrongZero (block_at s k)
-      notBut WrongTask (guest_of (block_at s k)))
+      not_but WrongOpening placed (block_at s k) k
+      not_but WrongGuest (guest_of (block_at s k)) (id_at s) k
+      not_but WrongZero (block_at s k)
+      not_but WrongTask (guest_of (block_at s k)))
   unfolding number_at
   six_exactly = block_six (block_at s k) _ _ opening guest
 
@@ -104,7 +104,7 @@ module _ (placed : Bool) (s : List ℕ) (k : ℕ) where
 
 module _ (placed : Bool) (s : List ℕ) where
   -- 1: the length is 0, not a multiple of 512, or above 4,096.
-  pub one_exactly : ((blocks_refusal placed s).number ≡ 1) exactlyWhen WrongLength (length s)
+  pub one_exactly : ((blocks_refusal placed s).number ≡ 1) exactly_when WrongLength (length s)
   one_exactly =
       one_first (number_at placed s) (blocks_in s) (blocks_refusal placed s) (never_one placed s) (size_ok (length s))
       (λ e. sym (unsized placed s e)) (λ e. sym (sized placed s e)) (length_fails (length s))
@@ -116,7 +116,7 @@ module _ (placed : Bool) (s : List ℕ) where
   -- A number from 2 on at place k: the length is right, block k has that number, and every block before it has none.
   pub block_exactly : (n k : ℕ)
       → (blocks_refusal placed s ≡ refused (suc (suc n)) k)
-      exactlyWhen (WrongLength (length s) notBut FirstAt (number_at placed s) (blocks_in s) 0 (suc (suc n)) k)
+      exactly_when (WrongLength (length s) not_but FirstAt (number_at placed s) (blocks_in s) 0 (suc (suc n)) k)
   block_exactly n k =
       place_first (number_at placed s) (blocks_in s) (blocks_refusal placed s) (never_one placed s) (size_ok (length s)) n k
       (λ e. sym (unsized placed s e)) (λ e. sym (sized placed s e)) (length_fails (length s))
@@ -175,7 +175,7 @@ module _ (s : List ℕ) (id : ℕ) where
 
   -- 7: the plan is well formed, and no block has the id.
   pub seven_exactly : (found_place s id ≡ refused 7 0)
-      exactlyWhen (((file_refusal s).number ≡ 0) × ((k : ℕ) → k < blocks_in s → id_at s k ≡ id → ⊥))
+      exactly_when (((file_refusal s).number ≡ 0) × ((k : ℕ) → k < blocks_in s → id_at s k ≡ id → ⊥))
   unfolding found_place
   seven_exactly = (
     λ e.
@@ -191,7 +191,7 @@ module _ (s : List ℕ) (id : ℕ) where
 
   -- A block is found at place k: the plan is well formed, and block k has the id.
   pub found_exactly : (k : ℕ)
-      → (found_place s id ≡ refused 0 k) exactlyWhen (((file_refusal s).number ≡ 0) × ((k < blocks_in s) × (id_at s k ≡ id)))
+      → (found_place s id ≡ refused 0 k) exactly_when (((file_refusal s).number ≡ 0) × ((k < blocks_in s) × (id_at s k ≡ id)))
   unfolding found_place
   found_exactly k = (
     λ e.

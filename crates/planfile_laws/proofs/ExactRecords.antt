@@ -27,12 +27,12 @@ use Rattle.plan.proofs.PeriodicLaws.{starts_by, deferrable_refused}
 -- The writer, lent a buffer of so many bytes.
 module _ (g : Guest) (place size : ℕ) where
   -- 12: the buffer is shorter than 512.
-  pub write_twelve : (write_number g place size ≡ 12) exactlyWhen (size < block_size)
+  pub write_twelve : (write_number g place size ≡ 12) exactly_when (size < block_size)
   unfolding write_number among
   write_twelve = given_first (leb block_size size) 12 _ (omega arith) refl (leb_fails block_size size)
 
   -- 3: the place is above 7.
-  pub write_three : (write_number g place size ≡ 3) exactlyWhen ((size < block_size) notBut (last_place < place))
+  pub write_three : (write_number g place size ≡ 3) exactly_when ((size < block_size) not_but (last_place < place))
   unfolding write_number among
   write_three =
       given_later (leb block_size size) 12 3 _ (λ q. omega arith) (leb_fails block_size size)
@@ -40,7 +40,7 @@ module _ (g : Guest) (place size : ℕ) where
 
   -- 4: the id is 0, or capacity, period or number of tasks is outside its range.
   pub write_four : (write_number g place size ≡ 4)
-      exactlyWhen ((size < block_size) notBut (last_place < place) notBut WrongHead g)
+      exactly_when ((size < block_size) not_but (last_place < place) not_but WrongHead g)
   unfolding write_number among
   write_four =
       given_later (leb block_size size) 12 4 _ (λ q. omega arith) (leb_fails block_size size)
@@ -49,7 +49,7 @@ module _ (g : Guest) (place size : ℕ) where
 
   -- 6: a task's run, period or deadline is outside its range, or a bound task's period is no multiple of its guest's.
   pub write_six : (write_number g place size ≡ 6)
-      exactlyWhen ((size < block_size) notBut (last_place < place) notBut WrongHead g notBut WrongTask g)
+      exactly_when ((size < block_size) not_but (last_place < place) not_but WrongHead g not_but WrongTask g)
   unfolding write_number among
   write_six =
       given_later (leb block_size size) 12 6 _ (λ q. omega arith) (leb_fails block_size size)
@@ -59,12 +59,12 @@ module _ (g : Guest) (place size : ℕ) where
 
   -- 23: the guest is Deferrable.
   pub write_twenty_three : (write_number g place size ≡ 23)
-      exactlyWhen (
+      exactly_when (
       (size < block_size)
-      notBut (last_place < place)
-      notBut WrongHead g
-      notBut WrongTask g
-      notBut (is_deferrable g ≡ true))
+      not_but (last_place < place)
+      not_but WrongHead g
+      not_but WrongTask g
+      not_but (is_deferrable g ≡ true))
   unfolding write_number among
   write_twenty_three =
       given_later (leb block_size size) 12 23 _ (λ q. omega arith) (leb_fails block_size size)
@@ -76,7 +76,7 @@ module _ (g : Guest) (place size : ℕ) where
 -- The numbers of the guest at place k.
 module _ (gs : List Guest) (k : ℕ) where
   -- 4: the id is 0 or already seen at an earlier place, or capacity, period or number of tasks is outside its range.
-  pub records_four : (guest_number gs k ≡ 4) exactlyWhen WrongGuest (guest_at gs k) (λ j. (guest_at gs j).id) k
+  pub records_four : (guest_number gs k ≡ 4) exactly_when WrongGuest (guest_at gs k) (λ j. (guest_at gs j).id) k
   unfolding guest_number number_of among
   records_four =
       given_first (guest_ok (guest_at gs k) && new_id (λ j. (guest_at gs j).id) k) 4 _ (omega arith) refl
@@ -84,7 +84,7 @@ module _ (gs : List Guest) (k : ℕ) where
 
   -- 6: a task's run, period or deadline is outside its range, or a bound task's period is no multiple of its guest's.
   pub records_six : (guest_number gs k ≡ 6)
-      exactlyWhen (WrongGuest (guest_at gs k) (λ j. (guest_at gs j).id) k notBut WrongTask (guest_at gs k))
+      exactly_when (WrongGuest (guest_at gs k) (λ j. (guest_at gs j).id) k not_but WrongTask (guest_at gs k))
   unfolding guest_number number_of among
   records_six =
       given_later (guest_ok (guest_at gs k) && new_id (λ j. (guest_at gs j).id) k) 4 6 _ (λ q. omega arith)
@@ -107,7 +107,7 @@ module _ (p : Plan) where
   is_counted e = rw e refl
 
   -- 1: the guest count is not 1 to 8.
-  pub records_one : ((plan_refusal p).number ≡ 1) exactlyWhen Outside 1 most_guests p.count
+  pub records_one : ((plan_refusal p).number ≡ 1) exactly_when Outside 1 most_guests p.count
   records_one =
       one_first (guest_number p.guests) p.count (plan_refusal p) (never_one p.guests)
       (within 1 most_guests p.count)
@@ -122,8 +122,8 @@ module _ (p : Plan) where
   pub record_exactly :
       (n k : ℕ)
       → (plan_refusal p ≡ refused (suc (suc n)) k)
-      exactlyWhen
-      (Outside 1 most_guests p.count notBut FirstAt (guest_number p.guests) p.count 0 (suc (suc n)) k)
+      exactly_when
+      (Outside 1 most_guests p.count not_but FirstAt (guest_number p.guests) p.count 0 (suc (suc n)) k)
   record_exactly n k =
       place_first (guest_number p.guests) p.count (plan_refusal p) (never_one p.guests)
       (within 1 most_guests p.count) n k
@@ -138,7 +138,7 @@ module _ (p : Plan) (order : (plan_refusal p).number ≡ 0) where
 
   -- 23: a guest is Deferrable.
   pub start_twenty_three : (start_refusal p ≡ refused 23 0)
-      exactlyWhen ((k : ℕ) × ((k < p.count) × (is_deferrable (guest_at p.guests k) ≡ true)))
+      exactly_when ((k : ℕ) × ((k < p.count) × (is_deferrable (guest_at p.guests k) ≡ true)))
   unfolding all_periodic
   start_twenty_three =
       let w =

@@ -193,7 +193,7 @@ top_bit (suc d) n m l h =
     ]
 
 -- Marks reach past n tasks exactly when one of them is set there.
-pub past_exactly : (m n : ℕ) → (2 ^ n ≤ m) exactlyWhen ((i : ℕ) × ((n ≤ i) × (marked m i ≡ true)))
+pub past_exactly : (m n : ℕ) → (2 ^ n ≤ m) exactly_when ((i : ℕ) × ((n ≤ i) × (marked m i ≡ true)))
 unfolding marked
 past_exactly m n = (
   λ l.

@@ -80,8 +80,8 @@ module _ (f : ℕ → ℕ) (m : ℕ) (r : Refusal) (never : (k : ℕ) → f k �
 
   -- Number 1 is given exactly when the first test's cause holds.
   pub one_first : {A : Type 0} (b : Bool) → (b ≡ false → r ≡ refused 1 0) → (b ≡ true → r ≡ first_refused f m 0)
-      → (b ≡ false) exactlyWhen A
-      → (r.number ≡ 1) exactlyWhen A
+      → (b ≡ false) exactly_when A
+      → (r.number ≡ 1) exactly_when A
   one_first b n g p = (λ e. p.0 (one_by b g e), λ x. ap (λ (x : Refusal). x.number) (n (p.1 x)))
 
   place_by : (b : Bool) (n z : ℕ) → (b ≡ false → r ≡ refused 1 0) → (b ≡ true → r ≡ first_refused f m 0)
@@ -97,8 +97,8 @@ module _ (f : ℕ → ℕ) (m : ℕ) (r : Refusal) (never : (k : ℕ) → f k �
 
   -- Any other number is given exactly when that cause does not hold and the number is the first of the places'.
   pub place_first : {A : Type 0} (b : Bool) (n z : ℕ) → (b ≡ false → r ≡ refused 1 0)
-      → (b ≡ true → r ≡ first_refused f m 0) → (b ≡ false) exactlyWhen A
-      → (r ≡ refused (suc (suc n)) z) exactlyWhen (A notBut FirstAt f m 0 (suc (suc n)) z)
+      → (b ≡ true → r ≡ first_refused f m 0) → (b ≡ false) exactly_when A
+      → (r ≡ refused (suc (suc n)) z) exactly_when (A not_but FirstAt f m 0 (suc (suc n)) z)
   place_first b n z l g p = (
     λ e. let o = place_by b n z l g e in (λ x. false≢true (sym (p.1 x) ∙ o.0), o.1),
     λ h. g (is_true b (λ e. h.0 (p.0 e))) ∙ is_first f m 0 (suc n) z h.1,

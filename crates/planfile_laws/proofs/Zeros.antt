@@ -55,11 +55,11 @@ unfolding byte_between
 between_none b from to false e o = refl
 between_none b from to true e o = absurd (o.1.1 ((zero_bytes b from to).0 e o.0 o.1.0.0 o.1.0.1))
 
-between_fails : (b : List ℕ) (from to : ℕ) → (zero_between b from to ≡ false) exactlyWhen byte_between b from to
+between_fails : (b : List ℕ) (from to : ℕ) → (zero_between b from to ≡ false) exactly_when byte_between b from to
 between_fails b from to = (between_some b from to, between_none b from to (zero_between b from to) refl)
 
 -- A test fails exactly when what it says does not hold.
-fails_when_not : (t : Bool) {A : Type 0} → (t ≡ true) exactlyWhen A → (t ≡ false) exactlyWhen (A → ⊥)
+fails_when_not : (t : Bool) {A : Type 0} → (t ≡ true) exactly_when A → (t ≡ false) exactly_when (A → ⊥)
 fails_when_not true p = (λ e. absurd (false≢true (sym e)), λ n. absurd (n (p.0 refl)))
 fails_when_not false p = (λ e a. false≢true (p.1 a), λ n. refl)
 
@@ -70,7 +70,7 @@ WrongMarks b =
     ⊎ (MarkPast b ⊎ WrongServer b)
 
 -- In kind 2: a mark past the tasks, or another server, which one with a byte 23 that is not zero is too.
-extended_fails : (b : List ℕ) → kind_in b ≡ extended_kind → (marks_ok b ≡ false) exactlyWhen WrongMarks b
+extended_fails : (b : List ℕ) → kind_in b ≡ extended_kind → (marks_ok b ≡ false) exactly_when WrongMarks b
 extended_fails b k =
     let f = fails_when_not (marks_ok b) (marks_of_two b k) in
     let past = past_exactly (marks_in b) (task_count b) in (
@@ -94,7 +94,7 @@ extended_fails b k =
     beside b l = omega (arith, word_bytes b marks_server_word, l)
 
 -- In another kind: any byte there.
-plain_fails : (b : List ℕ) → (kind_in b ≡ extended_kind → ⊥) → (marks_ok b ≡ false) exactlyWhen WrongMarks b
+plain_fails : (b : List ℕ) → (kind_in b ≡ extended_kind → ⊥) → (marks_ok b ≡ false) exactly_when WrongMarks b
 plain_fails b n =
     let f = fails_when_not (marks_ok b) (marks_of_other b n) in (
       λ e.
@@ -118,11 +118,11 @@ plain_fails b n =
     zero b z i l h = let q : i / 4 ≡ marks_server_word = omega arith in byte_of b i (rw q z)
 
 -- Either way.
-marks_fail : (b : List ℕ) → (marks_ok b ≡ false) exactlyWhen WrongMarks b
+marks_fail : (b : List ℕ) → (marks_ok b ≡ false) exactly_when WrongMarks b
 marks_fail b = elim (ℕ_discrete (kind_in b) extended_kind) [ yes k ↦ extended_fails b k | no n ↦ plain_fails b n ]
 
 -- 5: the bytes that must be zero, the marks, and the server.
-pub zeros_fail : (b : List ℕ) → (zeros_ok b ≡ false) exactlyWhen WrongZero b
+pub zeros_fail : (b : List ℕ) → (zeros_ok b ≡ false) exactly_when WrongZero b
 unfolding byte_between
 zeros_fail b =
     let m =

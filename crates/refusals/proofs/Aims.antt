@@ -72,7 +72,7 @@ module _ (g : Guest) (k task position : ℕ) (rest wait : List ℕ) (r : Aim) wh
       module _ (w : nth wait (place_at k (task - 1)) ≤ 0) where
         -- Past 8, 17 and 9 what is left decides.
         waited :
-            take_number g k task position rest wait ≡ refusal (eqb (nth rest (place_at k (task - 1))) 0 orRefuse 10 ∷ [])
+            take_number g k task position rest wait ≡ refusal (eqb (nth rest (place_at k (task - 1))) 0 or_refuse 10 ∷ [])
         waited =
             go_on 8 _ named ∙ go_on 17 _ m ∙ go_on 9 _ (eq-eqb (nth wait (place_at k (task - 1))) 0 (omega arith))
 

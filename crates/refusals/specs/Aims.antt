@@ -25,10 +25,10 @@ pub record Taking (g : Guest) (k i : ℕ) (r : Aim) : Type 0 where
 abbrev pub take_number : Guest → (k task position : ℕ) (rest wait : List ℕ) → ℕ
 take_number g k task position rest wait =
     refusal (
-    has_number g.tasks task orRefuse 8
-    ∷ may_start g position (task - 1) orRefuse 17
-    ∷ eqb (nth wait (place_at k (task - 1))) 0 orRefuse 9
-    ∷ eqb (nth rest (place_at k (task - 1))) 0 orRefuse 10
+    has_number g.tasks task or_refuse 8
+    ∷ may_start g position (task - 1) or_refuse 17
+    ∷ eqb (nth wait (place_at k (task - 1))) 0 or_refuse 9
+    ∷ eqb (nth rest (place_at k (task - 1))) 0 or_refuse 10
     ∷ [])
 
 -- the outcome of the refusals of a release that is for guest g, at place k
@@ -41,12 +41,12 @@ unfoldable pub aim_number : Plan → (left position rest wait age : List ℕ) (i
 aim_number p left position rest wait age id task =
     let k = place_of p id in
     refusal (
-    passes p left position rest wait age orRefuse 14
-    ∷ has_guest p id orRefuse 7
-    ∷ has_task p id task orRefuse 8
-    ∷ may_start (guest_at p.guests k) (nth position k) (task - 1) orRefuse 17
-    ∷ eqb (nth wait (place_at k (task - 1))) 0 orRefuse 9
-    ∷ eqb (nth rest (place_at k (task - 1))) 0 orRefuse 10
+    passes p left position rest wait age or_refuse 14
+    ∷ has_guest p id or_refuse 7
+    ∷ has_task p id task or_refuse 8
+    ∷ may_start (guest_at p.guests k) (nth position k) (task - 1) or_refuse 17
+    ∷ eqb (nth wait (place_at k (task - 1))) 0 or_refuse 9
+    ∷ eqb (nth rest (place_at k (task - 1))) 0 or_refuse 10
     ∷ [])
 
 -- the outcome of all refusals of a release

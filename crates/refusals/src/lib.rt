@@ -1,4 +1,6 @@
 // Refusals over lent arrays: refusal 14's test of a state, and a release's order of refusals.
+#![tactic(auto)]
+
 mod aiming;
 mod ranges;
 mod validating;
@@ -8,7 +10,7 @@ use plan::Columns;
 pub use validating::examine;
 
 // Whether a state is in its ranges, and the columns that the check read on its way.
-#[derive(Drop)]
+#[derive(Clone, Copy)]
 pub struct Checked {
     pub ok: bool,
     pub columns: Columns,
@@ -16,7 +18,7 @@ pub struct Checked {
 
 // The number that a release is refused by, or 0, and then the place that it is for, with the run and the wait that it
 // sets there.
-#[derive(Drop)]
+#[derive(Clone, Copy)]
 pub struct Aim {
     pub number: u32,
     pub at: usize,

@@ -1,4 +1,6 @@
 // The responses of guests and tasks, off lent columns: what verdicts and capacities are made of. Inner.
+#![tactic(auto)]
+
 mod charge;
 mod gaps;
 mod guest;

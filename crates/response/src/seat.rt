@@ -11,7 +11,7 @@ use plan::{Columns, Refusal, look_up};
 
 // A guest that was looked up by its id: the refusal, whose number is 0 where there is none, the guest's place, or 0, and
 // the columns of the plan.
-#[derive(Drop)]
+#[derive(Clone, Copy)]
 pub struct Seat {
     pub refusal: Refusal,
     pub place: usize,

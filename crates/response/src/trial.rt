@@ -10,7 +10,7 @@ use crate::met::first_unmet;
 use lists::{Found, is_at};
 
 // What a guest comes to with its capacity: unfit, fitted with a task that is not met, or fitted with all its tasks met.
-#[derive(Drop)]
+#[derive(Clone, Copy)]
 pub enum Trial {
     Unfit,
     Unmet,

@@ -61,28 +61,28 @@ module _ (plan sheet : List ℕ) where
   -- The plan's refusals come first.
   pub plan_first :
       (n k : ℕ)
-      → (pair_refusal plan sheet ≡ in_plan (suc n) k) exactlyWhen (file_refusal plan ≡ refused (suc n) k)
+      → (pair_refusal plan sheet ≡ in_plan (suc n) k) exactly_when (file_refusal plan ≡ refused (suc n) k)
   plan_first = exact.plan_first plan sheet
 
   -- The sheet's come where the plan has none; their place is the position in the sheet.
   pub sheet_second :
       (n k : ℕ)
       → (pair_refusal plan sheet ≡ in_sheet (suc n) k)
-      exactlyWhen (((file_refusal plan).number ≡ 0) × (sheet_refusal plan sheet ≡ refused (suc n) k))
+      exactly_when (((file_refusal plan).number ≡ 0) × (sheet_refusal plan sheet ≡ refused (suc n) k))
   sheet_second = exact.sheet_second plan sheet
 
   -- 1 to 6 of the sheet are those of reading its blocks, where places do not count.
   pub sheet_exactly :
       (n k : ℕ)
       → suc n ≤ 6
-      → (sheet_refusal plan sheet ≡ refused (suc n) k) exactlyWhen (blocks_refusal false sheet ≡ refused (suc n) k)
+      → (sheet_refusal plan sheet ≡ refused (suc n) k) exactly_when (blocks_refusal false sheet ≡ refused (suc n) k)
   sheet_exactly = exact.sheet_exactly plan sheet
 
   -- 16 at position k: all blocks of the sheet are read, and block k is the first that is of no guest of the plan.
   pub sixteen_exactly :
       (k : ℕ)
       → (sheet_refusal plan sheet ≡ refused 16 k)
-      exactlyWhen
+      exactly_when
       (((blocks_refusal false sheet).number ≡ 0) × FirstAt (foreign_number plan sheet) (blocks_in sheet) 0 16 k)
   sixteen_exactly = exact.sixteen_exactly plan sheet
 
@@ -90,23 +90,23 @@ module _ (plan sheet : List ℕ) where
   pub foreign_exactly :
       (k : ℕ)
       → (file_refusal plan).number ≡ 0
-      → (foreign_number plan sheet k ≡ 16) exactlyWhen Foreign plan sheet k
+      → (foreign_number plan sheet k ≡ 16) exactly_when Foreign plan sheet k
   foreign_exactly = exact.foreign_exactly plan sheet
 
 -- When the finder's companion says what, for a pair that is not refused.
 module _ (plan sheet : List ℕ) (ok : Fine plan sheet) (id : ℕ) where
   -- In the sheet at position j: block j of the sheet has the id.
   pub in_sheet_exactly :
-      (j : ℕ) → (pair_place plan sheet id ≡ in_sheet 0 j) exactlyWhen ((j < blocks_in sheet) × (id_at sheet j ≡ id))
+      (j : ℕ) → (pair_place plan sheet id ≡ in_sheet 0 j) exactly_when ((j < blocks_in sheet) × (id_at sheet j ≡ id))
   in_sheet_exactly = finder.in_sheet_exactly plan sheet ok id
 
   -- In the plan at place k: no block of the sheet has the id, and block k of the plan has it.
   pub in_plan_exactly :
       (k : ℕ)
       → (pair_place plan sheet id ≡ in_plan 0 k)
-      exactlyWhen ((HasId sheet id → ⊥) × ((k < blocks_in plan) × (id_at plan k ≡ id)))
+      exactly_when ((HasId sheet id → ⊥) × ((k < blocks_in plan) × (id_at plan k ≡ id)))
   in_plan_exactly = finder.in_plan_exactly plan sheet ok id
 
   -- 7: the plan has no guest of that id.
-  pub seven_exactly : (pair_place plan sheet id ≡ in_plan 7 0) exactlyWhen (HasId plan id → ⊥)
+  pub seven_exactly : (pair_place plan sheet id ≡ in_plan 7 0) exactly_when (HasId plan id → ⊥)
   seven_exactly = finder.seven_exactly plan sheet ok id

@@ -121,7 +121,7 @@ reading_first = causes.reading_first
 -- 12 is given exactly if the bytes read as a plan and the output is shorter than it, and its place is 0.
 pub twelve_exactly :
     (s : List ℕ) (room : ℕ)
-    → ((convert_refusal s room).number ≡ 12) exactlyWhen (((file_refusal s).number ≡ 0) × (room < length s))
+    → ((convert_refusal s room).number ≡ 12) exactly_when (((file_refusal s).number ≡ 0) × (room < length s))
 twelve_exactly = causes.twelve_exactly
 
 pub twelve_place : (s : List ℕ) (room : ℕ) → (convert_refusal s room).number ≡ 12 → convert_refusal s room ≡ refused 12 0

@@ -77,7 +77,7 @@ module _ (p : Plan) (can : CanStart p) (id number : ℕ) (cs : List Call)
   -- the last.
   pub nine_exactly :
       ((release (play ds (released p id number cs)) id number).refusal.number ≡ 9)
-      exactlyWhen (StartsHere p id number (play ds (released p id number cs))
+      exactly_when (StartsHere p id number (play ds (released p id number cs))
       × (ticks_in ds (released p id number cs) < every_by p id number))
   nine_exactly = again.nine_exactly p can id number cs taken ds none
 
@@ -85,7 +85,7 @@ module _ (p : Plan) (can : CanStart p) (id number : ℕ) (cs : List Call)
   -- unfinished.
   pub ten_exactly :
       ((release (play ds (released p id number cs)) id number).refusal.number ≡ 10)
-      exactlyWhen (StartsHere p id number (play ds (released p id number cs))
+      exactly_when (StartsHere p id number (play ds (released p id number cs))
       × ((every_by p id number ≤ ticks_in ds (released p id number cs))
       × (0 < rest_by p id number (play ds (released p id number cs)))))
   ten_exactly = again.ten_exactly p can id number cs taken ds none
@@ -93,7 +93,7 @@ module _ (p : Plan) (can : CanStart p) (id number : ℕ) (cs : List Call)
   -- A further release is taken exactly when the task may start, the period has passed and the last job is finished.
   pub taken_exactly :
       ((release (play ds (released p id number cs)) id number).refusal.number ≡ 0)
-      exactlyWhen (StartsHere p id number (play ds (released p id number cs))
+      exactly_when (StartsHere p id number (play ds (released p id number cs))
       × ((every_by p id number ≤ ticks_in ds (released p id number cs))
       × (rest_by p id number (play ds (released p id number cs)) ≡ 0)))
   taken_exactly = again.taken_exactly p can id number cs taken ds none
@@ -105,7 +105,7 @@ pub seventeen_exactly :
     → CanStart p
     → (cs : List Call)
     → ((release (play cs (start p)) id number).refusal.number ≡ 17)
-    exactlyWhen ((bound_by p id number ≡ true) × (0 < position_by p id (play cs (start p))))
+    exactly_when ((bound_by p id number ≡ true) × (0 < position_by p id (play cs (start p))))
 seventeen_exactly = again.seventeen_exactly
 
 -- The period of a bound task is a multiple of its guest's, so when it has passed since a taken release, once or several

@@ -37,7 +37,7 @@ kept_on_refusal = outcome.kept_on_refusal
 pub twenty_two_exactly :
     (p : Plan) (id k : ℕ)
     → Orderable p id k
-    → ((proposed p id).refusal.number ≡ 22) exactlyWhen NoOrder p id k
+    → ((proposed p id).refusal.number ≡ 22) exactly_when NoOrder p id k
 twenty_two_exactly = proposals.twenty_two_exactly
 
 -- 21 is given exactly of a Deferrable guest and of one with a bound task.
@@ -45,7 +45,7 @@ pub twenty_one_exactly :
     (p : Plan) (id k : ℕ)
     → There p id k
     → ((proposed p id).refusal.number ≡ 21)
-    exactlyWhen
+    exactly_when
     ((is_deferrable (guest_at p.guests k) ≡ true)
     ⊎ ((i : ℕ) × (i < (guest_at p.guests k).tasks) × (is_bound (guest_at p.guests k) i ≡ true)))
 twenty_one_exactly = proposals.twenty_one_exactly
@@ -55,7 +55,7 @@ pub seven_exactly :
     (p : Plan) (id : ℕ)
     → (plan_refusal p).number ≡ 0
     → ((proposed p id).refusal.number ≡ 7)
-    exactlyWhen ((k : ℕ) → k < p.count → (guest_at p.guests k).id ≡ id → ⊥)
+    exactly_when ((k : ℕ) → k < p.count → (guest_at p.guests k).id ≡ id → ⊥)
 seven_exactly = proposals.seven_exactly
 
 -- Records that are not in order have their own refusal.

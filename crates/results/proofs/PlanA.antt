@@ -25,7 +25,7 @@ use Rattle.results.proofs.Dispatcher.{nine_exactly, ten_exactly, unbound_here, u
 use Rattle.results.proofs.Word.{sure_of_capacity, had_by_response, quoted_sure, younger, finished_by_R, first_taken}
 
 -- A cause that holds needs no saying.
-without : {A H B : Type 0} → H → A exactlyWhen (H × B) → A exactlyWhen B
+without : {A H B : Type 0} → H → A exactly_when (H × B) → A exactly_when B
 without h N = (λ a. (N.0 a).1, λ b. N.1 (h, b))
 
 -- The second task of guest 9 is met with 80, so it is quoted 80.
@@ -81,7 +81,7 @@ pub second_nine :
     (ds : List Call)
     → NoneTaken 9 2 ds (released A 9 2 [])
     → ((release (play ds (released A 9 2 [])) 9 2).refusal.number ≡ 9)
-    exactlyWhen (ticks_in ds (released A 9 2 []) < 100)
+    exactly_when (ticks_in ds (released A 9 2 []) < 100)
 second_nine ds none =
     let N = nine_exactly A computed.can_A 9 2 [] computed.taken_A ds none in
     let here = unbound_here A 9 2 (play ds (released A 9 2 [])) computed.unbound_A in
@@ -108,7 +108,7 @@ pub case_7_ten :
     (ds : List Call)
     → NoneTaken 7 1 ds (released plan_D 7 1 [])
     → ((release (play ds (released plan_D 7 1 [])) 7 1).refusal.number ≡ 10)
-    exactlyWhen ((10 ≤ ticks_in ds (released plan_D 7 1 [])) × (0 < rest_at (play ds (released plan_D 7 1 [])) 0 0))
+    exactly_when ((10 ≤ ticks_in ds (released plan_D 7 1 [])) × (0 < rest_at (play ds (released plan_D 7 1 [])) 0 0))
 case_7_ten ds none =
     let N = ten_exactly plan_D computed.can_gap 7 1 [] computed.taken_gap ds none in
     let here = unbound_here plan_D 7 1 (play ds (released plan_D 7 1 [])) computed.unbound_gap in

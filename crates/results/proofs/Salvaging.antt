@@ -95,52 +95,52 @@ module _ (s : List ℕ) (k : ℕ) where
   -- A block is kept exactly when no cause holds, and dropped by a number exactly when its cause does and none before it.
   pub kept_exactly :
       ((fate s k).number ≡ 0)
-      exactlyWhen (
+      exactly_when (
       WrongSum (block_at s k)
-      notBut WrongKind (block_at s k)
-      notBut WrongAmongKept s k
-      notBut WrongZero (block_at s k)
-      notBut (WrongTask (guest_of (block_at s k)) → ⊥))
+      not_but WrongKind (block_at s k)
+      not_but WrongAmongKept s k
+      not_but WrongZero (block_at s k)
+      not_but (WrongTask (guest_of (block_at s k)) → ⊥))
   kept_exactly = exact.kept_exactly s k
 
-  pub dropped_by_two : ((fate s k).number ≡ 2) exactlyWhen WrongSum (block_at s k)
+  pub dropped_by_two : ((fate s k).number ≡ 2) exactly_when WrongSum (block_at s k)
   dropped_by_two = exact.dropped_by_two s k
 
-  pub dropped_by_three : ((fate s k).number ≡ 3) exactlyWhen (WrongSum (block_at s k) notBut WrongKind (block_at s k))
+  pub dropped_by_three : ((fate s k).number ≡ 3) exactly_when (WrongSum (block_at s k) not_but WrongKind (block_at s k))
   dropped_by_three = exact.dropped_by_three s k
 
   pub dropped_by_four :
       ((fate s k).number ≡ 4)
-      exactlyWhen (WrongSum (block_at s k) notBut WrongKind (block_at s k) notBut WrongAmongKept s k)
+      exactly_when (WrongSum (block_at s k) not_but WrongKind (block_at s k) not_but WrongAmongKept s k)
   dropped_by_four = exact.dropped_by_four s k
 
   pub dropped_by_five :
       ((fate s k).number ≡ 5)
-      exactlyWhen (
+      exactly_when (
       WrongSum (block_at s k)
-      notBut WrongKind (block_at s k)
-      notBut WrongAmongKept s k
-      notBut WrongZero (block_at s k))
+      not_but WrongKind (block_at s k)
+      not_but WrongAmongKept s k
+      not_but WrongZero (block_at s k))
   dropped_by_five = exact.dropped_by_five s k
 
   pub dropped_by_six :
       ((fate s k).number ≡ 6)
-      exactlyWhen (
+      exactly_when (
       WrongSum (block_at s k)
-      notBut WrongKind (block_at s k)
-      notBut WrongAmongKept s k
-      notBut WrongZero (block_at s k)
-      notBut WrongTask (guest_of (block_at s k)))
+      not_but WrongKind (block_at s k)
+      not_but WrongAmongKept s k
+      not_but WrongZero (block_at s k)
+      not_but WrongTask (guest_of (block_at s k)))
   dropped_by_six = exact.dropped_by_six s k
 
 -- The refusals of a whole file, in their order: a file above 4,096 bytes, an output shorter than the kept blocks, and
 -- nothing kept.
 module _ (s : List ℕ) (room : ℕ) where
-  pub one_exactly : (number_of s room ≡ 1) exactlyWhen TooLong s
+  pub one_exactly : (number_of s room ≡ 1) exactly_when TooLong s
   one_exactly = exact.one_exactly s room
 
-  pub twelve_exactly : (number_of s room ≡ 12) exactlyWhen (TooLong s notBut NoRoom s room)
+  pub twelve_exactly : (number_of s room ≡ 12) exactly_when (TooLong s not_but NoRoom s room)
   twelve_exactly = exact.twelve_exactly s room
 
-  pub twenty_exactly : (number_of s room ≡ 20) exactlyWhen (TooLong s notBut NoRoom s room notBut NothingKept s)
+  pub twenty_exactly : (number_of s room ≡ 20) exactly_when (TooLong s not_but NoRoom s room not_but NothingKept s)
   twenty_exactly = exact.twenty_exactly s room

@@ -59,13 +59,13 @@ module _ (d : Dispatcher) (pairs before : List ℕ) where
 -- places than pairs.
 pub fifteen_exactly :
     (d : Dispatcher) (pairs : List ℕ) (room : ℕ)
-    → ((sheet d pairs room).refusal.number ≡ 15) exactlyWhen ((state_ok d ≡ true) × (most_pairs < length pairs))
+    → ((sheet d pairs room).refusal.number ≡ 15) exactly_when ((state_ok d ≡ true) × (most_pairs < length pairs))
 fifteen_exactly = causes.fifteen_exactly
 
 pub twelve_exactly :
     (d : Dispatcher) (pairs : List ℕ) (room : ℕ)
     → ((sheet d pairs room).refusal.number ≡ 12)
-    exactlyWhen ((state_ok d ≡ true) × ((length pairs ≤ most_pairs) × (room < length pairs)))
+    exactly_when ((state_ok d ≡ true) × ((length pairs ≤ most_pairs) × (room < length pairs)))
 twelve_exactly = causes.twelve_exactly
 
 -- Our word covers each pair: `PairOf d pairs room i id number` says that the sheet is not refused whole in the state

@@ -1,1 +1,2 @@
 // The promises: statements that a customer's engineer can read, each proved by a line that cites the work. No code.
+#![tactic(auto)]

@@ -1,4 +1,6 @@
 // A plan's records as rows of words, as a C struct of numbers lies in memory: what calls in place are lent. Inner.
+#![tactic(auto)]
+
 ghost use Rattle.std.specs.Prelude.{◌≡◌, ◌/◌, ◌%◌, ◌≤◌, length};
 ghost use Rattle.rows.specs.Words.{column, guest_of, plan_of};
 ghost use Rattle.rows.specs.Put.{ColumnPut};

@@ -23,9 +23,9 @@ kept_in s = kept_places s (listed_in (length s))
 unfoldable pub salvage_number : (size kept room : ℕ) → ℕ
 salvage_number size kept room =
     refusal (
-    leb size most_bytes orRefuse 1
-    ∷ leb (block_size * kept) room orRefuse 12
-    ∷ leb 1 kept orRefuse 20
+    leb size most_bytes or_refuse 1
+    ∷ leb (block_size * kept) room or_refuse 12
+    ∷ leb 1 kept or_refuse 20
     ∷ [])
 
 -- The number that salvage refuses a file by, for an output of so many bytes.

@@ -1,4 +1,6 @@
 // A damaged plan file salvaged: the blocks that pass by themselves are kept, move up, and read as a plan again.
+#![tactic(auto)]
+
 ghost use Rattle.std.specs.Prelude.{◌≡◌, ◌≤◌};
 ghost use Rattle.plan.specs.Ranges.{most_guests};
 ghost use Rattle.salvage.specs.Outcome.{listed_in, salvage_number, answer_of};
@@ -13,7 +15,7 @@ mod sifter;
 // What becomes of a block: number 0 and its new place where it is kept, or the number that it is dropped by and place
 // 0.
 #[repr(C)]
-#[derive(Drop)]
+#[derive(Clone, Copy)]
 pub struct Fate {
     pub number: u32,
     pub place: u32,
@@ -22,7 +24,7 @@ pub struct Fate {
 // A file salvaged: the refusal, number 0 for none, how many bytes were written, how many blocks the list has, and the
 // list.
 #[repr(C)]
-#[derive(Drop)]
+#[derive(Clone, Copy)]
 pub struct Salvaged {
     pub refusal: Refusal,
     pub written: u32,
@@ -31,7 +33,7 @@ pub struct Salvaged {
 }
 
 // Blocks gone through: the places in the file of those that are kept, how many these are, and the list.
-#[derive(Drop)]
+#[derive(Clone, Copy)]
 pub struct Sifted {
     pub kept: [usize; 8],
     pub count: usize,

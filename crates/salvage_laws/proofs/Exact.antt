@@ -31,66 +31,66 @@ use Rattle.salvage_laws.proofs.ReadsAsPlan.{saved_at}
 
 -- What the list says of block k: each number exactly when its cause holds and none of those before it does.
 module _ (s : List ℕ) (k : ℕ) where
-  opening : ((kind_ok (block_at s k) && true) ≡ false) exactlyWhen WrongKind (block_at s k)
+  opening : ((kind_ok (block_at s k) && true) ≡ false) exactly_when WrongKind (block_at s k)
   opening = opening_fails false (block_at s k) k
 
-  guest : ((guest_ok (guest_of (block_at s k)) && new_among s (kept_places s k) k) ≡ false) exactlyWhen WrongAmongKept s k
+  guest : ((guest_ok (guest_of (block_at s k)) && new_among s (kept_places s k) k) ≡ false) exactly_when WrongAmongKept s k
   guest =
       both_fail (guest_ok (guest_of (block_at s k))) (new_among s (kept_places s k) k) (head_fails (guest_of (block_at s k)))
       (new_fails s k)
 
-  says : {n : ℕ} {A : Type 0} → (drop_number s k ≡ n) exactlyWhen A → ((fate s k).number ≡ n) exactlyWhen A
+  says : {n : ℕ} {A : Type 0} → (drop_number s k ≡ n) exactly_when A → ((fate s k).number ≡ n) exactly_when A
   says p = (λ e. p.0 (sym (fate_number s k) ∙ e), λ a. fate_number s k ∙ p.1 a)
 
   -- Kept exactly when no cause holds.
   pub kept_exactly :
       ((fate s k).number ≡ 0)
-      exactlyWhen (
+      exactly_when (
       WrongSum (block_at s k)
-      notBut WrongKind (block_at s k)
-      notBut WrongAmongKept s k
-      notBut WrongZero (block_at s k)
-      notBut (WrongTask (guest_of (block_at s k)) → ⊥))
+      not_but WrongKind (block_at s k)
+      not_but WrongAmongKept s k
+      not_but WrongZero (block_at s k)
+      not_but (WrongTask (guest_of (block_at s k)) → ⊥))
   unfolding number_after
   kept_exactly = says (block_none (block_at s k) _ _ opening guest)
 
   -- Dropped by 2: the block's words do not sum to zero.
-  pub dropped_by_two : ((fate s k).number ≡ 2) exactlyWhen WrongSum (block_at s k)
+  pub dropped_by_two : ((fate s k).number ≡ 2) exactly_when WrongSum (block_at s k)
   unfolding number_after
   dropped_by_two = says (block_two (block_at s k) _ _ opening guest)
 
   -- By 3: the kind, and no place is asked.
-  pub dropped_by_three : ((fate s k).number ≡ 3) exactlyWhen (WrongSum (block_at s k) notBut WrongKind (block_at s k))
+  pub dropped_by_three : ((fate s k).number ≡ 3) exactly_when (WrongSum (block_at s k) not_but WrongKind (block_at s k))
   unfolding number_after
   dropped_by_three = says (block_three (block_at s k) _ _ opening guest)
 
   -- By 4: the guest's own numbers, or its id among those of earlier kept blocks.
   pub dropped_by_four :
       ((fate s k).number ≡ 4)
-      exactlyWhen (WrongSum (block_at s k) notBut WrongKind (block_at s k) notBut WrongAmongKept s k)
+      exactly_when (WrongSum (block_at s k) not_but WrongKind (block_at s k) not_but WrongAmongKept s k)
   unfolding number_after
   dropped_by_four = says (block_four (block_at s k) _ _ opening guest)
 
   -- By 5: a byte that must be zero is not, a mark is past the tasks, or the server is neither Periodic nor Deferrable.
   pub dropped_by_five :
       ((fate s k).number ≡ 5)
-      exactlyWhen (
+      exactly_when (
       WrongSum (block_at s k)
-      notBut WrongKind (block_at s k)
-      notBut WrongAmongKept s k
-      notBut WrongZero (block_at s k))
+      not_but WrongKind (block_at s k)
+      not_but WrongAmongKept s k
+      not_but WrongZero (block_at s k))
   unfolding number_after
   dropped_by_five = says (block_five (block_at s k) _ _ opening guest)
 
   -- By 6: a task's run, period or deadline is outside its range, or a bound task's period is no multiple.
   pub dropped_by_six :
       ((fate s k).number ≡ 6)
-      exactlyWhen (
+      exactly_when (
       WrongSum (block_at s k)
-      notBut WrongKind (block_at s k)
-      notBut WrongAmongKept s k
-      notBut WrongZero (block_at s k)
-      notBut WrongTask (guest_of (block_at s k)))
+      not_but WrongKind (block_at s k)
+      not_but WrongAmongKept s k
+      not_but WrongZero (block_at s k)
+      not_but WrongTask (guest_of (block_at s k)))
   unfolding number_after
   dropped_by_six = says (block_six (block_at s k) _ _ opening guest)
 
@@ -111,7 +111,7 @@ list_says s room k l =
     table_before (fate s) no_fate (listed_in (length s)) (drop (listed_in (length s)) (replicate most_guests no_fate)) k l
 
 -- No place is kept exactly when every block of the list is dropped.
-none_kept_exactly : (s : List ℕ) → (leb 1 (length (kept_in s)) ≡ false) exactlyWhen NothingKept s
+none_kept_exactly : (s : List ℕ) → (leb 1 (length (kept_in s)) ≡ false) exactly_when NothingKept s
 none_kept_exactly s = (
   λ e k l z.
       let t = there s (listed_in (length s)) k l (sym (fate_number s k) ∙ z) in
@@ -127,12 +127,12 @@ none_kept_exactly s = (
 -- The refusals of a whole file.
 module _ (s : List ℕ) (room : ℕ) where
   -- 1: the file is above 4,096 bytes.
-  pub one_exactly : (number_of s room ≡ 1) exactlyWhen TooLong s
+  pub one_exactly : (number_of s room ≡ 1) exactly_when TooLong s
   unfolding salvage_number among
   one_exactly = given_first (leb (length s) most_bytes) 1 _ (omega arith) refl (leb_fails (length s) most_bytes)
 
   -- 12: the output is shorter than the kept blocks.
-  pub twelve_exactly : (number_of s room ≡ 12) exactlyWhen (TooLong s notBut NoRoom s room)
+  pub twelve_exactly : (number_of s room ≡ 12) exactly_when (TooLong s not_but NoRoom s room)
   unfolding salvage_number among
   twelve_exactly =
       given_later (leb (length s) most_bytes) 1 12 _ (λ q. omega arith) (leb_fails (length s) most_bytes)
@@ -140,7 +140,7 @@ module _ (s : List ℕ) (room : ℕ) where
       (leb_fails (block_size * length (kept_in s)) room))
 
   -- 20: nothing is kept.
-  pub twenty_exactly : (number_of s room ≡ 20) exactlyWhen (TooLong s notBut NoRoom s room notBut NothingKept s)
+  pub twenty_exactly : (number_of s room ≡ 20) exactly_when (TooLong s not_but NoRoom s room not_but NothingKept s)
   unfolding salvage_number among
   twenty_exactly =
       given_later (leb (length s) most_bytes) 1 20 _ (λ q. omega arith) (leb_fails (length s) most_bytes)

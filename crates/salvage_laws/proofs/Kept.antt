@@ -71,7 +71,7 @@ there s (suc n) k l e =
         record { within = rw o t.within; source = rw o t.source }
 
 -- The id is not new exactly when an earlier kept block has it.
-pub new_fails : (s : List ℕ) (k : ℕ) → (new_among s (kept_places s k) k ≡ false) exactlyWhen SeenKept s k
+pub new_fails : (s : List ℕ) (k : ℕ) → (new_among s (kept_places s k) k ≡ false) exactly_when SeenKept s k
 unfolding new_among
 new_fails s k = (
   λ e.

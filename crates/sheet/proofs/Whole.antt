@@ -51,8 +51,8 @@ by_zero zero d after pairs before answers h A = (rw A.state refl, A.answer)
 by_zero (suc n) d after pairs before answers h A = absurd (omega arith)
 
 module _ (d : Dispatcher) (pairs before : List ℕ) {x : ℕ} {found : Checked} (E : Examines d found)
-    (e : x ≡ refusal (found.ok orRefuse 14 ∷ leb (length pairs) most_pairs orRefuse 15
-    ∷ leb (length pairs) (length before) orRefuse 12 ∷ [])) where
+    (e : x ≡ refusal (found.ok or_refuse 14 ∷ leb (length pairs) most_pairs or_refuse 15
+    ∷ leb (length pairs) (length before) or_refuse 12 ∷ [])) where
   -- The code's number is the sheet's.
   number_is : x ≡ sheet_number d pairs (length before)
   unfolding sheet_number

@@ -48,9 +48,9 @@ answer_to d pairs n = (pair_released (state_after d pairs n) (nth pairs n)).refu
 unfoldable pub sheet_number : Dispatcher → (pairs : List ℕ) → (room : ℕ) → ℕ
 sheet_number d pairs room =
     refusal (
-    state_ok d orRefuse 14
-    ∷ leb (length pairs) most_pairs orRefuse 15
-    ∷ leb (length pairs) room orRefuse 12
+    state_ok d or_refuse 14
+    ∷ leb (length pairs) most_pairs or_refuse 15
+    ∷ leb (length pairs) room or_refuse 12
     ∷ [])
 
 -- The state by that number: that after all pairs, or as it was.

@@ -1,4 +1,6 @@
 // A sheet of releases: many tasks are released in one call, and the state is checked once.
+#![tactic(auto)]
+
 ghost use Rattle.sheet.specs.Promises.{Sheets};
 
 use dispatcher::{Dispatcher, Released};

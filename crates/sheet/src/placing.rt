@@ -16,7 +16,7 @@ const MOST_PAIRS: usize = 256;
 
 // The number that a sheet is refused by as a whole: 14, 15, 12, or 0.
 fn whole_number(ok: bool, pairs: usize, room: usize) -> u32
-    ensures { result ≡ refusal (ok orRefuse 14 ∷ leb pairs most_pairs orRefuse 15 ∷ leb pairs room orRefuse 12 ∷ []) }
+    ensures { result ≡ refusal (ok or_refuse 14 ∷ leb pairs most_pairs or_refuse 15 ∷ leb pairs room or_refuse 12 ∷ []) }
 {
     if !ok {
         return 14;

@@ -1,4 +1,6 @@
 // The lines of the printing program: made from the verdicts, and printed.
+#![tactic(auto)]
+
 ghost use Rattle.show.specs.Promises.{ShowsGuest, ShowsTask, ShowsPlan};
 
 use plan::Plan;
@@ -9,7 +11,7 @@ mod output;
 pub use output::print;
 
 // A guest's line has its id first, a task's its number.
-#[derive(Drop)]
+#[derive(Clone, Copy)]
 pub enum Line {
     Refused(u32, u32),
     Fitted(u32, u32),

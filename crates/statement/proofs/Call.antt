@@ -71,7 +71,7 @@ module _ (s : Statement) (plan log : List ℕ) where
 
   -- The tests after the plan's.
   abbrev tests : List Test
-  tests = statement_ok s orRefuse 14 ∷ eqb (length log % block_size) 0 orRefuse 1 ∷ []
+  tests = statement_ok s or_refuse 14 ∷ eqb (length log % block_size) 0 or_refuse 1 ∷ []
 
   module _ {r : Refusal} (e : r ≡ file_refusal plan) where
     -- The plan is refused.

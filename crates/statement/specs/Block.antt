@@ -18,9 +18,9 @@ tasks_there p b = all_to (λ i. has_task p (entry_in b i).guest (entry_in b i).t
 -- What is asked of a block against the plan, and against how many blocks are counted before it.
 abbrev pub plan_tests : Plan → (blocks : ℕ) → (block : List ℕ) → List Test
 plan_tests p blocks b =
-    guests_there p b orRefuse 7
-    ∷ tasks_there p b orRefuse 8
-    ∷ ltb blocks most_blocks orRefuse 19
+    guests_there p b or_refuse 7
+    ∷ tasks_there p b or_refuse 8
+    ∷ ltb blocks most_blocks or_refuse 19
     ∷ []
 
 -- The number that a block is passed over by, 0 where it is taken: its own tests come first.

@@ -16,7 +16,7 @@ use Rattle.statement.specs.Log.{after_blocks, passed_in, first_passed}
 unfoldable pub call_refusal : Statement → (plan log : List ℕ) → Refusal
 call_refusal s plan log =
     or_else (file_refusal plan).number (file_refusal plan).place
-    (refused (refusal (statement_ok s orRefuse 14 ∷ eqb (length log % block_size) 0 orRefuse 1 ∷ [])) 0)
+    (refused (refusal (statement_ok s or_refuse 14 ∷ eqb (length log % block_size) 0 or_refuse 1 ∷ [])) 0)
 
 -- The outcome of a call on a log of n blocks that is not refused.
 abbrev pub stated_over : Plan → (log : List ℕ) → (n : ℕ) → Statement → Stated

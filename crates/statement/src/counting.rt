@@ -13,7 +13,7 @@ const NO_GUEST: u32 = 128;
 const NO_TASK: u32 = 129;
 
 // Where the entries of a block are counted, and whether each names a guest, and a task of it.
-#[derive(Drop)]
+#[derive(Clone, Copy)]
 pub struct Targets {
     pub at: [u32; 41],
     pub guests: bool,

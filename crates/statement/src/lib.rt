@@ -1,4 +1,6 @@
 // A statement of finished jobs: logs of them added up task by task, and a log's blocks written.
+#![tactic(auto)]
+
 ghost use Rattle.std.specs.Prelude.{◌≡◌};
 ghost use Rattle.statement.specs.Call.{unstated};
 ghost use Rattle.statement.specs.Promises.{Extends};
@@ -16,7 +18,7 @@ pub use logblock::{Entries, Entry, write_log};
 // The blocks counted, and for task t of guest g, at line 16 g + t, the sum of the margins, the jobs counted, the
 // longest age, and how many were late.
 #[repr(C)]
-#[derive(Drop)]
+#[derive(Clone, Copy)]
 pub struct Statement {
     pub blocks: u64,
     pub margins: [i64; 128],
@@ -28,7 +30,7 @@ pub struct Statement {
 // The outcome of a call: its refusal, number 0 for none, and the next statement; how many blocks of the log were passed
 // over, and the position in it and the number of the first that was, both 0 if none was.
 #[repr(C)]
-#[derive(Drop)]
+#[derive(Clone, Copy)]
 pub struct Stated {
     pub refusal: Refusal,
     pub statement: Statement,

@@ -17,7 +17,7 @@ use block::layout;
 use plan::{Plan, Refusal};
 
 // What a log comes to beside the lines: the blocks counted, how many were passed over, and the first of those.
-#[derive(Drop)]
+#[derive(Clone, Copy)]
 pub struct Went {
     pub blocks: u64,
     pub passed: u64,

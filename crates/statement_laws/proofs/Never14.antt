@@ -47,7 +47,7 @@ call_number_lem s plan log = by (call_refusal s plan log).number refl
     by (suc r) e = e
 
 not_14 : (number place : ℕ) (ok whole : Bool) → number ≤ 6 → ok ≡ true
-    → (or_else number place (refused (refusal (ok orRefuse 14 ∷ whole orRefuse 1 ∷ [])) 0)).number ≢ 14
+    → (or_else number place (refused (refusal (ok or_refuse 14 ∷ whole or_refuse 1 ∷ [])) 0)).number ≢ 14
 unfolding or_else refusal unless
 not_14 (suc number) place ok whole h t e = omega arith
 not_14 zero place true true h t e = omega arith

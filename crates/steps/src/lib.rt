@@ -1,11 +1,13 @@
 // Ticks over lent arrays: one, and one after the other.
+#![tactic(auto)]
+
 mod running;
 mod stepping;
 
 pub use running::steps;
 
 // Who had a tick, as a step notes it: the guest's place and its task's, and the run left that the task had.
-#[derive(Drop)]
+#[derive(Clone, Copy)]
 pub struct Turn {
     pub guest: usize,
     pub task: usize,
@@ -13,7 +15,7 @@ pub struct Turn {
 }
 
 // How many steps were done, and who had the last of them.
-#[derive(Drop)]
+#[derive(Clone, Copy)]
 pub struct Went {
     pub done: u32,
     pub turn: Turn,

@@ -61,7 +61,7 @@ module _ {p : Plan} {id : ℕ} {r : LookedUp} (l : LooksUp p id r) (h : r.refusa
   unfolding task_verdict
   task_missing number e f =
       test_refuses task.Refused 8 [] _ (omega arith) (task_there number e ∙ f)
-      ∙ look_goes_on l h task.Refused (has_task p id number orRefuse 8 ∷ []) _
+      ∙ look_goes_on l h task.Refused (has_task p id number or_refuse 8 ∷ []) _
 
   -- off the plan's columns
   module _ {c : Columns} (f : ColumnsOf p.guests most_guests c) {jitters : List ℕ} (late : JittersOf c jitters) where
@@ -102,7 +102,7 @@ module _ {p : Plan} {id : ℕ} {r : LookedUp} (l : LooksUp p id r) (h : r.refusa
         ∙ ap (λ (j : ℕ). task_says (fitted_to p j) (deadline_of (guest_at p.guests j) i) (task_response p j i)) (l.place h)
         ∙ no_test task.Refused _
         ∙ test_passes task.Refused 8 [] _ (task_there number e ∙ t)
-        ∙ look_goes_on l h task.Refused (has_task p id number orRefuse 8 ∷ []) _
+        ∙ look_goes_on l h task.Refused (has_task p id number or_refuse 8 ∷ []) _
 
 -- the acceptance of records in order is that of the test of all guests
 pub plan_accepted : (p : Plan) → (plan_refusal p).number ≡ 0 → {c : Columns} → ColumnsOf p.guests most_guests c

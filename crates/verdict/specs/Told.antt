@@ -39,7 +39,7 @@ plan_told plan.NotAccepted = saying []
 -- guest_verdict tells the refusal by the records' order and then 7, or the guest's response
 abbrev pub GuestTells : Plan → ℕ → GuestVerdict → Type 0
 GuestTells p id r =
-    guest_told r ≡ refuse_or refusing (records_then p (has_guest p id orRefuse 7 ∷ []))
+    guest_told r ≡ refuse_or refusing (records_then p (has_guest p id or_refuse 7 ∷ []))
     (saying (value_of (guest_response p (place_of p id))))
 
 -- task_verdict tells the refusal by the records' order, then 7, then 8, or the task's response where its guest and all
@@ -47,7 +47,7 @@ GuestTells p id r =
 abbrev pub TaskTells : Plan → ℕ → ℕ → TaskVerdict → Type 0
 TaskTells p id number r =
     task_told r
-    ≡ refuse_or refusing (records_then p (has_guest p id orRefuse 7 ∷ has_task p id number orRefuse 8 ∷ []))
+    ≡ refuse_or refusing (records_then p (has_guest p id or_refuse 7 ∷ has_task p id number or_refuse 8 ∷ []))
     (saying (pick (fitted_to p (place_of p id)) (value_of (task_response p (place_of p id) (number - 1))) []))
 
 -- accept tells the refusal by the records' order alone

@@ -29,7 +29,7 @@ guest_says Nothing = Unfit
 -- the verdict of a guest: the records' order, then 7
 unfoldable pub guest_verdict : Plan → ℕ → GuestVerdict
 guest_verdict p id =
-    refuse_or guest.Refused (records_then p (has_guest p id orRefuse 7 ∷ [])) (guest_says (guest_response p (place_of p id)))
+    refuse_or guest.Refused (records_then p (has_guest p id or_refuse 7 ∷ [])) (guest_says (guest_response p (place_of p id)))
 
 -- a response is quoted: met if it is at most the deadline, else unmet
 unfoldable pub quoted_by : Bool → ℕ → TaskVerdict
@@ -46,7 +46,7 @@ task_says true deadline Nothing = Unmet
 -- the verdict of a task: the records' order, then 7, then 8
 unfoldable pub task_verdict : Plan → ℕ → ℕ → TaskVerdict
 task_verdict p id number =
-    refuse_or task.Refused (records_then p (has_guest p id orRefuse 7 ∷ has_task p id number orRefuse 8 ∷ []))
+    refuse_or task.Refused (records_then p (has_guest p id or_refuse 7 ∷ has_task p id number or_refuse 8 ∷ []))
     (task_says (fitted_to p (place_of p id)) (deadline_of (guest_at p.guests (place_of p id)) (number - 1))
     (task_response p (place_of p id) (number - 1)))
 

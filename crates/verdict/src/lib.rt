@@ -1,4 +1,6 @@
 // The verdicts of guests and tasks, and the acceptance of a plan.
+#![tactic(auto)]
+
 ghost use Rattle.verdict.specs.Promises.{GuestJudged, TaskJudged, Accepts};
 
 use plan::{Plan, check, columns_of, count_ok};
@@ -13,7 +15,7 @@ pub use placing::guest_verdict_in; // Inner: as above.
 pub use placing::task_verdict_in; // Inner: as above.
 
 // The verdict of a guest: a refusal's number and place; fitted with its response; unfit.
-#[derive(Drop)]
+#[derive(Clone, Copy)]
 pub enum GuestVerdict {
     Refused(u32, u32),
     Fitted(u32),
@@ -22,7 +24,7 @@ pub enum GuestVerdict {
 
 // The verdict of a task: a refusal's number and place; met with its response; unmet with its response, or with none
 // up to the task's period; unjudged.
-#[derive(Drop)]
+#[derive(Clone, Copy)]
 pub enum TaskVerdict {
     Refused(u32, u32),
     Met(u32),
@@ -32,7 +34,7 @@ pub enum TaskVerdict {
 }
 
 // The acceptance of a plan: a refusal's number and place; accepted; not accepted.
-#[derive(Drop)]
+#[derive(Clone, Copy)]
 pub enum Acceptance {
     Refused(u32, u32),
     Accepted,

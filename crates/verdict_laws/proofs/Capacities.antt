@@ -30,7 +30,7 @@ pub capacity_answer_is : (p : Plan) (id k : ℕ) → There p id k → smallest_c
 unfolding smallest_capacity
 capacity_answer_is p id k t =
     sym (no_test Refused _ ∙ test_passes Refused 7 [] _ (there_has p id k t)
-    ∙ records_pass Refused p (has_guest p id orRefuse 7 ∷ []) _ t.order)
+    ∙ records_pass Refused p (has_guest p id or_refuse 7 ∷ []) _ t.order)
     ∙ ap (λ (j : ℕ). capacity_says (smallest p j)) (there_place p id k t)
 
 -- a capacity that passes the test works

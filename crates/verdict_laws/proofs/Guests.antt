@@ -56,7 +56,7 @@ pub guest_verdict_is : (p : Plan) (id k : ℕ) → There p id k → guest_verdic
 unfolding guest_verdict
 guest_verdict_is p id k t =
     sym (no_test Refused _ ∙ test_passes Refused 7 [] _ (there_has p id k t)
-    ∙ records_pass Refused p (has_guest p id orRefuse 7 ∷ []) _ t.order)
+    ∙ records_pass Refused p (has_guest p id or_refuse 7 ∷ []) _ t.order)
     ∙ ap (λ (j : ℕ). guest_says (guest_response p j)) (there_place p id k t)
 
 -- a response means the least solution, none that there is no solution
@@ -128,6 +128,6 @@ pub fitted_means : (p : Plan) (id x : ℕ) → guest_verdict p id ≡ Fitted x
 unfolding guest_verdict
 fitted_means p id x e =
     let r = by_records Refused {a = Fitted x} (λ n m q. (let z : ◌≡◌ {A = ℕ} 0 1 = cc in omega arith)) p
-    (has_guest p id orRefuse 7 ∷ []) _ e in
+    (has_guest p id or_refuse 7 ∷ []) _ e in
     let t = has_there p id r.0 (passed (has_guest p id) 7 [] (omega arith) r.1.0).0 in
     (t, rw e at (guest_verdict_means p id (place_of p id) t))

@@ -48,8 +48,8 @@ task_verdict_is p id k i t h =
     rw place (within_right (guest_at p.guests k).tasks (suc i) (omega arith) (omega arith)) in
     let number : suc i - 1 ≡ i = omega arith in
     sym (no_test task.Refused _ ∙ test_passes task.Refused 8 [] _ has
-    ∙ test_passes task.Refused 7 (has_task p id (suc i) orRefuse 8 ∷ []) _ (there_has p id k t)
-    ∙ records_pass task.Refused p (has_guest p id orRefuse 7 ∷ has_task p id (suc i) orRefuse 8 ∷ []) _ t.order)
+    ∙ test_passes task.Refused 7 (has_task p id (suc i) or_refuse 8 ∷ []) _ (there_has p id k t)
+    ∙ records_pass task.Refused p (has_guest p id or_refuse 7 ∷ has_task p id (suc i) or_refuse 8 ∷ []) _ t.order)
     ∙ rw (place, number) refl
 
 -- under fitted guests a response means the least solution, met or unmet by the deadline, and none means that there is
@@ -110,7 +110,7 @@ pub judged_means : (p : Plan) (id number : ℕ) {v : TaskVerdict} → ((n m : �
     → TaskThere p id number × TaskMeans p (place_of p id) (number - 1) v
 unfolding task_verdict has_task
 judged_means p id number {v} none e =
-    let r = by_records task.Refused none p (has_guest p id orRefuse 7 ∷ has_task p id number orRefuse 8 ∷ []) _ e in
+    let r = by_records task.Refused none p (has_guest p id or_refuse 7 ∷ has_task p id number or_refuse 8 ∷ []) _ e in
     let seven = passed (has_guest p id) 7 _ (omega arith) r.1.0 in
     let eight = passed (has_task p id number) 8 [] (omega arith) seven.1 in
     let n = within_says 1 (guest_at p.guests (place_of p id)).tasks number eight.0 in

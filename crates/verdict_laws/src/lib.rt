@@ -1,2 +1,3 @@
 // What the verdicts and the smallest capacity mean, and what a quoted task keeps of a dispatcher's state. Theorems, and
 // no code.
+#![tactic(auto)]

@@ -1,4 +1,6 @@
 // Little-endian words in lent bytes: read, written, and summed modulo 2 to the 32.
+#![tactic(auto)]
+
 ghost use Rattle.std.specs.Prelude.{◌≡◌, ◌+◌, ◌*◌, ◌<◌, ◌≤◌, ◌++◌, length, drop, replicate};
 ghost use Rattle.words.specs.Word.{u32_at, word};
 ghost use Rattle.words.specs.Bytes.{with_u32, with_word};

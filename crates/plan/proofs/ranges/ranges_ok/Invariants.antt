@@ -1,0 +1,17 @@
+-- `plan::ranges_ok` meets its contract: each turn gathers one task's test. Assumes nothing.
+use mathlib.Core.Path.{◌≡◌, sym}
+use Prim.Native.Nat.{◌≤◌, ◌-◌}
+use native.Mathlib.Omega.{arith}
+use borrow.Author.Rules.{rules}
+use Rattle.lists.specs.Places.{nth}
+use Rattle.lists.specs.All.{all_to}
+use Rattle.plan.specs.Ranges.{task_ok}
+use Rattle.lists.proofs.All.{all_none, all_turn}
+use Rattle.plan.proofs.ranges.ranges_ok.Given as goal
+
+abbrev pub invariant-loop-i : goal.invariant-loop-i
+invariant-loop-i l =
+    (l.i ≤ l.n) × (l.ok ≡ all_to (λ j. task_ok (nth l.run j) (nth l.every j) (nth l.deadline j)) l.i)
+
+abbrev pub decreases-loop-i : goal.decreases-loop-i
+decreases-loop-i l = l.n - l.i
