@@ -1,7 +1,7 @@
 #!/bin/sh
 # Prints the bytes of stack that each export takes; with a number, fails where one takes more bytes than that, and held,
 # where one takes more than its aim.
-# The library must be built: rt staticlib coreshare. From anywhere: host/bench/stack.sh [MOST | --hold]
+# The library must be built: ./build library. From anywhere: host/bench/stack.sh [MOST | --hold]
 set -eu
 cd "$(dirname "$0")"
 made=../../target/host

@@ -1,4 +1,4 @@
-/* The core-sharing library's C interface, for x86-64. Link libcoreshare.a, which `rt staticlib coreshare` writes.
+/* The core-sharing library's C interface, for x86-64. Link libcoreshare.a, which `./build library` writes.
  *
  * On one core, up to 8 guests share the time, each with up to 16 tasks. Every rule stands in document 01,
  * as the requests P1 to P13 of document 02 change it; that of cs_least_capacities stands where it is declared.

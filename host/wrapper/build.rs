@@ -1,4 +1,4 @@
-//! Says where the static library stands: `rt staticlib coreshare` writes it under the repository's root.
+//! Says where the static library stands: `./build library` writes it under the repository's root.
 
 use std::path::PathBuf;
 
@@ -12,6 +12,6 @@ fn main() {
     // Not bundled: the library is only looked for when a program that calls it is linked.
     println!("cargo:rustc-link-lib=static:-bundle=coreshare");
     if !archive.exists() {
-        println!("cargo:warning=libcoreshare.a is missing: run `rt staticlib coreshare` at the root");
+        println!("cargo:warning=libcoreshare.a is missing: run `./build library` at the root");
     }
 }
