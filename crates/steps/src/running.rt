@@ -22,7 +22,7 @@ pub fn steps(
     requires { Small n tasks.now }
     ensures { StepsOn n capacities.now periods.now tasks.now
         (record {
-          left = left.entry.now;
+          left = left.old;
           position = position.old;
           rest = rest.old;
           wait = wait.old;
@@ -30,7 +30,7 @@ pub fn steps(
           usage = usage.old;
         })
         (record {
-          left = left.exit.now;
+          left = left.new;
           position = position.new;
           rest = rest.new;
           wait = wait.new;

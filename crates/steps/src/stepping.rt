@@ -56,7 +56,7 @@ pub fn step(
     ensures { Steps n
         capacities.now periods.now tasks.now
         (record {
-          left = left.entry.now;
+          left = left.old;
           position = position.old;
           rest = rest.old;
           wait = wait.old;
@@ -64,7 +64,7 @@ pub fn step(
           usage = usage.old;
         })
         (record {
-          left = left.exit.now;
+          left = left.new;
           position = position.new;
           rest = rest.new;
           wait = wait.new;

@@ -1,5 +1,4 @@
 -- Neither number is above 1,000,000, so the difference fits.
-use borrow.Author.Rules.{rules}
 use Rattle.margins.proofs.Margin.{margin_fits, margin_read}
 use Rattle.margins.proofs.margin_of.Goals as goal
 

@@ -1,7 +1,6 @@
 -- The product fits, and the sum is tested from both sides.
 use Prim.Native.Nat.{◌*◌}
 use lib.IntN.{pos, neg_ℤ, +ℤ_idl}
-use borrow.Author.Rules.{rules}
 use Rattle.margins.specs.Margin.{widest}
 use mir.Facts.{to_z-of_z}
 use Rattle.margins.proofs.Margin.{most_fits, least_fits, most_cast, size_between}

@@ -1,6 +1,5 @@
 -- The loop's invariant: the waits of the places passed have fallen, and no other.
-use Rattle.std.proofs.Common.{◌≡◌, ◌-◌, ◌*◌, ◌≤◌, sym, rules}
-use Rattle.lists.specs.Places.{up_to}
+use Rattle.std.proofs.Common.{sym, rules}
 use Rattle.arrays.specs.Parts.{fallen}
 use Rattle.lists.proofs.Places.{up_to_none, up_to_next, up_to_done}
 use Rattle.arrays.proofs.jobs.fall.Goals as goal

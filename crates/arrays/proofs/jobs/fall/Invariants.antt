@@ -1,8 +1,7 @@
 -- The loop's invariant: the waits of the places passed have fallen, and no other.
-use Rattle.std.proofs.Common.{◌≡◌, ◌-◌, ◌*◌, ◌≤◌, sym, rules}
+use Rattle.std.proofs.Common.{◌≡◌, ◌-◌, ◌*◌, ◌≤◌}
 use Rattle.lists.specs.Places.{up_to}
 use Rattle.arrays.specs.Parts.{fallen}
-use Rattle.lists.proofs.Places.{up_to_none, up_to_next, up_to_done}
 use Rattle.arrays.proofs.jobs.fall.Given as goal
 
 abbrev pub invariant-loop-i : goal.invariant-loop-i

@@ -1,6 +1,5 @@
 -- The loop's invariant: the ages of the places passed are grown, and no other.
-use Rattle.std.proofs.Common.{◌≡◌, ◌-◌, ◌*◌, ◌≤◌, sym, rules}
-use Rattle.lists.specs.Places.{up_to}
+use Rattle.std.proofs.Common.{sym, rules}
 use Rattle.arrays.specs.Parts.{grown}
 use Rattle.lists.proofs.Places.{up_to_none, up_to_next, up_to_done}
 use Rattle.arrays.proofs.jobs.grow.Goals as goal

@@ -1,5 +1,5 @@
 -- One age: by whether the job is unfinished, and whether the age has stopped.
-use Rattle.std.proofs.Common.{refl, arith, rules, le-ltb, lt-ltb}
+use Rattle.std.proofs.Common.{refl, arith, le-ltb, lt-ltb}
 use Rattle.arrays.proofs.jobs.older.Goals as goal
 
 pub returns-then-age-lt-LONGEST : goal.returns-then-age-lt-LONGEST

@@ -1,8 +1,7 @@
 -- The loop's invariant: the search from t on finds what the whole search finds.
-use Rattle.std.proofs.Common.{◌≡◌, ◌-◌, ◌≤◌, sym, ◌∙◌, rules, le-ltb, lt-ltb}
+use Rattle.std.proofs.Common.{◌≡◌, ◌-◌, ◌≤◌}
 use Rattle.lists.specs.Search.{first_from}
 use Rattle.arrays.specs.Parts.{has_run}
-use Rattle.lists.proofs.Search.{first_hit, first_skip, first_none, first_all}
 use Rattle.arrays.proofs.jobs.worker.Given as goal
 
 abbrev pub invariant-loop-t : goal.invariant-loop-t

@@ -1,6 +1,5 @@
 -- The loop's invariant: the search from k on finds what the whole search finds.
-use Rattle.std.proofs.Common.{◌≡◌, ◌-◌, ◌≤◌, sym, ◌∙◌, rules, le-ltb, lt-ltb}
-use Rattle.lists.specs.Search.{first_from}
+use Rattle.std.proofs.Common.{sym, ◌∙◌, rules, le-ltb, lt-ltb}
 use Rattle.arrays.specs.Parts.{has_left}
 use Rattle.lists.proofs.Search.{first_hit, first_skip, first_none, first_all}
 use Rattle.arrays.proofs.server.holder.Goals as goal

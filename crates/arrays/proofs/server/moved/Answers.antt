@@ -1,5 +1,5 @@
 -- By whether the next position is below the period.
-use Rattle.std.proofs.Common.{◌+◌, arith, rules, le-ltb, lt-ltb}
+use Rattle.std.proofs.Common.{◌+◌, arith, le-ltb, lt-ltb}
 use Rattle.arrays.proofs.server.moved.Goals as goal
 
 pub returns-then-after-period : goal.returns-then-after-period

@@ -1,5 +1,4 @@
 -- The sum wraps as the definition's does.
-use Rattle.std.proofs.Common.{rules}
 use Rattle.arrays.proofs.Tallies.{one_more_lem}
 use Rattle.arrays.proofs.usage.more.Goals as goal
 

@@ -1,5 +1,4 @@
 -- By who had the tick.
-use Rattle.std.proofs.Common.{rules}
 use Rattle.arrays.proofs.Tallies.{nobody_counted, work_counted, idle_counted}
 use Rattle.arrays.proofs.usage.tally.Goals as goal
 
