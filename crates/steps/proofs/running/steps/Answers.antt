@@ -1,9 +1,7 @@
 -- The loop's invariant: the ticks done are steps one after the other, and the last finished no job.
-use mathlib.Core.Path.{◌≡◌}
-use Prim.Native.Nat.{◌≤◌, ◌-◌}
 use native.Mathlib.Omega.{arith}
 use borrow.Author.Rules.{rules}
-use Rattle.steps.specs.Step.{none, more, StepsTo}
+use Rattle.steps.specs.Step.{none, more}
 use Rattle.steps.proofs.running.steps.Goals as goal
 
 pub loop-done-init : goal.loop-done-init

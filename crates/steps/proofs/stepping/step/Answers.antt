@@ -1,5 +1,4 @@
 -- Each part ensures its sentence, of arrays that no part before it has changed but by its own sentence.
-use borrow.Author.Rules.{rules}
 use Rattle.steps.proofs.stepping.step.Goals as goal
 
 pub returns : goal.returns
