@@ -1,12 +1,10 @@
 -- How the way in comes to a guest's seat, and what a seat says. Assumes nothing.
-use mathlib.Core.Path.{◌≡◌, refl, sym, ap, ◌∙◌}
 use mathlib.Core.List.{List}
 use Prim.Native.Nat.{ℕ, ◌≤◌, ◌<◌}
 use native.Mathlib.Omega.{arith}
 use Rattle.plan.specs.declared.Columns.{Columns}
 use Rattle.plan.specs.declared.LookedUp.{LookedUp}
 use Rattle.plan.specs.declared.Plan.{Plan}
-use Rattle.plan.specs.declared.Refusal.{Refusal}
 use Rattle.plan.specs.Filled.{ColumnsOf}
 use Rattle.plan.specs.LookUp.{LooksUp}
 use Rattle.plan.specs.Ranges.{most_guests}

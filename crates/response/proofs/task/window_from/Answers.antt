@@ -1,0 +1,109 @@
+-- `response::task::window_from` meets its contract: no turn passes a solution, so the search ends at the least one or
+-- past the room. Assumes nothing.
+use Prim.Native.Nat.{◌-◌}
+use native.Mathlib.Omega.{arith}
+use Rattle.lists.specs.Places.{nth}
+use Rattle.response.specs.Columns.{guests_take, column_system}
+use Rattle.rounding.proofs.Edges.{kept_behind, kept_most}
+use Rattle.equation.proofs.Standing.{stands_under}
+use Rattle.response.proofs.GuestLaws.{take_grows}
+use Rattle.response.proofs.TaskLaws.{regular, load_is, finds_late, search_some, search_on, search_none, search_later, search_room, search_turn, search_found}
+use Rattle.response.proofs.task.window_from.Goals as goal
+
+pub returns-then-most-gap : goal.returns-then-most-gap
+returns-then-most-gap c =
+    finds_late (column_system (guests_take c.args.capacities.now c.args.periods.now c.args.jitters.now c.args.n)
+    c.args.capacity c.args.period c.args.run.now c.args.every.now c.args.late.now) c.args.i (c.args.most - nth c.args.late.now c.args.i) _ _ 1
+    c.requires.begins.long (omega arith) (λ z h e. h)
+
+pub returns-then-room-from : goal.returns-then-room-from
+returns-then-room-from c =
+    let S = column_system (guests_take c.args.capacities.now c.args.periods.now c.args.jitters.now c.args.n)
+    c.args.capacity c.args.period c.args.run.now c.args.every.now c.args.late.now in
+    let x = regular S (take_grows _ _ _ _) c.args.i c.requires.ready in
+    let b = c.requires.begins in
+    finds_late S c.args.i (c.args.most - nth c.args.late.now c.args.i) _ _ c.args.from
+    b.long (omega arith) (stands_under S c.args.i x.0 x.1 c.args.from b.stands)
+
+pub moved_on-asks-requires : goal.moved_on-asks-requires
+moved_on-asks-requires c =
+    let b = c.requires.begins in
+    let short = c.requires.most_le_longest in
+    record {
+      n_bound = (
+        omega (arith, c.requires.above_in.1),
+        (
+          λ j h. omega (arith, short.0, short.1.0 j h, c.if-room-from.false),
+          λ j h. omega (arith, short.1.1 j h),
+        ),
+      );
+      edge_len = (b.long, b.behind);
+    }
+
+pub overflow_add-load : goal.overflow_add-load
+overflow_add-load c =
+    omega (arith, kept_most c.moved_on-asks.ensures.1, c.wide-own.ensures.1, c.requires.above_in.1)
+
+pub loop-n-init : goal.loop-n-init
+loop-n-init c =
+    let S = column_system (guests_take c.args.capacities.now c.args.periods.now c.args.jitters.now c.args.n)
+    c.args.capacity c.args.period c.args.run.now c.args.every.now c.args.late.now in
+    let x = regular S (take_grows _ _ _ _) c.args.i c.requires.ready in
+    record {
+      x = x.0;
+      sure = x.1;
+      short = omega (arith, c.requires.most_le_longest.0);
+      long = c.moved_on-asks.ensures.0;
+      high = omega arith;
+      stands = c.requires.begins.stands;
+      kept = c.moved_on-asks.ensures.1;
+      is =
+          load_is S c.args.i c.args.from _ _ c.wide-own.ensures.0
+          c.moved_on-asks.ensures.1.is;
+    }
+
+pub window_of-next-requires : goal.window_of-next-requires
+window_of-next-requires c =
+    let ready = c.requires.ready in
+    let i = c.loop-n.invariant in
+    record {
+      above_in = (c.requires.above_in.0, ((ready.some, ready.within), (search_some i, i.short)));
+      rising = search_on i;
+    }
+
+pub returns-then-next-lt1 : goal.returns-then-next-lt1
+returns-then-next-lt1 c =
+    search_none c.loop-n.invariant _ c.window_of-next.ensures c.if-next-lt1.true _
+
+pub moved_on-asks-requires-in-loop-n : goal.moved_on-asks-requires-in-loop-n
+moved_on-asks-requires-in-loop-n c =
+    let i = c.loop-n.invariant in
+    let short = c.requires.most_le_longest in
+    let on = search_later i _ c.window_of-next.ensures (omega arith) in
+    record {
+      n_bound = (
+        omega (arith, c.requires.above_in.1),
+        (λ j h. omega (arith, on.1, i.short, short.1.0 j h), λ j h. omega (arith, short.1.1 j h)),
+      );
+      edge_len = (i.long, kept_behind i.kept _ on.0);
+    }
+
+pub overflow_add-more : goal.overflow_add-more
+overflow_add-more c =
+    omega (arith, kept_most c.moved_on-asks-in-loop-n.ensures.1, c.wide-own.ensures.1, c.requires.above_in.1)
+
+pub returns-then-more-load : goal.returns-then-more-load
+returns-then-more-load c =
+    search_found c.loop-n.invariant _ c.window_of-next.ensures (omega arith) _ _ _
+    c.moved_on-asks-in-loop-n.ensures.0 c.moved_on-asks-in-loop-n.ensures.1 (load_is (column_system (guests_take c.args.capacities.now c.args.periods.now c.args.jitters.now c.args.n)
+    c.args.capacity c.args.period c.args.run.now c.args.every.now c.args.late.now) c.args.i _ _ _ c.wide-own.ensures.0 c.moved_on-asks-in-loop-n.ensures.1.is) (omega arith)
+
+pub loop-n-smaller : goal.loop-n-smaller
+loop-n-smaller c =
+    omega (arith, search_room c.loop-n.invariant _ c.window_of-next.ensures (omega arith))
+
+pub loop-n-preserved : goal.loop-n-preserved
+loop-n-preserved c =
+    search_turn c.loop-n.invariant _ c.window_of-next.ensures (omega arith) _ _ _
+    c.moved_on-asks-in-loop-n.ensures.0 c.moved_on-asks-in-loop-n.ensures.1 (load_is (column_system (guests_take c.args.capacities.now c.args.periods.now c.args.jitters.now c.args.n)
+    c.args.capacity c.args.period c.args.run.now c.args.every.now c.args.late.now) c.args.i _ _ _ c.wide-own.ensures.0 c.moved_on-asks-in-loop-n.ensures.1.is)
