@@ -33,6 +33,10 @@ use Rattle.refusals.proofs.Rows.{runs_small}
 pub few_tasks : (g : Guest) → guest_ok g ≡ true → g.tasks ≤ 16
 few_tasks g e = (head_says g.id g.capacity g.period g.tasks e).few
 
+-- The place of a task of a guest of the plan is one of the 128.
+pub place_inside : (g : Guest) (k task : ℕ) → k < 8 → guest_ok g ≡ true → 1 ≤ task → task ≤ g.tasks → place_at k (task - 1) < 128
+place_inside g k task h e s l = omega (arith, few_tasks g e)
+
 -- The refusals of a release that is for guest g.
 module _ (g : Guest) (k task position : ℕ) (rest wait : List ℕ) (r : Aim) where
   -- Where some number refuses it, nothing is taken.

@@ -1,0 +1,15 @@
+-- The loop's invariant: `ok` says whether the places passed are in their ranges.
+use mathlib.Core.Path.{◌≡◌, sym}
+use Prim.Native.Nat.{◌≤◌, ◌-◌}
+use borrow.Author.Rules.{rules}
+use borrow.Author.Tests.{ltb-true}
+use Rattle.lists.specs.All.{all_to}
+use Rattle.refusals.specs.Rows.{job_in}
+use Rattle.lists.proofs.All.{all_none, all_turn, all_end}
+use Rattle.refusals.proofs.ranges.jobs_ok.Given as goal
+
+abbrev pub invariant-loop-t : goal.invariant-loop-t
+invariant-loop-t l = (l.t ≤ 16) × (l.ok ≡ all_to (job_in l.rest l.wait l.age l.run l.every l.charge l.k l.many) l.t)
+
+abbrev pub decreases-loop-t : goal.decreases-loop-t
+decreases-loop-t l = 16 - l.t

@@ -1,0 +1,23 @@
+-- The loop's invariant: `ok` says whether the guests passed go, and the columns hold their numbers.
+use mathlib.Core.Path.{◌≡◌, sym, ◌∙◌}
+use Prim.Native.Nat.{◌≤◌, ◌-◌}
+use native.Mathlib.Omega.{arith}
+use borrow.Author.Rules.{rules}
+use Rattle.lists.specs.All.{all_to}
+use Rattle.refusals.specs.Check.{goes}
+use Rattle.plan.specs.Filled.{ColumnsOf}
+use Rattle.rows.specs.Words.{plan_of}
+use Rattle.rows.proofs.Words.{guest_is}
+use Rattle.lists.proofs.All.{all_none, all_end}
+use Rattle.plan.proofs.Filled.{columns_none, columns_done}
+use Rattle.plan.proofs.Filled.{columns_read}
+use Rattle.refusals.proofs.Check.{goes_turn}
+use Rattle.refusals.proofs.validating.guests_ok.Given as goal
+
+abbrev pub invariant-loop-k : goal.invariant-loop-k
+invariant-loop-k l =
+    (l.k ≤ l.n) × ((l.ok ≡ all_to (goes (plan_of l.count l.rows) l.left l.position l.rest l.wait l.age) l.k)
+    × ColumnsOf (plan_of l.count l.rows).guests l.k l.columns)
+
+abbrev pub decreases-loop-k : goal.decreases-loop-k
+decreases-loop-k l = l.n - l.k
