@@ -1,0 +1,15 @@
+-- `verdict::guest_verdict` meets its promise: the guest at its seat. Assumes nothing.
+use mathlib.Core.Path.{refl}
+use Rattle.plan.proofs.LookUp.{lent_few}
+use Rattle.response.proofs.SeatLaws.{sits_servers}
+use Rattle.verdict.proofs.guest_verdict.Goals as goal
+
+pub seat_of-requires : goal.seat_of-requires
+seat_of-requires c = lent_few _ c.check.ensures
+
+pub guest_at-requires : goal.guest_at-requires
+guest_at-requires c = sits_servers (c.seat_of.ensures _ c.check.ensures c.columns_of.ensures refl)
+
+pub returns : goal.returns
+returns c =
+    c.guest_at.ensures _ _ (c.seat_of.ensures _ c.check.ensures c.columns_of.ensures refl)
