@@ -20,7 +20,7 @@ use Rattle.history.specs.Share.{answer_at}
 use Rattle.history.specs.Finished.{HandedBack, FinishedBy}
 use Rattle.plan.proofs.Order.{PlanIn}
 use Rattle.history.proofs.Play.{Any, any, play_keeps, sound_after, answers_length}
-use Rattle.verdict_laws.proofs.Kept.{gap_in, KeptIn, bounded_of, young_kept, kept_idle, kept_next, kept_release, in_plan, in_guest}
+use Rattle.verdict_laws.proofs.Kept.{gap_in, KeptIn, bounded_of, young_kept, kept_idle, kept_next, kept_release}
 use Rattle.history.proofs.Finished.{finished_at, Job, JobIn, job_next, job_release}
 use Rattle.history.proofs.Finished.Job.{pending, ended}
 use Rattle.history.proofs.Told.{finish_told}

@@ -12,7 +12,7 @@ use Rattle.dispatcher.specs.declared.Dispatcher.{Dispatcher}
 use Rattle.dispatcher.specs.declared.Answer.TheVariants.{Silent}
 use Rattle.dispatcher.specs.declared.Ran.{Ran}
 use Rattle.dispatcher.specs.Valid.{state_ok}
-use Rattle.dispatcher.specs.Answer.{answer, finishes}
+use Rattle.dispatcher.specs.Answer.{finishes}
 use Rattle.dispatcher.specs.Entries.{run, longest_run}
 use Rattle.history.specs.Calls.{Call, releasing, ticking, running, sheeting, after, play, singles, ticks_of, ticks_in, answers, answer_of}
 use Rattle.history.specs.Share.{answer_at}
