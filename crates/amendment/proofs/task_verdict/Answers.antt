@@ -1,0 +1,19 @@
+-- `amendment::task_verdict` meets its contract: the pair's refusal, or the amended plan's answer. Assumes nothing.
+use mathlib.Core.Path.{◌∙◌}
+use Rattle.verdict.specs.Verdict.{task_verdict}
+use Rattle.amendment.proofs.Verdict.{pair_refuses, read_answers}
+use Rattle.verdict.specs.declared.TaskVerdict.TheVariants as task
+use Rattle.amendment.proofs.task_verdict.Goals as goal
+
+pub returns-then-refusal-gt0 : goal.returns-then-refusal-gt0
+returns-then-refusal-gt0 c =
+    let a = c.args in
+    pair_refuses task.Refused a.plan.now a.sheet.now (λ p. task_verdict p a.id a.task) _ c.read-r.ensures.refusal
+    c.if-refusal-gt0.true
+
+pub returns : goal.returns
+returns c =
+    let a = c.args in
+    c.task_verdict.ensures
+    ∙ read_answers task.Refused a.plan.now a.sheet.now (λ p. task_verdict p a.id a.task) _ c.read-r.ensures
+    c.if-refusal-gt0.false
