@@ -1,6 +1,5 @@
 -- `sheet::release_all` meets its promise: the rows of the state's plan say the plan, and what the sheet in place gives is
 -- put back into the state. Assumes nothing.
-use borrow.Author.Rules.{rules}
 use Rattle.sheet.proofs.release_all.Goals as goal
 
 pub returns : goal.returns

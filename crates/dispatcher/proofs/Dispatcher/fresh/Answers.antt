@@ -1,9 +1,7 @@
 -- By the records' refusal, off the plan's rows.
 use mathlib.Core.Path.{◌∙◌, ap}
-use borrow.Author.Rules.{rules}
 use Rattle.plan.specs.Periodic.{start_refusal}
 use Rattle.dispatcher.proofs.Fresh.{start_refused, start_fresh}
-use borrow.Author.Rules.{rules}
 use Rattle.dispatcher.proofs.Dispatcher.fresh.Goals as goal
 
 pub returns-then-number-gt0 : goal.returns-then-number-gt0

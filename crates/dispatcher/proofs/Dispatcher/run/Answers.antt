@@ -1,5 +1,4 @@
 -- The rows of the state's plan say the plan, and what the run in place gives is put back into the state.
-use borrow.Author.Rules.{rules}
 use Rattle.dispatcher.proofs.Dispatcher.run.Goals as goal
 
 pub returns : goal.returns

@@ -1,5 +1,4 @@
 -- A tick is a run of one; the rows of the state's plan say the plan.
-use borrow.Author.Rules.{rules}
 use Rattle.dispatcher.proofs.Entries.{tick_of_run}
 use Rattle.dispatcher.proofs.Dispatcher.tick.Goals as goal
 

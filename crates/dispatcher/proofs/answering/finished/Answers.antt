@@ -1,7 +1,6 @@
 -- The plan is in order, so the places that were noted are small, and so are deadline and age.
 use mathlib.Core.Path.{◌∙◌}
 use native.Mathlib.Omega.{arith}
-use borrow.Author.Rules.{rules}
 use Rattle.margins.proofs.Margin.{margin_kept}
 use Rattle.rows.proofs.Words.{guest_is}
 use Rattle.dispatcher.proofs.Answers.{fits, tell_finished}

@@ -1,6 +1,5 @@
 -- By the refusals in order, then by what the steps did: no tick, a last tick that finished a job, or one that did not.
 use mathlib.Core.Path.{refl, sym, ◌∙◌}
-use borrow.Author.Rules.{rules}
 use borrow.Author.Tests.{not-true, not-false}
 use Rattle.rows.specs.Words.{plan_of}
 use Rattle.dispatcher.specs.Lent.{state_of}

@@ -2,11 +2,9 @@
 -- nothing.
 use mathlib.Core.Path.{ap}
 use native.Mathlib.Omega.{arith}
-use borrow.Author.Rules.{rules}
 use Rattle.plan.specs.declared.Refusal.{Refusal}
 use Rattle.dispatcher.specs.Fresh.{idle}
 use Rattle.dispatcher.proofs.Fresh.{started_in_lem, refused_in}
-use borrow.Author.Rules.{rules}
 use Rattle.dispatcher.proofs.starting.start_in.Goals as goal
 
 pub returns-then-refusal-lt1 : goal.returns-then-refusal-lt1

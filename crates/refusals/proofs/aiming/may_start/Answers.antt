@@ -1,6 +1,5 @@
 -- By the mark's own test.
 use mathlib.Core.Path.{refl}
-use borrow.Author.Rules.{rules}
 use Rattle.refusals.proofs.aiming.may_start.Goals as goal
 
 pub returns : goal.returns

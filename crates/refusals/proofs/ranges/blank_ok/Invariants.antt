@@ -1,11 +1,8 @@
 -- The loop's invariant: `ok` says whether the places passed are blank.
-use mathlib.Core.Path.{◌≡◌, refl, sym}
+use mathlib.Core.Path.{◌≡◌}
 use Prim.Native.Nat.{◌≤◌, ◌-◌}
-use borrow.Author.Rules.{rules}
 use Rattle.lists.specs.All.{all_to}
 use Rattle.refusals.specs.Rows.{blank_at}
-use Rattle.lists.proofs.All.{all_none, all_turn}
-use Rattle.refusals.proofs.Rows.{blank_is}
 use Rattle.refusals.proofs.ranges.blank_ok.Given as goal
 
 abbrev pub invariant-loop-t : goal.invariant-loop-t

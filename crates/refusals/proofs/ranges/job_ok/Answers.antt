@@ -1,5 +1,4 @@
 -- Each number is held to its bound.
-use borrow.Author.Rules.{rules}
 use Rattle.refusals.proofs.Rows.{job_is}
 use Rattle.refusals.proofs.ranges.job_ok.Goals as goal
 

@@ -1,9 +1,7 @@
 -- The loop's invariant: `ok` says whether the places passed are in their ranges.
-use mathlib.Core.Path.{◌≡◌, sym}
-use Prim.Native.Nat.{◌≤◌, ◌-◌}
+use mathlib.Core.Path.{sym}
 use borrow.Author.Rules.{rules}
 use borrow.Author.Tests.{ltb-true}
-use Rattle.lists.specs.All.{all_to}
 use Rattle.refusals.specs.Rows.{job_in}
 use Rattle.lists.proofs.All.{all_none, all_turn, all_end}
 use Rattle.refusals.proofs.ranges.jobs_ok.Goals as goal

@@ -1,11 +1,8 @@
 -- The loop's invariant: `ok` says whether the places passed are in their ranges.
-use mathlib.Core.Path.{◌≡◌, sym}
+use mathlib.Core.Path.{◌≡◌}
 use Prim.Native.Nat.{◌≤◌, ◌-◌}
-use borrow.Author.Rules.{rules}
-use borrow.Author.Tests.{ltb-true}
 use Rattle.lists.specs.All.{all_to}
 use Rattle.refusals.specs.Rows.{job_in}
-use Rattle.lists.proofs.All.{all_none, all_turn, all_end}
 use Rattle.refusals.proofs.ranges.jobs_ok.Given as goal
 
 abbrev pub invariant-loop-t : goal.invariant-loop-t

@@ -1,8 +1,5 @@
 -- The loop's invariant: `ok` says whether the rows passed are blank, those of guests not being looked at.
-use mathlib.Core.Path.{◌≡◌}
-use Prim.Native.Nat.{◌≤◌, ◌-◌}
 use borrow.Author.Rules.{rules}
-use Rattle.lists.specs.All.{all_to}
 use Rattle.refusals.specs.Check.{past_ok}
 use Rattle.lists.proofs.All.{all_end}
 use Rattle.refusals.proofs.Check.{past_none, past_turn}

@@ -1,5 +1,4 @@
 -- By the count of guests, then by the guests and the rows past them.
-use borrow.Author.Rules.{rules}
 use Rattle.refusals.proofs.Check.{no_guest_lem, many_guests, examined}
 use Rattle.refusals.proofs.validating.examine.Goals as goal
 

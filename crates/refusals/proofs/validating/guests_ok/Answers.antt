@@ -1,11 +1,8 @@
 -- The loop's invariant: `ok` says whether the guests passed go, and the columns hold their numbers.
-use mathlib.Core.Path.{◌≡◌, sym, ◌∙◌}
-use Prim.Native.Nat.{◌≤◌, ◌-◌}
+use mathlib.Core.Path.{sym, ◌∙◌}
 use native.Mathlib.Omega.{arith}
 use borrow.Author.Rules.{rules}
-use Rattle.lists.specs.All.{all_to}
 use Rattle.refusals.specs.Check.{goes}
-use Rattle.plan.specs.Filled.{ColumnsOf}
 use Rattle.rows.specs.Words.{plan_of}
 use Rattle.rows.proofs.Words.{guest_is}
 use Rattle.lists.proofs.All.{all_none, all_end}

@@ -1,17 +1,10 @@
 -- The loop's invariant: `ok` says whether the guests passed go, and the columns hold their numbers.
-use mathlib.Core.Path.{◌≡◌, sym, ◌∙◌}
+use mathlib.Core.Path.{◌≡◌}
 use Prim.Native.Nat.{◌≤◌, ◌-◌}
-use native.Mathlib.Omega.{arith}
-use borrow.Author.Rules.{rules}
 use Rattle.lists.specs.All.{all_to}
 use Rattle.refusals.specs.Check.{goes}
 use Rattle.plan.specs.Filled.{ColumnsOf}
 use Rattle.rows.specs.Words.{plan_of}
-use Rattle.rows.proofs.Words.{guest_is}
-use Rattle.lists.proofs.All.{all_none, all_end}
-use Rattle.plan.proofs.Filled.{columns_none, columns_done}
-use Rattle.plan.proofs.Filled.{columns_read}
-use Rattle.refusals.proofs.Check.{goes_turn}
 use Rattle.refusals.proofs.validating.guests_ok.Given as goal
 
 abbrev pub invariant-loop-k : goal.invariant-loop-k

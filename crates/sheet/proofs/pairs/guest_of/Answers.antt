@@ -1,6 +1,5 @@
 -- `sheet::pairs::guest_of` meets its contract, by whether the guest's part has 32 bits. Assumes nothing.
 use mathlib.Core.Path.{refl}
-use borrow.Author.Rules.{rules}
 use borrow.Author.Tests.{lt-ltb, le-ltb}
 use Rattle.sheet.proofs.pairs.guest_of.Goals as goal
 

@@ -1,6 +1,5 @@
 -- `sheet::pairs::is_barred` meets its contract: no bit of 0 is set. Assumes nothing.
 use mathlib.Core.Path.{sym}
-use borrow.Author.Rules.{rules}
 use Rattle.plan.proofs.MarksLaws.{unmarked}
 use Rattle.sheet.proofs.pairs.is_barred.Goals as goal
 

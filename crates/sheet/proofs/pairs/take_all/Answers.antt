@@ -1,17 +1,10 @@
 -- `sheet::pairs::take_all` meets its contract: after i turns the first i pairs are released and answered, and the
 -- state is still in its ranges. Assumes nothing.
-use mathlib.Core.Path.{◌≡◌, refl}
-use mathlib.Core.Bool.{true}
-use mathlib.Core.List.{List}
-use Prim.Native.Nat.{ℕ, ◌≤◌, ◌-◌}
+use mathlib.Core.Path.{refl}
 use native.Mathlib.Omega.{arith}
-use lib.ListN.{length, length-set}
+use lib.ListN.{length-set}
 use borrow.Author.Rules.{rules}
-use Rattle.plan.specs.declared.Plan.{Plan}
-use Rattle.dispatcher.specs.Valid.{state_ok}
-use Rattle.dispatcher.specs.Lent.{state_of}
-use Rattle.sheet.specs.Lent.{SheetColumns}
-use Rattle.sheet.proofs.Sheet.{TakenTo, taken_none, ok_meanwhile, taken_next, taken_all}
+use Rattle.sheet.proofs.Sheet.{taken_none, ok_meanwhile, taken_next, taken_all}
 use Rattle.sheet.proofs.pairs.take_all.Goals as goal
 
 pub loop-i-init : goal.loop-i-init

@@ -1,17 +1,15 @@
 -- `sheet::pairs::take_all` meets its contract: after i turns the first i pairs are released and answered, and the
 -- state is still in its ranges. Assumes nothing.
-use mathlib.Core.Path.{◌≡◌, refl}
+use mathlib.Core.Path.{◌≡◌}
 use mathlib.Core.Bool.{true}
 use mathlib.Core.List.{List}
 use Prim.Native.Nat.{ℕ, ◌≤◌, ◌-◌}
-use native.Mathlib.Omega.{arith}
-use lib.ListN.{length, length-set}
-use borrow.Author.Rules.{rules}
+use lib.ListN.{length}
 use Rattle.plan.specs.declared.Plan.{Plan}
 use Rattle.dispatcher.specs.Valid.{state_ok}
 use Rattle.dispatcher.specs.Lent.{state_of}
 use Rattle.sheet.specs.Lent.{SheetColumns}
-use Rattle.sheet.proofs.Sheet.{TakenTo, taken_none, ok_meanwhile, taken_next, taken_all}
+use Rattle.sheet.proofs.Sheet.{TakenTo}
 use Rattle.sheet.proofs.pairs.take_all.Given as goal
 
 abbrev pub invariant-loop-i : goal.invariant-loop-i

@@ -1,6 +1,6 @@
 -- `sheet::placing::whole_number` meets its contract: the tests come in the order of their numbers. Assumes nothing.
 use mathlib.Core.Path.{sym, ◌∙◌}
-use borrow.Author.Tests.{not-true, not-false, le-leb, lt-leb}
+use borrow.Author.Tests.{le-leb, lt-leb}
 use Rattle.lists.proofs.Refusals.{none_left, go_on, stop}
 use Rattle.sheet.proofs.placing.whole_number.Goals as goal
 
