@@ -1,6 +1,5 @@
 -- `plan::blank_plan` meets its contract. Assumes nothing.
 use mathlib.Core.Path.{refl}
-use borrow.Author.Rules.{rules}
 use Rattle.plan.proofs.blank_plan.Goals as goal
 
 pub returns : goal.returns

@@ -1,15 +1,10 @@
 -- `plan::check` meets its promise: the count first; then the guests in order, of which those that are left have the
 -- same first refusal. Assumes nothing.
 use mathlib.Core.Path.{◌≡◌, sym, ◌∙◌}
-use Prim.Native.Nat.{◌≤◌, ◌-◌}
+use Prim.Native.Nat.{◌-◌}
 use native.Mathlib.Omega.{arith}
 use borrow.Author.Rules.{rules}
-use borrow.Author.Tests.{not-true, not-false}
-use Rattle.plan.specs.Records.{guest_at}
 use Rattle.plan.specs.Ranges.{most_guests}
-use Rattle.plan.specs.Filled.{Filled}
-use Rattle.plan.specs.First.{first_refused}
-use Rattle.plan.specs.Order.{guest_number, plan_refusal}
 use Rattle.plan.proofs.First.{first_here, first_next, first_end}
 use Rattle.plan.proofs.RangesLaws.{within_says}
 use Rattle.plan.proofs.Order.{number_is, count_out, counted}

@@ -1,11 +1,9 @@
 -- `rounding::moved_on` meets its contract: each edge that the window has passed moves on, and the sum with it. Assumes
 -- nothing.
-use mathlib.Core.Logic.{⊎_elim}
-use Prim.Native.Nat.{◌+◌, ◌-◌}
+use Prim.Native.Nat.{◌+◌}
 use native.Mathlib.Omega.{arith}
-use borrow.Author.Rules.{rules}
 use Rattle.lists.specs.Places.{nth}
-use Rattle.rounding.proofs.Edges.{edge_most, more_most, Moving, moving_start, moving_most, moving_stays, moving_moves, moving_done}
+use Rattle.rounding.proofs.Edges.{edge_most, more_most, moving_start, moving_most, moving_stays, moving_moves, moving_done}
 use Rattle.rounding.proofs.moved_on.Goals as goal
 use Rattle.rounding.proofs.moved_on.Goals.{then-old-end, else-old-end}
 

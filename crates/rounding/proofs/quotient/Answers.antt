@@ -2,7 +2,6 @@
 -- nothing.
 use mathlib.Core.Path.{◌≡◌, sym}
 use native.Mathlib.Omega.{arith}
-use borrow.Author.Rules.{rules}
 use Rattle.rounding.proofs.Up.{up_zero, up_whole, up_more, up_le}
 use Rattle.rounding.proofs.quotient.Goals as goal
 

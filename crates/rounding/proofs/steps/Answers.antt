@@ -1,7 +1,6 @@
 -- `rounding::steps` meets its contract: a number above 0 that one block holds takes one. Assumes nothing.
 use mathlib.Core.Path.{sym}
 use native.Mathlib.Omega.{arith}
-use borrow.Author.Rules.{rules}
 use Rattle.rounding.proofs.Up.{up_one}
 use Rattle.rounding.proofs.steps.Goals as goal
 

@@ -1,5 +1,5 @@
 -- `words::put_u32` meets its contract: a store keeps the length, so the next one is within it. Assumes nothing.
-use Rattle.std.proofs.Common.{arith, length-set, rules}
+use Rattle.std.proofs.Common.{arith, length-set}
 use Rattle.words.proofs.put_u32.Goals as goal
 
 pub bounds-b-i-2 : goal.bounds-b-i-2

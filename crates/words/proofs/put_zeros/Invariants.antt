@@ -1,6 +1,5 @@
 -- `words::put_zeros` meets its contract: after i turns the first i bytes are zero. Assumes nothing.
-use Rattle.std.proofs.Common.{◌≡◌, ◌-◌, ◌≤◌, ◌++◌, length, drop, replicate, arith, length-set, rules}
-use Rattle.words.proofs.Bytes.{zeros_turn}
+use Rattle.std.proofs.Common.{◌≡◌, ◌-◌, ◌≤◌, ◌++◌, length, drop, replicate}
 use Rattle.words.proofs.put_zeros.Given as goal
 
 abbrev pub invariant-loop-i : goal.invariant-loop-i

@@ -1,7 +1,6 @@
 -- `words::sum_words` meets its contract: a turn adds one word modulo 2 to the 32. Assumes nothing.
-use Rattle.std.proofs.Common.{◌≡◌, ◌-◌, ◌≤◌, ◌∙◌, arith, rules}
+use Rattle.std.proofs.Common.{◌≡◌, ◌∙◌, arith, rules}
 use Rattle.words.specs.Word.{word}
-use Rattle.words.specs.Wrap.{wrapped}
 use Rattle.words.proofs.Wrap.{wrapped_none, wrapped_next}
 use Rattle.words.proofs.sum_words.Goals as goal
 

@@ -1,5 +1,4 @@
 -- `words::word_at` meets its contract: word k starts at byte 4 k. Assumes nothing.
-use Rattle.std.proofs.Common.{rules}
 use Rattle.words.specs.Word.{word}
 use Rattle.words.proofs.word_at.Goals as goal
 

@@ -1,9 +1,6 @@
 -- `plan::columns_of` meets its contract: each column is filled place by place. Assumes nothing.
-use Prim.Native.Nat.{◌≤◌, ◌-◌}
 use native.Mathlib.Omega.{arith}
 use borrow.Author.Rules.{rules}
-use Rattle.plan.specs.Ranges.{most_guests}
-use Rattle.plan.specs.Filled.{ColumnsOf}
 use Rattle.plan.proofs.Filled.{columns_none, columns_next, columns_done}
 use Rattle.plan.proofs.column.columns_of.Goals as goal
 

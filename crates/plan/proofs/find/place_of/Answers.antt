@@ -1,11 +1,9 @@
 -- `plan::place_of` meets its contract: what is left to pass has the same first place. Assumes nothing.
-use mathlib.Core.Path.{◌≡◌, sym, ◌∙◌}
-use Prim.Native.Nat.{◌≤◌, ◌-◌}
+use mathlib.Core.Path.{sym, ◌∙◌}
 use lib.Dec.{eqb}
 use borrow.Author.Rules.{rules}
 use borrow.Author.Tests.{eq-eqb, ne_eqb}
 use Rattle.lists.specs.Places.{nth}
-use Rattle.lists.specs.Search.{first_from}
 use Rattle.lists.proofs.Search.{first_hit, first_skip, first_none, first_all}
 use Rattle.plan.proofs.find.place_of.Goals as goal
 
@@ -20,15 +18,14 @@ returns-then-ids-k c =
     ∙ c.loop-k.invariant.1
 
 pub loop-k-preserved : goal.loop-k-preserved
-loop-k-preserved c =
-    (
-      search rules,
-      sym
-          (first_skip (λ j. eqb (nth c.args.ids.now j) c.args.id) _ _
-          c.loop-k-test.true
-          (ne_eqb _ _ c.if-ids-k.false))
-          ∙ c.loop-k.invariant.1,
-    )
+loop-k-preserved c = (
+  search rules,
+  sym
+      (first_skip (λ j. eqb (nth c.args.ids.now j) c.args.id) _ _
+      c.loop-k-test.true
+      (ne_eqb _ _ c.if-ids-k.false))
+      ∙ c.loop-k.invariant.1,
+)
 
 pub returns : goal.returns
 returns c =

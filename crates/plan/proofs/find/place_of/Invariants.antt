@@ -1,12 +1,9 @@
 -- `plan::place_of` meets its contract: what is left to pass has the same first place. Assumes nothing.
-use mathlib.Core.Path.{◌≡◌, sym, ◌∙◌}
+use mathlib.Core.Path.{◌≡◌}
 use Prim.Native.Nat.{◌≤◌, ◌-◌}
 use lib.Dec.{eqb}
-use borrow.Author.Rules.{rules}
-use borrow.Author.Tests.{eq-eqb, ne_eqb}
 use Rattle.lists.specs.Places.{nth}
 use Rattle.lists.specs.Search.{first_from}
-use Rattle.lists.proofs.Search.{first_hit, first_skip, first_none, first_all}
 use Rattle.plan.proofs.find.place_of.Given as goal
 
 abbrev pub invariant-loop-k : goal.invariant-loop-k

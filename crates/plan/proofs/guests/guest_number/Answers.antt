@@ -1,8 +1,6 @@
 -- `plan::guest_number` meets its contract: the tests come in the order of their numbers. Assumes nothing.
 use mathlib.Core.Path.{sym, ◌∙◌}
 use native.Mathlib.Omega.{arith}
-use borrow.Author.Rules.{rules}
-use borrow.Author.Tests.{not-true, not-false}
 use Rattle.plan.specs.Ranges.{tasks_ok}
 use Rattle.plan.proofs.RangesLaws.{head_says}
 use Rattle.plan.proofs.Order.{four_head, four_id, six, none}

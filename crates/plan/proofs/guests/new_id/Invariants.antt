@@ -1,15 +1,10 @@
 -- `plan::new_id` meets its contract: each turn gathers one earlier id's test. Assumes nothing.
-use mathlib.Core.Path.{◌≡◌, refl, sym, ap, ◌∙◌}
+use mathlib.Core.Path.{◌≡◌}
 use mathlib.Core.Bool.{not}
 use Prim.Native.Nat.{◌≤◌, ◌-◌}
-use native.Mathlib.Omega.{arith}
 use lib.Dec.{eqb}
-use borrow.Author.Rules.{rules}
 use Rattle.lists.specs.Places.{nth}
 use Rattle.lists.specs.All.{all_to}
-use Rattle.plan.specs.Order.{new_id}
-use Rattle.lists.proofs.All.{all_none}
-use Rattle.plan.proofs.Order.{new_turn}
 use Rattle.plan.proofs.guests.new_id.Given as goal
 
 abbrev pub invariant-loop-j : goal.invariant-loop-j

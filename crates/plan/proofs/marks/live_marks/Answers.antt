@@ -2,7 +2,6 @@
 use mathlib.Core.Path.{refl}
 use native.Mathlib.Nat.{one-le-pow}
 use native.Mathlib.Omega.{arith}
-use borrow.Author.Rules.{rules}
 use Rattle.plan.specs.Marks.{marks_of}
 use Rattle.plan.proofs.MarksLaws.{moved_up_lem, marks_none}
 use Rattle.plan.proofs.marks.live_marks.Goals as goal

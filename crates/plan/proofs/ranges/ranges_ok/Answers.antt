@@ -1,11 +1,7 @@
 -- `plan::ranges_ok` meets its contract: each turn gathers one task's test. Assumes nothing.
 use mathlib.Core.Path.{◌≡◌, sym}
-use Prim.Native.Nat.{◌≤◌, ◌-◌}
 use native.Mathlib.Omega.{arith}
 use borrow.Author.Rules.{rules}
-use Rattle.lists.specs.Places.{nth}
-use Rattle.lists.specs.All.{all_to}
-use Rattle.plan.specs.Ranges.{task_ok}
 use Rattle.lists.proofs.All.{all_none, all_turn}
 use Rattle.plan.proofs.ranges.ranges_ok.Goals as goal
 

@@ -1,12 +1,9 @@
 -- `plan::ranges_ok` meets its contract: each turn gathers one task's test. Assumes nothing.
-use mathlib.Core.Path.{◌≡◌, sym}
+use mathlib.Core.Path.{◌≡◌}
 use Prim.Native.Nat.{◌≤◌, ◌-◌}
-use native.Mathlib.Omega.{arith}
-use borrow.Author.Rules.{rules}
 use Rattle.lists.specs.Places.{nth}
 use Rattle.lists.specs.All.{all_to}
 use Rattle.plan.specs.Ranges.{task_ok}
-use Rattle.lists.proofs.All.{all_none, all_turn}
 use Rattle.plan.proofs.ranges.ranges_ok.Given as goal
 
 abbrev pub invariant-loop-i : goal.invariant-loop-i

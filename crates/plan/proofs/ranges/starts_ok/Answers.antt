@@ -1,13 +1,8 @@
 -- `plan::starts_ok` meets its contract: without marks no task is bound, else each turn gathers one task's test. Assumes
 -- nothing.
 use mathlib.Core.Path.{◌≡◌, sym}
-use Prim.Native.Nat.{◌≤◌, ◌-◌}
 use native.Mathlib.Omega.{arith}
 use borrow.Author.Rules.{rules}
-use Rattle.lists.specs.Places.{nth}
-use Rattle.lists.specs.All.{all_to}
-use Rattle.plan.specs.Marks.{marked}
-use Rattle.plan.specs.Ranges.{start_ok}
 use Rattle.lists.proofs.All.{all_none, all_turn}
 use Rattle.plan.proofs.MarksLaws.{starts_unmarked}
 use Rattle.plan.proofs.ranges.starts_ok.Goals as goal

@@ -1,6 +1,5 @@
 -- `plan::tasks_ok` meets its contract: both tests. Assumes nothing.
 use mathlib.Core.Path.{refl}
-use borrow.Author.Rules.{rules}
 use Rattle.plan.proofs.ranges.tasks_ok.Goals as goal
 
 pub returns : goal.returns
