@@ -12,6 +12,7 @@ fn more(usage: &mut [u64; 17], k: usize)
 
 // A tick of guest k, whose task had `had` of its run left, or which idled where that is 0; nobody's where k is past
 // the n guests.
+#[tactic(auto, using(crate::proofs::Tallies::work_counted, crate::proofs::Tallies::idle_counted))]
 pub fn tally(usage: &mut [u64; 17], n: usize, k: usize, had: u32)
     requires { n ≤ 8 }
     ensures { usage.new ≡ tallied (nat_lt k n) (nat_lt 0 had) k usage.old }
