@@ -2,33 +2,37 @@
 use crate::looking;
 use casework::say;
 use draft::text::Row;
+use std::io;
 
 // The card's bytes, n of them, converted into lent ones.
-fn convert(file: &[u8], n: u32, out: &mut [u8]) {
+fn convert(rt: &impl Print, file: &[u8], n: u32, out: &mut [u8]) -> io::Result<()> {
     let r = conversion::convert(file, out);
-    say::refusal(r);
-    say::text(b"\n");
+    say::refusal(rt, r)?;
+    say::text(rt, b"\n")?;
     if r.number < 1 {
-        looking::look(out, n);
+        looking::look(rt, out, n)?;
     }
+    Ok(())
 }
 
 // The first n bytes of the card converted into the first m lent ones.
-fn lend(file: &[u8], n: u32, out: &mut [u8], m: u32) {
+fn lend(rt: &impl Print, file: &[u8], n: u32, out: &mut [u8], m: u32) -> io::Result<()> {
     let size = n as usize;
     let m = m as usize;
     if size <= file.len() {
         if m <= out.len() {
-            convert(&file[..size], n, &mut out[..m]);
+            return convert(rt, &file[..size], n, &mut out[..m]);
         }
     }
+    Ok(())
 }
 
 // `Convert` so many bytes of the card into so many lent ones, each 255 before.
-pub fn ask(file: &[u8; 4608], row: Row) {
+pub fn ask(rt: &impl Print, file: &[u8; 4608], row: Row) -> io::Result<()> {
     let x = row.numbers;
     if row.first == b'C' {
         let mut out = [255u8; 4608];
-        lend(file, x[0], &mut out, x[1]);
+        lend(rt, file, x[0], &mut out, x[1])?;
     }
+    Ok(())
 }

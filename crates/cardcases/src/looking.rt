@@ -1,5 +1,6 @@
 // What stands in lent bytes after a call.
 use casework::say;
+use std::io;
 
 // A byte in 32 bits.
 fn wide(x: u8) -> u32 {
@@ -7,18 +8,19 @@ fn wide(x: u8) -> u32 {
 }
 
 // Writes the byte at n, if there is one.
-fn byte(out: &[u8], n: usize) {
+fn byte(rt: &impl Print, out: &[u8], n: usize) -> io::Result<()> {
     if n < out.len() {
-        say::number(b"then ", wide(out[n]));
-        say::text(b"\n");
+        say::number(rt, b"then ", wide(out[n]))?;
+        say::text(rt, b"\n")?;
     }
+    Ok(())
 }
 
 // Writes the first n bytes as a plan, and the byte behind them.
-pub fn look(out: &[u8], n: u32) {
+pub fn look(rt: &impl Print, out: &[u8], n: u32) -> io::Result<()> {
     let n = n as usize;
     if n <= out.len() {
-        show::show(&out[..n]);
+        show::show(rt, &out[..n])?;
     }
-    byte(out, n);
+    byte(rt, out, n)
 }

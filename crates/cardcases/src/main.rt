@@ -7,10 +7,14 @@ use casework::damage;
 use draft::text;
 use draft::text::Row;
 use plan::Plan;
+use std::io;
 
 mod converting;
 mod looking;
 mod saving;
+
+// The most bytes of the cases.
+const MOST_READ: u64 = 8192;
 
 // What is in hand: the plan, the card's bytes, and the line.
 #[derive(Clone, Copy)]
@@ -37,14 +41,14 @@ fn changed(p: Plan, file: &mut [u8; 4608], row: Row) {
 }
 
 // Writes a byte of the line in hand, unless the line is left out, or it is the end of one that is answered.
-fn echo(row: Row, b: u8) {
+fn echo(rt: &impl Print, row: Row, b: u8) -> io::Result<()> {
     if row.first == b'#' {
-        return;
+        return Ok(());
     }
     if (b == b'\n') & ((row.first == b'S') | (row.first == b'C')) {
-        return;
+        return Ok(());
     }
-    io::write_all(1, &[b]);
+    rt.write_all(&[b])
 }
 
 // The line that a byte ends; a line of nothing where it ends none.
@@ -64,17 +68,17 @@ fn grown(row: Row, b: u8) -> Row {
 }
 
 // What is in hand after a byte.
-fn step(desk: Desk, b: u8) -> Desk {
+fn step(rt: &impl Print, desk: Desk, b: u8) -> io::Result<Desk> {
     let row = desk.row;
-    echo(text::with_byte(row, b), b);
+    echo(rt, text::with_byte(row, b), b)?;
     let line = ended(row, b);
     let plan = planned(desk.plan, line);
     let mut file = desk.file;
     changed(plan, &mut file, line);
-    saving::ask(&file, line);
-    converting::ask(&file, line);
+    saving::ask(rt, &file, line)?;
+    converting::ask(rt, &file, line)?;
     let row = grown(row, b);
-    Desk { plan, file, row }
+    Ok(Desk { plan, file, row })
 }
 
 // Nothing is in hand.
@@ -88,15 +92,16 @@ fn bare() -> Desk {
     }
 }
 
-fn lines(input: &[u8]) {
+fn lines(rt: &impl Print, input: &[u8]) -> io::Result<()> {
     let mut desk = bare();
     for i in 0..input.len() {
-        desk = step(desk, input[i]);
+        desk = step(rt, desk, input[i])?;
     }
+    Ok(())
 }
 
-fn main() {
-    let mut buf = [0u8; 8192];
-    let n = io::read_full(0, &mut buf);
-    lines(&buf[..n]);
+fn main(rt: HostRuntime) -> io::Result<()> {
+    let mut input = Vec::new(rt.alloc());
+    rt.reader().take(MOST_READ).read_to_end(&mut input)?;
+    lines(&rt, &input)
 }

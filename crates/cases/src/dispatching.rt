@@ -4,74 +4,76 @@ use casework::say;
 use dispatcher::{Answer, Dispatcher};
 use draft::text::Row;
 use plan::Plan;
+use std::io;
 
 pub fn fresh(p: Plan) -> Dispatcher {
     let started = Dispatcher::fresh(p);
     started.state
 }
 
-fn start(p: Plan) -> Dispatcher {
+fn start(rt: &impl Print, p: Plan) -> io::Result<Dispatcher> {
     let started = Dispatcher::fresh(p);
-    say::refusal(started.refusal);
-    say::text(b"\n");
-    started.state
+    say::refusal(rt, started.refusal)?;
+    say::text(rt, b"\n")?;
+    Ok(started.state)
 }
 
-fn release(d: Dispatcher, id: u32, task: u32) -> Dispatcher {
+fn release(rt: &impl Print, d: Dispatcher, id: u32, task: u32) -> io::Result<Dispatcher> {
     let released = d.release(id, task);
-    say::refusal(released.refusal);
-    say::text(b"\n");
-    released.state
+    say::refusal(rt, released.refusal)?;
+    say::text(rt, b"\n")?;
+    Ok(released.state)
 }
 
 // Who had the tick.
-fn had(guest: u32, task: u32) {
-    say::number(b", guest ", guest);
-    say::number(b" task ", task);
+fn had(rt: &impl Print, guest: u32, task: u32) -> io::Result<()> {
+    say::number(rt, b", guest ", guest)?;
+    say::number(rt, b" task ", task)
 }
 
 // A finished job.
-fn finished(age: u32, late: bool) {
-    say::number(b" finished, age ", age);
+fn finished(rt: &impl Print, age: u32, late: bool) -> io::Result<()> {
+    say::number(rt, b" finished, age ", age)?;
     if late {
-        say::text(b", late");
+        say::text(rt, b", late")?;
     }
+    Ok(())
 }
 
-fn answer(a: Answer) {
+fn answer(rt: &impl Print, a: Answer) -> io::Result<()> {
     match a {
-        Answer::Silent => say::text(b", no answer"),
-        Answer::Nobody => say::text(b", nobody"),
-        Answer::Idled(guest) => say::number(b", idled by guest ", guest),
-        Answer::Worked(guest, task) => had(guest, task),
+        Answer::Silent => say::text(rt, b", no answer")?,
+        Answer::Nobody => say::text(rt, b", nobody")?,
+        Answer::Idled(guest) => say::number(rt, b", idled by guest ", guest)?,
+        Answer::Worked(guest, task) => had(rt, guest, task)?,
         Answer::Finished {
             guest,
             task,
             age,
             margin,
         } => {
-            had(guest, task);
-            finished(age, margin < 0);
+            had(rt, guest, task)?;
+            finished(rt, age, margin < 0)?;
         }
     }
-    say::text(b"\n");
+    say::text(rt, b"\n")
 }
 
-fn tick(d: Dispatcher) -> Dispatcher {
+fn tick(rt: &impl Print, d: Dispatcher) -> io::Result<Dispatcher> {
     let ticked = d.tick();
     let a = ticked.answer;
-    say::refusal(ticked.refusal);
-    answer(a);
-    ticked.state
+    say::refusal(rt, ticked.refusal)?;
+    answer(rt, a)?;
+    Ok(ticked.state)
 }
 
-fn run(d: Dispatcher, ticks: u32) -> Dispatcher {
+fn run(rt: &impl Print, d: Dispatcher, ticks: u32) -> io::Result<Dispatcher> {
     let ran = d.run(ticks);
     let a = ran.answer;
-    say::refusal(ran.refusal);
-    say::number(b", ticks ", ran.done);
-    answer(a);
-    ran.state
+    say::refusal(rt, ran.refusal)?;
+    say::number(rt, b", ticks ", ran.done)?;
+    answer(rt, a)?;
+    Ok(ran.state)
 }
 
 // Capacity left or position of guest k set.
@@ -118,18 +120,18 @@ fn with_job(d: Dispatcher, first: u8, k: usize, value: u32) -> Dispatcher {
 
 // `Start` from the plan; `Release` a guest's task; `Hand` in a sheet of releases; `Tick`; `Go` on for so many ticks;
 // `Left`, `Position`, `Deferrable`, `Job`, `Wait` or `Age` at a place set to a number.
-pub fn call(p: Plan, d: Dispatcher, row: Row) -> Dispatcher {
+pub fn call(rt: &impl Print, p: Plan, d: Dispatcher, row: Row) -> io::Result<Dispatcher> {
     let x = row.numbers;
     let first = row.first;
     match first {
-        b'S' => start(p),
-        b'R' => release(d, x[0], x[1]),
-        b'H' => sheets::hand_in(d, row),
-        b'T' => tick(d),
-        b'G' => run(d, x[0]),
-        b'L' | b'P' => with_server(d, first, x[0] as usize, x[1]),
-        b'D' => with_kind(d, x[0] as usize, x[1]),
-        b'J' | b'W' | b'A' => with_job(d, first, x[0] as usize, x[1]),
-        _ => d,
+        b'S' => start(rt, p),
+        b'R' => release(rt, d, x[0], x[1]),
+        b'H' => sheets::hand_in(rt, d, row),
+        b'T' => tick(rt, d),
+        b'G' => run(rt, d, x[0]),
+        b'L' | b'P' => Ok(with_server(d, first, x[0] as usize, x[1])),
+        b'D' => Ok(with_kind(d, x[0] as usize, x[1])),
+        b'J' | b'W' | b'A' => Ok(with_job(d, first, x[0] as usize, x[1])),
+        _ => Ok(d),
     }
 }

@@ -1,17 +1,18 @@
 // Writes the lines of standard input out again.
 use casework::say;
 use draft::text::Row;
+use std::io;
 
 // Writes a byte of the line in hand, unless the line is left out.
-pub fn byte(row: Row, b: u8) {
+pub fn byte(rt: &impl Print, row: Row, b: u8) -> io::Result<()> {
     if row.first == b'#' {
-        return;
+        return Ok(());
     }
-    io::write_all(1, &[b]);
+    rt.write_all(&[b])
 }
 
 // Ends a line that has no answer, or whose answer starts on the next.
-pub fn end(row: Row) {
+pub fn end(rt: &impl Print, row: Row) -> io::Result<()> {
     let first = row.first;
     match first {
         0
@@ -27,7 +28,7 @@ pub fn end(row: Row) {
         | b'D'
         | b'J'
         | b'W'
-        | b'A' => say::text(b"\n"),
-        _ => {}
+        | b'A' => say::text(rt, b"\n"),
+        _ => Ok(()),
     }
 }

@@ -4,57 +4,58 @@ use casework::say;
 use draft::text::Row;
 use plan::Plan;
 use show::Line;
+use std::io;
 
 // The verdict of a guest, or of one of its tasks.
-fn verdict(p: Plan, row: Row) {
+fn verdict(rt: &impl Print, p: Plan, row: Row) -> io::Result<()> {
     let x = row.numbers;
-    say::text(b": ");
+    say::text(rt, b": ")?;
     if row.count < 2 {
-        show::print(show::guest_line(p, x[0]));
+        show::print(rt, show::guest_line(p, x[0]))
     } else {
-        show::print(show::task_line(p, x[0], x[1]));
+        show::print(rt, show::task_line(p, x[0], x[1]))
     }
 }
 
-fn accept(p: Plan) {
-    say::text(b": ");
-    show::print(show::last_line(p));
+fn accept(rt: &impl Print, p: Plan) -> io::Result<()> {
+    say::text(rt, b": ")?;
+    show::print(rt, show::last_line(p))
 }
 
-fn smallest(p: Plan, id: u32) {
+fn smallest(rt: &impl Print, p: Plan, id: u32) -> io::Result<()> {
     match capacity::smallest_capacity(p, id) {
         CapacityAnswer::Refused(number, place) => {
-            say::text(b": ");
-            show::print(Line::Refused(number, place));
+            say::text(rt, b": ")?;
+            show::print(rt, Line::Refused(number, place))
         }
         CapacityAnswer::Smallest(c) => {
-            say::number(b": capacity ", c);
-            say::text(b"\n");
+            say::number(rt, b": capacity ", c)?;
+            say::text(rt, b"\n")
         }
     }
 }
 
 // `order` of the tasks of a guest: the plan that comes back is the one in hand from here on.
-pub fn ordered(p: Plan, id: u32) -> Plan {
+pub fn ordered(rt: &impl Print, p: Plan, id: u32) -> io::Result<Plan> {
     let r = order::propose(p, id);
     let refusal = r.refusal;
     if 0 < refusal.number {
-        say::text(b": ");
-        show::print(Line::Refused(refusal.number, refusal.place));
+        say::text(rt, b": ")?;
+        show::print(rt, Line::Refused(refusal.number, refusal.place))?;
     } else {
-        say::text(b": by deadline\n");
+        say::text(rt, b": by deadline\n")?;
     }
-    r.plan
+    Ok(r.plan)
 }
 
 // `verdict` of a guest or a task; `accept`; `smallest` capacity of a guest.
-pub fn ask(p: Plan, row: Row) {
+pub fn ask(rt: &impl Print, p: Plan, row: Row) -> io::Result<()> {
     let x = row.numbers;
     let first = row.first;
     match first {
-        b'v' => verdict(p, row),
-        b'a' => accept(p),
-        b's' => smallest(p, x[0]),
-        _ => {}
+        b'v' => verdict(rt, p, row),
+        b'a' => accept(rt, p),
+        b's' => smallest(rt, p, x[0]),
+        _ => Ok(()),
     }
 }

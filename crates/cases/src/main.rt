@@ -9,6 +9,7 @@ use dispatcher::Dispatcher;
 use draft::text;
 use draft::text::Row;
 use plan::Plan;
+use std::io;
 
 mod amending;
 mod dispatching;
@@ -16,6 +17,9 @@ mod echo;
 mod files;
 mod judging;
 mod sheets;
+
+// The most bytes of the cases.
+const MOST_READ: u64 = 32768;
 
 // The plan with these marks for the guest at a place, also past its tasks.
 fn with_marks(p: Plan, place: u32, marks: u32) -> Plan {
@@ -32,25 +36,25 @@ fn with_marks(p: Plan, place: u32, marks: u32) -> Plan {
 
 // The plan after a line: `new` empties it, `count` says how many of its guests count, `marks` sets those of a guest,
 // `order` has a guest's tasks reordered.
-fn planned(p: Plan, row: Row) -> Plan {
+fn planned(rt: &impl Print, p: Plan, row: Row) -> io::Result<Plan> {
     let x = row.numbers;
     if row.first == b'n' {
-        return plan::blank_plan();
+        return Ok(plan::blank_plan());
     }
     if row.first == b'c' {
         let guests = p.guests;
-        return Plan {
+        return Ok(Plan {
             count: x[0],
             guests,
-        };
+        });
     }
     if row.first == b'm' {
-        return with_marks(p, x[0], x[1]);
+        return Ok(with_marks(p, x[0], x[1]));
     }
     if row.first == b'o' {
-        return judging::ordered(p, x[0]);
+        return judging::ordered(rt, p, x[0]);
     }
-    text::with_line(p, row)
+    Ok(text::with_line(p, row))
 }
 
 // The standing plan after a line: `Keep` makes it the plan in hand.
@@ -62,15 +66,21 @@ fn kept(standing: Plan, p: Plan, row: Row) -> Plan {
 }
 
 // The dispatcher's state after a line; what the line asks is asked, and the answer ends the line.
-fn asked(standing: Plan, p: Plan, d: Dispatcher, row: Row) -> Dispatcher {
-    echo::end(row);
-    files::ask(p, row);
-    judging::ask(p, row);
-    amending::ask(standing, p, row);
-    dispatching::call(p, d, row)
+fn asked(
+    rt: &impl Print,
+    standing: Plan,
+    p: Plan,
+    d: Dispatcher,
+    row: Row,
+) -> io::Result<Dispatcher> {
+    echo::end(rt, row)?;
+    files::ask(rt, p, row)?;
+    judging::ask(rt, p, row)?;
+    amending::ask(rt, standing, p, row)?;
+    dispatching::call(rt, p, d, row)
 }
 
-fn lines(text: &[u8]) {
+fn lines(rt: &impl Print, text: &[u8]) -> io::Result<()> {
     let mut p = plan::blank_plan();
     let mut standing = p;
     let mut d = dispatching::fresh(p);
@@ -78,19 +88,20 @@ fn lines(text: &[u8]) {
     for i in 0..text.len() {
         let b = text[i];
         if b == b'\n' {
-            p = planned(p, row);
+            p = planned(rt, p, row)?;
             standing = kept(standing, p, row);
-            d = asked(standing, p, d, row);
+            d = asked(rt, standing, p, d, row)?;
             row = text::blank_row();
         } else {
             row = text::with_byte(row, b);
-            echo::byte(row, b);
+            echo::byte(rt, row, b)?;
         }
     }
+    Ok(())
 }
 
-fn main() {
-    let mut buf = [0u8; 32768];
-    let n = io::read_full(0, &mut buf);
-    lines(&buf[..n]);
+fn main(rt: HostRuntime) -> io::Result<()> {
+    let mut input = Vec::new(rt.alloc());
+    rt.reader().take(MOST_READ).read_to_end(&mut input)?;
+    lines(&rt, &input)
 }

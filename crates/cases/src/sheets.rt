@@ -2,6 +2,7 @@
 use casework::say;
 use dispatcher::Dispatcher;
 use draft::text::Row;
+use std::io;
 
 // A pair is the guest id times this, plus the task number.
 const PAIR_BASE: u64 = 65536;
@@ -21,61 +22,73 @@ fn in_turn(first: u64, second: u64) -> [u64; 260] {
 }
 
 // Writes an answer, and how many places in a row hold it where these are more than one.
-fn answer(number: u32, many: usize) {
+fn answer(rt: &impl Print, number: u32, many: usize) -> io::Result<()> {
     if many < 1 {
-        return;
+        return Ok(());
     }
-    say::number(b" ", number);
+    say::number(rt, b" ", number)?;
     if 1 < many {
-        say::text(b" x");
-        io::print_decimal(1, many as u64);
+        print!(rt; " x{many}")?;
     }
+    Ok(())
 }
 
 // Writes what each lent place holds.
-fn places(answers: &[u32]) {
+fn places(rt: &impl Print, answers: &[u32]) -> io::Result<()> {
     let mut last: u32 = 0;
     let mut many: usize = 0;
-    say::text(b", places:");
+    say::text(rt, b", places:")?;
     for i in 0..answers.len() {
         let number = answers[i];
         if number == last {
             many += 1;
         } else {
-            answer(last, many);
+            answer(rt, last, many)?;
             last = number;
             many = 1;
         }
     }
-    answer(last, many);
+    answer(rt, last, many)
 }
 
 // The sheet of these pairs, with these places: whether it is refused, and what the places hold then.
-fn release(d: Dispatcher, pairs: &[u64], answers: &mut [u32]) -> Dispatcher {
+fn release(
+    rt: &impl Print,
+    d: Dispatcher,
+    pairs: &[u64],
+    answers: &mut [u32],
+) -> io::Result<Dispatcher> {
     let released = sheet::release_all(d, pairs, answers);
-    say::refusal(released.refusal);
-    places(answers);
-    released.state
+    say::refusal(rt, released.refusal)?;
+    places(rt, answers)?;
+    Ok(released.state)
 }
 
 // The sheet of the first n pairs, with the first m places; nothing is handed in where there are fewer of either.
-fn lend(d: Dispatcher, pairs: &[u64], n: u32, answers: &mut [u32], m: u32) -> Dispatcher {
+fn lend(
+    rt: &impl Print,
+    d: Dispatcher,
+    pairs: &[u64],
+    n: u32,
+    answers: &mut [u32],
+    m: u32,
+) -> io::Result<Dispatcher> {
     let n = n as usize;
     let m = m as usize;
     if n <= pairs.len() {
         if m <= answers.len() {
-            return release(d, &pairs[..n], &mut answers[..m]);
+            return release(rt, d, &pairs[..n], &mut answers[..m]);
         }
     }
-    d
+    Ok(d)
 }
 
 // So many pairs with so many places: the pairs of two tasks come in turn, and each place holds 99 before.
-pub fn hand_in(d: Dispatcher, row: Row) -> Dispatcher {
+pub fn hand_in(rt: &impl Print, d: Dispatcher, row: Row) -> io::Result<Dispatcher> {
     let x = row.numbers;
     let pairs = in_turn(pair(x[2], x[3]), pair(x[4], x[5]));
     let mut answers = [99u32; 260];
-    let next = lend(d, &pairs, x[0], &mut answers, x[1]);
-    say::text(b"\n");
-    next
+    let next = lend(rt, d, &pairs, x[0], &mut answers, x[1])?;
+    say::text(rt, b"\n")?;
+    Ok(next)
 }

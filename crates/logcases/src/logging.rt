@@ -3,6 +3,7 @@ use block::layout;
 use casework::{damage, say};
 use draft::text::Row;
 use statement::{Entries, Entry};
+use std::io;
 
 // The length of 4 blocks, the most that the log in hand has.
 pub const MOST_BYTES: usize = 4 * layout::SIZE;
@@ -55,24 +56,30 @@ pub fn with_job(jobs: Entries, row: Row) -> Entries {
 }
 
 // The block of these jobs written at the log's end, into so many bytes; the log's length after it.
-fn write(jobs: Entries, log: &mut [u8], length: usize, room: u32) -> usize {
+fn write(
+    rt: &impl Print,
+    jobs: Entries,
+    log: &mut [u8],
+    length: usize,
+    room: u32,
+) -> io::Result<usize> {
     let room = room as usize;
     if layout::SIZE < room {
-        return length;
+        return Ok(length);
     }
     if MOST_BYTES < length {
-        return length;
+        return Ok(length);
     }
     let end = length + room;
     if log.len() < end {
-        return length;
+        return Ok(length);
     }
     let r = statement::write_log(jobs, &mut log[length..end]);
-    say::refusal(r);
+    say::refusal(rt, r)?;
     if 0 < r.number {
-        return length;
+        return Ok(length);
     }
-    end
+    Ok(end)
 }
 
 // The log after a line that damages it.
@@ -81,15 +88,21 @@ pub fn damaged(log: &mut [u8; 2048], row: Row) {
 }
 
 // The log's length after a line: `Write` puts the jobs gathered into a block of so many bytes, `new` begins anew.
-pub fn logged(jobs: Entries, log: &mut [u8; 2048], length: usize, row: Row) -> usize {
+pub fn logged(
+    rt: &impl Print,
+    jobs: Entries,
+    log: &mut [u8; 2048],
+    length: usize,
+    row: Row,
+) -> io::Result<usize> {
     let x = row.numbers;
     if row.first == b'n' {
-        return 0;
+        return Ok(0);
     }
     if row.first == b'W' {
-        let after = write(jobs, log, length, x[0]);
-        say::text(b"\n");
-        return after;
+        let after = write(rt, jobs, log, length, x[0])?;
+        say::text(rt, b"\n")?;
+        return Ok(after);
     }
-    length
+    Ok(length)
 }

@@ -7,9 +7,13 @@ use draft::text;
 use draft::text::Row;
 use plan::Plan;
 use statement::{Entries, Statement};
+use std::io;
 
 mod logging;
 mod stating;
+
+// The most bytes of the cases.
+const MOST_READ: u64 = 16384;
 
 // What is in hand: the plan, the jobs of the log's next block, the statement, the log with its length, and the line.
 #[derive(Clone, Copy)]
@@ -36,14 +40,14 @@ fn is_answered(first: u8) -> bool {
 }
 
 // Writes a byte of the line in hand, unless the line is left out, or it is the end of one that is answered.
-fn echo(row: Row, b: u8) {
+fn echo(rt: &impl Print, row: Row, b: u8) -> io::Result<()> {
     if row.first == b'#' {
-        return;
+        return Ok(());
     }
     if (b == b'\n') & is_answered(row.first) {
-        return;
+        return Ok(());
     }
-    io::write_all(1, &[b]);
+    rt.write_all(&[b])
 }
 
 // The line that a byte ends; a line of nothing where it ends none.
@@ -63,25 +67,25 @@ fn grown(row: Row, b: u8) -> Row {
 }
 
 // What is in hand after a byte.
-fn step(desk: Desk, b: u8) -> Desk {
+fn step(rt: &impl Print, desk: Desk, b: u8) -> io::Result<Desk> {
     let row = desk.row;
-    echo(text::with_byte(row, b), b);
+    echo(rt, text::with_byte(row, b), b)?;
     let line = ended(row, b);
     let plan = planned(desk.plan, line);
     let jobs = logging::with_job(desk.jobs, line);
     let mut log = desk.log;
-    let length = logging::logged(jobs, &mut log, desk.length, line);
+    let length = logging::logged(rt, jobs, &mut log, desk.length, line)?;
     logging::damaged(&mut log, line);
-    let statement = stating::asked(plan, desk.statement, &log, line);
+    let statement = stating::asked(rt, plan, desk.statement, &log, line)?;
     let row = grown(row, b);
-    Desk {
+    Ok(Desk {
         plan,
         jobs,
         statement,
         log,
         length,
         row,
-    }
+    })
 }
 
 // Nothing is in hand.
@@ -100,15 +104,16 @@ fn bare() -> Desk {
     }
 }
 
-fn lines(input: &[u8]) {
+fn lines(rt: &impl Print, input: &[u8]) -> io::Result<()> {
     let mut desk = bare();
     for i in 0..input.len() {
-        desk = step(desk, input[i]);
+        desk = step(rt, desk, input[i])?;
     }
+    Ok(())
 }
 
-fn main() {
-    let mut buf = [0u8; 16384];
-    let n = io::read_full(0, &mut buf);
-    lines(&buf[..n]);
+fn main(rt: HostRuntime) -> io::Result<()> {
+    let mut input = Vec::new(rt.alloc());
+    rt.reader().take(MOST_READ).read_to_end(&mut input)?;
+    lines(&rt, &input)
 }

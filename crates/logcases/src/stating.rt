@@ -3,6 +3,7 @@ use casework::say;
 use draft::text::Row;
 use plan::Plan;
 use statement::{Stated, Statement};
+use std::io;
 
 // The statement in which nothing is counted yet.
 pub fn empty() -> Statement {
@@ -16,80 +17,105 @@ pub fn empty() -> Statement {
 }
 
 // Writes whether a sum of margins is negative.
-fn margins(sum: i64) {
+fn margins(rt: &impl Print, sum: i64) -> io::Result<()> {
     if sum < 0 {
-        say::text(b", margins negative");
+        say::text(rt, b", margins negative")
     } else {
-        say::text(b", margins not negative");
+        say::text(rt, b", margins not negative")
     }
 }
 
 // Writes whether the sum of a line is this number.
-fn compare(s: Statement, k: u32, sum: u32) {
+fn compare(rt: &impl Print, s: Statement, k: u32, sum: u32) -> io::Result<()> {
     let k = k as usize;
     if k < 128 {
         if s.margins[k] == (sum as i64) {
-            say::text(b": they are\n");
+            say::text(rt, b": they are\n")?;
         } else {
-            say::text(b": they are not\n");
+            say::text(rt, b": they are not\n")?;
         }
     }
+    Ok(())
 }
 
 // Writes a line of the statement in which a job is counted.
-fn line(k: u32, jobs: u32, longest: u32, late: u32, sum: i64) {
+fn line(
+    rt: &impl Print,
+    k: u32,
+    jobs: u32,
+    longest: u32,
+    late: u32,
+    sum: i64,
+) -> io::Result<()> {
     if jobs < 1 {
-        return;
+        return Ok(());
     }
-    say::number(b"line ", k);
-    say::number(b" jobs ", jobs);
-    say::number(b" longest ", longest);
-    say::number(b" late ", late);
-    margins(sum);
-    say::text(b"\n");
+    say::number(rt, b"line ", k)?;
+    say::number(rt, b" jobs ", jobs)?;
+    say::number(rt, b" longest ", longest)?;
+    say::number(rt, b" late ", late)?;
+    margins(rt, sum)?;
+    say::text(rt, b"\n")
 }
 
 // Writes the outcome of a call.
-fn tell(r: Stated) {
+fn tell(rt: &impl Print, r: Stated) -> io::Result<()> {
     let s = r.statement;
-    say::refusal(r.refusal);
-    say::text(b", passed over ");
-    io::print_decimal(1, r.passed);
-    say::number(b", first by ", r.number);
-    say::text(b" at ");
-    io::print_decimal(1, r.position);
-    say::text(b", blocks ");
-    io::print_decimal(1, s.blocks);
-    say::text(b"\n");
+    let passed = r.passed;
+    let number = r.number;
+    let position = r.position;
+    let blocks = s.blocks;
+    say::refusal(rt, r.refusal)?;
+    println!(rt; ", passed over {passed}, first by {number} at {position}, blocks {blocks}")?;
     for k in 0..128 {
-        line(k as u32, s.jobs[k], s.longest[k], s.late[k], s.margins[k]);
+        line(
+            rt,
+            k as u32,
+            s.jobs[k],
+            s.longest[k],
+            s.late[k],
+            s.margins[k],
+        )?;
     }
+    Ok(())
 }
 
 // The statement after these bytes of a log, against these of a plan.
-fn added<'a>(s: Statement, plan: &'a [u8], log: &'a [u8]) -> Statement {
+fn added<'a>(
+    rt: &impl Print,
+    s: Statement,
+    plan: &'a [u8],
+    log: &'a [u8],
+) -> io::Result<Statement> {
     let r = statement::extend(s, plan, log);
-    tell(r);
-    r.statement
+    tell(rt, r)?;
+    Ok(r.statement)
 }
 
 // The statement after the first n bytes of the log, against the first m of the plan.
-fn lend<'a>(s: Statement, plan: &'a [u8], m: u32, log: &'a [u8], n: u32) -> Statement {
+fn lend<'a>(
+    rt: &impl Print,
+    s: Statement,
+    plan: &'a [u8],
+    m: u32,
+    log: &'a [u8],
+    n: u32,
+) -> io::Result<Statement> {
     let m = m as usize;
     let n = n as usize;
     if m <= plan.len() {
         if n <= log.len() {
-            return added(s, &plan[..m], &log[..n]);
+            return added(rt, s, &plan[..m], &log[..n]);
         }
     }
-    s
+    Ok(s)
 }
 
 // The statement after so many bytes of the log.
-fn extend(p: Plan, s: Statement, log: &[u8], n: u32) -> Statement {
+fn extend(rt: &impl Print, p: Plan, s: Statement, log: &[u8], n: u32) -> io::Result<Statement> {
     let mut plan = [0u8; draft::MOST_BYTES];
     draft::write(p, &mut plan, true);
-    lend(s, &plan, draft::length(p), log, n)
+    lend(rt, s, &plan, draft::length(p), log, n)
 }
 
 // The statement with so many blocks counted.
@@ -123,19 +149,25 @@ fn with_sum(s: Statement, k: u32, sum: u32) -> Statement {
 
 // The statement after a line: `Extend` adds so many bytes of the log; `Margins` asks for the sum of a line; `Blocks`, `Line`
 // and `Sum` set numbers, `new` begins anew.
-pub fn asked(p: Plan, s: Statement, log: &[u8; 2048], row: Row) -> Statement {
+pub fn asked(
+    rt: &impl Print,
+    p: Plan,
+    s: Statement,
+    log: &[u8; 2048],
+    row: Row,
+) -> io::Result<Statement> {
     let x = row.numbers;
     let first = row.first;
     match first {
-        b'E' => extend(p, s, log, x[0]),
-        b'B' => with_blocks(s, x[0]),
-        b'L' => with_line(s, x[0], x[1], x[2], x[3]),
-        b'S' => with_sum(s, x[0], x[1]),
+        b'E' => extend(rt, p, s, log, x[0]),
+        b'B' => Ok(with_blocks(s, x[0])),
+        b'L' => Ok(with_line(s, x[0], x[1], x[2], x[3])),
+        b'S' => Ok(with_sum(s, x[0], x[1])),
         b'M' => {
-            compare(s, x[0], x[1]);
-            s
+            compare(rt, s, x[0], x[1])?;
+            Ok(s)
         }
-        b'n' => empty(),
-        _ => s,
+        b'n' => Ok(empty()),
+        _ => Ok(s),
     }
 }

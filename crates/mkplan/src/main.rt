@@ -3,6 +3,7 @@
 #![tactic(auto)]
 
 use plan::Plan;
+use std::io;
 
 mod lines;
 
@@ -10,43 +11,40 @@ mod lines;
 const LONGEST: usize = 16384;
 
 // A message and a number after it, to standard error.
-fn complain(words: &[u8], n: u32) {
-    io::write_all(2, words);
-    io::print_decimal(2, n as u64);
+fn complain(rt: &impl Eprint, words: &str, n: u32) -> io::Result<()> {
+    eprint!(rt; "{words}{n}")
 }
 
 // The first n bytes.
-fn put(blocks: &[u8], n: usize) {
+fn put(rt: &impl Print, blocks: &[u8], n: usize) -> io::Result<()> {
     if n <= blocks.len() {
-        io::write_all(1, &blocks[..n]);
+        rt.write_all(&blocks[..n])?;
     }
+    Ok(())
 }
 
 // The plan's blocks.
-fn write(p: Plan) {
+fn write(rt: &(impl Print + Eprint), p: Plan) -> io::Result<()> {
     let mut blocks = [0u8; draft::MOST_BYTES];
     let refusal = draft::write(p, &mut blocks, false);
     if 0 < refusal.number {
-        complain(b"refused ", refusal.number);
-        complain(b" block ", refusal.place);
-        io::write_all(2, b"\n");
-        return;
+        complain(rt, "refused ", refusal.number)?;
+        complain(rt, " block ", refusal.place)?;
+        return eprintln!(rt);
     }
-    put(&blocks, draft::length(p) as usize);
+    put(rt, &blocks, draft::length(p) as usize)
 }
 
-fn main() {
-    let mut buf = [0u8; LONGEST + 1];
-    let n = io::read_full(0, &mut buf);
-    if LONGEST < n {
-        io::write_all(2, b"a text of more than 16384 bytes\n");
-        return;
+fn main(rt: HostRuntime) -> io::Result<()> {
+    let mut text = Vec::new(rt.alloc());
+    rt.reader().take(LONGEST as u64 + 1).read_to_end(&mut text)?;
+    if LONGEST < text.len() {
+        return eprintln!(&rt; "a text of more than 16384 bytes");
     }
-    let t = lines::read(&buf[..n]);
+    let t = lines::read(&text);
     if 0 < t.wrong {
-        complain(b"neither a guest nor a task: line ", t.wrong);
-        io::write_all(2, b"\n");
-        return;
+        complain(&rt, "neither a guest nor a task: line ", t.wrong)?;
+        return eprintln!(&rt);
     }
-    write(t.plan);
+    write(&rt, t.plan)
 }

@@ -2,8 +2,12 @@
 // so that a longer input is seen to be one.
 #![tactic(auto)]
 
-fn main() {
-    let mut buf = [0u8; 4097];
-    let n = io::read_full(0, &mut buf);
-    show::show(&buf[..n]);
+use std::io;
+
+const MOST_READ: u64 = 4097;
+
+fn main(rt: HostRuntime) -> io::Result<()> {
+    let mut bytes = Vec::new(rt.alloc());
+    rt.reader().take(MOST_READ).read_to_end(&mut bytes)?;
+    show::show(&rt, &bytes)
 }

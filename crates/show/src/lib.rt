@@ -4,6 +4,7 @@
 ghost use Rattle.show.specs.Promises.{ShowsGuest, ShowsTask, ShowsPlan};
 
 use plan::Plan;
+use std::io;
 use verdict::{Acceptance, GuestVerdict, TaskVerdict};
 
 mod output;
@@ -59,13 +60,13 @@ pub fn last_line(plan: Plan) -> Line
     }
 }
 
-// Prints the lines of a plan's bytes; of a refused plan the refusal alone.
-pub fn show(bytes: &[u8]) {
+// Prints the lines of a plan's bytes; of a refused plan the refusal alone. A write that fails is the error that comes
+// back, and the lines before it are printed.
+pub fn show(rt: &impl Print, bytes: &[u8]) -> io::Result<()> {
     let reading = planfile::read(bytes);
     let refusal = reading.refusal;
     if 0 < refusal.number {
-        print(Line::Refused(refusal.number, refusal.place));
-        return;
+        return print(rt, Line::Refused(refusal.number, refusal.place));
     }
-    output::print_plan(reading.plan);
+    output::print_plan(rt, reading.plan)
 }
