@@ -7,7 +7,7 @@ use casework::damage;
 use draft::text;
 use draft::text::Row;
 use plan::Plan;
-use std::io;
+use std::io::{self, Read};
 
 mod converting;
 mod looking;

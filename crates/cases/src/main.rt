@@ -9,7 +9,7 @@ use dispatcher::Dispatcher;
 use draft::text;
 use draft::text::Row;
 use plan::Plan;
-use std::io;
+use std::io::{self, Read};
 
 mod amending;
 mod dispatching;

@@ -7,7 +7,7 @@ use draft::text;
 use draft::text::Row;
 use plan::Plan;
 use statement::{Entries, Statement};
-use std::io;
+use std::io::{self, Read};
 
 mod logging;
 mod stating;

@@ -3,7 +3,7 @@
 #![tactic(auto)]
 
 use plan::Plan;
-use std::io;
+use std::io::{self, Read};
 
 mod lines;
 

@@ -2,7 +2,7 @@
 // so that a longer input is seen to be one.
 #![tactic(auto)]
 
-use std::io;
+use std::io::{self, Read};
 
 const MOST_READ: u64 = 4097;
 
