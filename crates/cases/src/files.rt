@@ -60,13 +60,7 @@ fn blocks(rt: &impl Print, p: Plan, row: Row) -> io::Result<()> {
 }
 
 // The writer, lent the first n bytes.
-fn lend(
-    rt: &impl Print,
-    g: Guest,
-    place: u32,
-    buf: &mut [u8],
-    n: usize,
-) -> io::Result<()> {
+fn lend(rt: &impl Print, g: Guest, place: u32, buf: &mut [u8], n: usize) -> io::Result<()> {
     if n <= buf.len() {
         say::refusal(rt, blockwriter::write(g, place, &mut buf[..n]))?;
     }

@@ -39,14 +39,7 @@ fn compare(rt: &impl Print, s: Statement, k: u32, sum: u32) -> io::Result<()> {
 }
 
 // Writes a line of the statement in which a job is counted.
-fn line(
-    rt: &impl Print,
-    k: u32,
-    jobs: u32,
-    longest: u32,
-    late: u32,
-    sum: i64,
-) -> io::Result<()> {
+fn line(rt: &impl Print, k: u32, jobs: u32, longest: u32, late: u32, sum: i64) -> io::Result<()> {
     if jobs < 1 {
         return Ok(());
     }
