@@ -11,8 +11,7 @@ use Rattle.plan.specs.declared.Plan.{Plan}
 use Rattle.plan.specs.declared.Refusal.{Refusal}
 use Rattle.response.specs.Task.{gap}
 use Rattle.verdict.specs.Quoted.{Quotes, Quoted}
-use Rattle.verdict.specs.Verdict.{guest_verdict, task_verdict, acceptance}
-use Rattle.verdict.specs.declared.Acceptance.TheVariants.{Accepted}
+use Rattle.verdict.specs.Verdict.{guest_verdict, task_verdict}
 use Rattle.verdict.specs.declared.GuestVerdict.{GuestVerdict}
 use Rattle.verdict.specs.declared.GuestVerdict.TheVariants.{Fitted, Unfit}
 use Rattle.verdict.specs.declared.TaskVerdict.{TaskVerdict}

@@ -7,7 +7,6 @@ use Prim.Native.Nat.{ℕ, ◌≤◌, ◌<◌}
 use native.Mathlib.Omega.{arith}
 use Rattle.lists.specs.Exactly.{◌exactly_when◌}
 use Rattle.lists.specs.Places.{nth}
-use Rattle.lists.specs.Refusals.{refusal}
 use Rattle.plan.specs.Marks.{is_bound}
 use Rattle.plan.specs.Order.{plan_refusal}
 use Rattle.plan.specs.Place.{place_of, has_guest}

@@ -10,7 +10,7 @@ use Rattle.plan.specs.Order.{plan_refusal}
 use Rattle.plan.specs.Records.{guest_at, every_of, deadline_of}
 use Rattle.plan.specs.declared.Plan.{Plan}
 use Rattle.response.specs.Guest.{fitted, fitted_to}
-use Rattle.response.specs.Met.{met, all_met, accepted}
+use Rattle.response.specs.Met.{all_met, accepted}
 use Rattle.verdict.specs.Verdict.{task_verdict, accept_says, acceptance}
 use Rattle.verdict.specs.declared.Acceptance.{Acceptance}
 use Rattle.verdict.specs.declared.Acceptance.TheVariants.{Accepted, NotAccepted}
