@@ -1,12 +1,10 @@
 -- A turn takes one block more or passes it over.
-use Prim.Native.Nat.{◌<◌}
 use native.Mathlib.Omega.{arith}
 use borrow.Author.Rules.{rules}
 use Rattle.statement.specs.Lent.{statement_of}
 use Rattle.blockfile.proofs.File.{part_long}
 use Rattle.statement.proofs.Log.{room_in, room_now, log_none, log_taken, log_first, log_again, log_done}
 use Rattle.statement.proofs.taking.take_all.Goals as goal
-use Rattle.statement.proofs.taking.take_all.Goals.{then-x-lt1, else-x-lt1, then-number-lt1, else-number-lt1}
 
 pub loop-k-init : goal.loop-k-init
 loop-k-init c = ((search rules, search rules), λ p C. log_none p _ _)
@@ -29,28 +27,16 @@ overflow_add-passed c = omega (arith, c.loop-k.invariant.0)
 pub loop-k-preserved : goal.loop-k-preserved
 loop-k-preserved c =
     let l = c.loop-k in
-    let s = statement_of c.args.counted c.args.margins.now c.args.jobs.now c.args.longest.now c.args.late.now in
-    elim c.if-x-lt1.branch [
-      | then-x-lt1 w ↦ (
-        (search rules, omega (arith, l.invariant.0.1, w.passed-is)),
-        λ p C.
-            rw (w.blocks-is, w.passed-is, w.position-is, w.number-is)
-            (log_taken p _ s (l.invariant.1 p C) c.block_at.ensures (c.take-x.ensures p C) (omega (arith, w.if-x-lt1.true))),
-      )
-      | else-x-lt1 w ↦ (
-        (search rules, omega (arith, l.invariant.0.1, w.passed-is)),
-        λ p C.
-            let h : 0 < c.take-x.result = omega (arith, w.if-x-lt1.false) in
-            elim w.if-number-lt1.branch [
-              | then-number-lt1 v ↦
-                  rw (w.blocks-is, w.passed-is, w.position-is, w.number-is, v.position-is, v.number-is)
-                  (log_first p _ s (l.invariant.1 p C) c.block_at.ensures (c.take-x.ensures p C) h (omega (arith, v.if-number-lt1.true)))
-              | else-number-lt1 v ↦
-                  rw (w.blocks-is, w.passed-is, w.position-is, w.number-is, v.position-is, v.number-is)
-                  (log_again p _ s (l.invariant.1 p C) c.block_at.ensures (c.take-x.ensures p C) h (omega (arith, v.if-number-lt1.false)))
-            ],
-      )
-    ]
+    let s = statement_of c.args.counted c.args.margins.now c.args.jobs.now c.args.longest.now c.args.late.now in (
+      search rules,
+      λ p C.
+          let T = l.invariant.1 p C in
+          let B = c.take-x.ensures p C in
+          let f = log_taken p _ s T c.block_at.ensures B in
+          let g = log_first p _ s T c.block_at.ensures B in
+          let h = log_again p _ s T c.block_at.ensures B in
+          search (rules, f, g, h),
+    )
 
 pub returns : goal.returns
 returns c =
