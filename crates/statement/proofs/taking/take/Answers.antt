@@ -51,7 +51,7 @@ count_all-requires c =
     let K = countable C c.own_number-own.ensures c.if-own-gt0.false c.jobs_of-many.ensures
     (c.aim_all-found.ensures _ C.guests) (not-false _ c.if-not-found.false) (not-false _ c.if-not-found-2.false) c.requires.0 in (
       (c.requires.1.0.0, K),
-      (most_jobs * c.args.blocks, (omega (arith, K.few, c.if-blocks-ge-MOST_BLOCKS.false), same_lines c.requires.1.1)),
+      (most_jobs * c.args.blocks, (omega (arith, K.few), same_lines c.requires.1.1)),
     )
 
 pub returns : goal.returns
@@ -59,7 +59,7 @@ returns c =
     λ p C.
     let found = c.aim_all-found.ensures p C.guests in
     all_counted C c.own_number-own.ensures c.if-own-gt0.false c.jobs_of-many.ensures
-    found (not-false _ c.if-not-found.false) (not-false _ c.if-not-found-2.false) (statement_of c.args.blocks c.args.margins.now c.args.jobs.now c.args.longest.now c.args.late.now) c.if-blocks-ge-MOST_BLOCKS.false
+    found (not-false _ c.if-not-found.false) (not-false _ c.if-not-found-2.false) (statement_of c.args.blocks c.args.margins.now c.args.jobs.now c.args.longest.now c.args.late.now) (omega arith)
     (c.count_all.ensures p _
     (countable C c.own_number-own.ensures c.if-own-gt0.false c.jobs_of-many.ensures
     found (not-false _ c.if-not-found.false) (not-false _ c.if-not-found-2.false) c.requires.0))
