@@ -16,19 +16,11 @@ use Rattle.verdict_laws.specs.Tasks.{TaskThere}
 use Rattle.history.specs.Calls.{Call, releasing, start, play, released, ticks_in, NoneTaken, CanStart}
 use Rattle.history.specs.Named.{bound_by, position_by, every_by, rest_by, wait_by, StartsHere}
 use Rattle.dispatcher_laws.proofs.Sound.{Sound, free_task, guest_in_lem, task_in}
+use Rattle.history.proofs.Causes.{Again}
 use Rattle.history.proofs.ByState.{away, waiting, unfinished, accepted, not_17, here_or_away}
 use Rattle.history.proofs.Play.{sound_after, sound_play}
 use Rattle.history.proofs.Clocks.{sound_reached, id_is, wait_since, before_any}
 use Rattle.plan.proofs.PeriodicLaws.{starts_in_order}
-
--- The number n of a release m ticks after the last one taken, of a task with this period and this run left, where H
--- says that the task may start and A that it may not: 17, 9, 10 or none, each for its own cause. Inner: it serves the
--- proofs of this file alone.
-record Again (H A : Type 0) (n period m left : ℕ) : Type 0 where
-  pub seventeen : (n ≡ 17) exactly_when A
-  pub nine : (n ≡ 9) exactly_when (H × (m < period))
-  pub ten : (n ≡ 10) exactly_when (H × ((period ≤ m) × (0 < left)))
-  pub none : (n ≡ 0) exactly_when (H × ((period ≤ m) × (left ≡ 0)))
 
 -- Causes that shut each other out and leave nothing out are exact: first where the task may not start.
 exact_away : {H A : Type 0} (n period m left : ℕ) → (H → A → ⊥) → A → n ≡ 17 → Again H A n period m left

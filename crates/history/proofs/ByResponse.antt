@@ -28,6 +28,7 @@ use Rattle.history.proofs.Play.{Any, any, play_keeps, answers_length}
 use Rattle.verdict_laws.proofs.Ids.{id_of}
 use Rattle.verdict_laws.proofs.Guests.{fitted_means}
 use Rattle.history.proofs.Share.{count_old}
+use Rattle.history.proofs.ByX.{ByX}
 use Rattle.history.proofs.Capacity.{Shares, shares_next, shares_taken, shares_idle}
 use Rattle.verdict_laws.proofs.Kept.{fitted_of}
 use Rattle.history.proofs.Clocks.{sound_start}
@@ -66,13 +67,8 @@ module _ (p : Plan) (P : PlanIn p) (g x : ℕ) (in_plan : g < p.count) (F : Gues
       inside : pos_at d g < per_of p g
       inside = subst (λ (z : Plan). pos_at d g < per_of z g) D.plan (D.shaped.places g (rw D.plan in_plan))
 
-  -- After the answers L: each period whose x-th tick is done has had its capacity by then.
-  record ByX (L : List Answer) (d : Dispatcher) : Type 0 where
-    shares : Shares p g x L d
-    had : (k : ℕ) → k * per_of p g + x ≤ length L → share (id_of p g) L (k * per_of p g) x ≡ cap_of p g
-
   -- This stands over a tick.
-  by_x_next : (L : List Answer) (d : Dispatcher) → Sound p d → ByX L d → ByX (L ++ (answer d ∷ [])) (next d)
+  by_x_next : (L : List Answer) (d : Dispatcher) → Sound p d → ByX p g x L d → ByX p g x (L ++ (answer d ∷ [])) (next d)
   by_x_next L d D H = record {
     shares = S;
     had = λ k h.
@@ -89,7 +85,7 @@ module _ (p : Plan) (P : PlanIn p) (g x : ℕ) (in_plan : g < p.count) (F : Gues
       longer = simp length-append (omega arith)
 
   -- This stands over a taken release.
-  by_x_taken : (L : List Answer) (d : Dispatcher) (k t : ℕ) → ByX L d → ByX L (taken d k t)
+  by_x_taken : (L : List Answer) (d : Dispatcher) (k t : ℕ) → ByX p g x L d → ByX p g x L (taken d k t)
   by_x_taken L d k t H = record { shares = shares_taken p P g x in_plan F L d k t H.shares; had = H.had }
 
 -- After a history each period whose x-th tick is done has had its capacity by then.
@@ -101,7 +97,7 @@ had_by :
 had_by p can g x in_plan G cs k h =
     let P = plan_in p (starts_in_order p can) in
     let F = fitted_of p P (starts_periodic p can) in_plan G in
-    (play_keeps p (ByX p P g x in_plan F) Any (by_x_next p P g x in_plan F)
+    (play_keeps p (ByX p g x) Any (by_x_next p P g x in_plan F)
     (λ L d id task k t D a f H. by_x_taken p P g x in_plan F L d k t H) cs [] (start p) (any cs (start p))
     record {
       sound = sound_start p can;

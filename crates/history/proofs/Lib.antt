@@ -10,6 +10,7 @@ pub mod Refused
 pub mod Since
 pub mod Clocks
 pub mod ByState
+pub mod Causes
 pub mod Again
 pub mod Settings
 -- The invariants that are kept.
@@ -22,6 +23,7 @@ pub mod Finished
 pub mod InTime
 -- The promises.
 pub mod Sure
+pub mod ByX
 pub mod ByResponse
 pub mod Above
 pub mod FinishedBy
