@@ -11,8 +11,9 @@ mod lines;
 const LONGEST: usize = 16384;
 
 // A message and a number after it, to standard error.
-fn complain(rt: &impl Eprint, words: &str, n: u32) -> io::Result<()> {
-    eprint!(rt; "{words}{n}")
+fn complain(err: &impl Print, words: &[u8], n: u32) -> io::Result<()> {
+    err.write_all(words)?;
+    print!(err; "{n}")
 }
 
 // The first n bytes.
@@ -24,27 +25,28 @@ fn put(rt: &impl Print, blocks: &[u8], n: usize) -> io::Result<()> {
 }
 
 // The plan's blocks.
-fn write(rt: &(impl Print + Eprint), p: Plan) -> io::Result<()> {
+fn write(rt: &impl Print, err: &impl Print, p: Plan) -> io::Result<()> {
     let mut blocks = [0u8; draft::MOST_BYTES];
     let refusal = draft::write(p, &mut blocks, false);
     if 0 < refusal.number {
-        complain(rt, "refused ", refusal.number)?;
-        complain(rt, " block ", refusal.place)?;
-        return eprintln!(rt);
+        complain(err, b"refused ", refusal.number)?;
+        complain(err, b" block ", refusal.place)?;
+        return err.write_all(b"\n");
     }
     put(rt, &blocks, draft::length(p) as usize)
 }
 
 fn main(rt: HostRuntime) -> io::Result<()> {
+    let err = rt.stderr();
     let mut text = Vec::new(rt.alloc());
     rt.reader().take(LONGEST as u64 + 1).read_to_end(&mut text)?;
     if LONGEST < text.len() {
-        return eprintln!(&rt; "a text of more than 16384 bytes");
+        return err.write_all(b"a text of more than 16384 bytes\n");
     }
     let t = lines::read(&text);
     if 0 < t.wrong {
-        complain(&rt, "neither a guest nor a task: line ", t.wrong)?;
-        return eprintln!(&rt);
+        complain(&err, b"neither a guest nor a task: line ", t.wrong)?;
+        return err.write_all(b"\n");
     }
-    write(&rt, t.plan)
+    write(&rt, &err, t.plan)
 }

@@ -3,18 +3,37 @@ use crate::{Line, guest_line, last_line, task_line};
 use plan::Plan;
 use std::io;
 
+// A word and a number after it.
+fn numbered(rt: &impl Print, word: &[u8], n: u32) -> io::Result<()> {
+    rt.write_all(word)?;
+    print!(rt; "{n}")
+}
+
+// Two words, each with a number after it.
+fn twice(rt: &impl Print, first: &[u8], m: u32, second: &[u8], n: u32) -> io::Result<()> {
+    numbered(rt, first, m)?;
+    numbered(rt, second, n)?;
+    rt.write_all(b"\n")
+}
+
+// A word, a number, and how the line ends.
+fn once(rt: &impl Print, first: &[u8], n: u32, end: &[u8]) -> io::Result<()> {
+    numbered(rt, first, n)?;
+    rt.write_all(end)
+}
+
 // The line as document 01 and P2 have it.
 pub fn print(rt: &impl Print, line: Line) -> io::Result<()> {
     match line {
-        Line::Refused(number, place) => println!(rt; "refused {number} block {place}"),
-        Line::Fitted(id, x) => println!(rt; "guest {id} fitted {x}"),
-        Line::Unfit(id) => println!(rt; "guest {id} unfit"),
-        Line::Met(task, r) => println!(rt; "task {task} met {r}"),
-        Line::UnmetAt(task, r) => println!(rt; "task {task} unmet {r}"),
-        Line::Unmet(task) => println!(rt; "task {task} unmet"),
-        Line::Unjudged(task) => println!(rt; "task {task} unjudged"),
-        Line::Accepted => println!(rt; "plan accepted"),
-        Line::NotAccepted => println!(rt; "plan not accepted"),
+        Line::Refused(number, place) => twice(rt, b"refused ", number, b" block ", place),
+        Line::Fitted(id, x) => twice(rt, b"guest ", id, b" fitted ", x),
+        Line::Unfit(id) => once(rt, b"guest ", id, b" unfit\n"),
+        Line::Met(task, r) => twice(rt, b"task ", task, b" met ", r),
+        Line::UnmetAt(task, r) => twice(rt, b"task ", task, b" unmet ", r),
+        Line::Unmet(task) => once(rt, b"task ", task, b" unmet\n"),
+        Line::Unjudged(task) => once(rt, b"task ", task, b" unjudged\n"),
+        Line::Accepted => rt.write_all(b"plan accepted\n"),
+        Line::NotAccepted => rt.write_all(b"plan not accepted\n"),
     }
 }
 
