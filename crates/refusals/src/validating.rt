@@ -30,27 +30,29 @@ fn guests_ok(
         × ColumnsOf (plan_of count rows.now).guests count result.columns }
 {
     let n = count as usize;
-    let mut columns = Columns {
-        ids: [0; 16],
-        capacities: [0; 16],
-        periods: [0; 16],
-        tasks: [0; 16],
-        deferrable: [0; 16],
+    let mut found = Checked {
+        ok: true,
+        columns: Columns {
+            ids: [0; 16],
+            capacities: [0; 16],
+            periods: [0; 16],
+            tasks: [0; 16],
+            deferrable: [0; 16],
+        },
     };
-    let mut ok = true;
     let mut k: usize = 0;
     while k < n {
         let g = guest_of(&rows[k]);
-        columns.ids[k] = g.id;
-        columns.capacities[k] = g.capacity;
-        columns.periods[k] = g.period;
-        columns.tasks[k] = g.tasks;
-        columns.deferrable[k] = g.deferrable;
-        let new_id = plan::new_id(&columns.ids, k);
-        ok = ok & (new_id & guest_ok(g, k, left[k], position[k], rest, wait, age));
+        found.columns.ids[k] = g.id;
+        found.columns.capacities[k] = g.capacity;
+        found.columns.periods[k] = g.period;
+        found.columns.tasks[k] = g.tasks;
+        found.columns.deferrable[k] = g.deferrable;
+        let new_id = plan::new_id(&found.columns.ids, k);
+        found.ok = found.ok & (new_id & guest_ok(g, k, left[k], position[k], rest, wait, age));
         k += 1;
     }
-    Checked { ok, columns }
+    found
 }
 
 // Whether the rows past the n guests are blank.
