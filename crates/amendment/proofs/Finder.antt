@@ -1,10 +1,9 @@
 -- How the code comes to the block found in a pair, and that it lies within its slice. Assumes nothing.
+use Rattle.std.specs.Prelude.{Option, Some, None}
 use mathlib.Core.Path.{◌≡◌, refl, ap, ◌∙◌}
 use mathlib.Core.List.{List, []}
 use Prim.Native.Nat.{ℕ, zero, suc, ◌≤◌, ◌<◌}
 use native.Mathlib.Omega.{arith}
-use Rattle.lists.specs.declared.Found.{Found}
-use Rattle.lists.specs.declared.Found.TheVariants.{At, Nothing}
 use Rattle.plan.specs.First.{refused_by}
 use Rattle.blockfile.specs.File.{block_at, blocks_in, first_with}
 use Rattle.amendment.specs.declared.Located.{Located}
@@ -73,13 +72,13 @@ module _ (plan sheet : List ℕ) (id : ℕ) where
   unfolding pair_found
   found_in_plan r e h l = rw (← e) (handed_plan r.number r.sheet r.place plan sheet h l)
 
-  stands_within : (f g : Found) → first_with sheet id ≡ f → first_with plan id ≡ g → (standing f g).number ≡ 0
+  stands_within : (f g : Option ℕ) → first_with sheet id ≡ f → first_with plan id ≡ g → (standing f g).number ≡ 0
       → (0 < (standing f g).sheet → (standing f g).place < blocks_in sheet)
       × ((standing f g).sheet ≤ 0 → (standing f g).place < blocks_in plan)
   unfolding standing
-  stands_within (At j) g p q e = (λ l. (found_at sheet id j p).0, λ l. absurd (omega arith))
-  stands_within Nothing (At k) p q e = (λ l. absurd (omega arith), λ l. (found_at plan id k q).0)
-  stands_within Nothing Nothing p q e = absurd (omega arith)
+  stands_within (Some j) g p q e = (λ l. (found_at sheet id j p).0, λ l. absurd (omega arith))
+  stands_within None (Some k) p q e = (λ l. absurd (omega arith), λ l. (found_at plan id k q).0)
+  stands_within None None p q e = absurd (omega arith)
 
   -- A place that was found is one of the blocks.
   pub found_within : (r : Located) → r ≡ pair_place plan sheet id → r.number ≤ 0

@@ -1,15 +1,13 @@
 -- The plan with the sheet's blocks in the place of its own.
-use Rattle.std.specs.Prelude.{List, ℕ}
-use Rattle.lists.specs.declared.Found.{Found}
-use Rattle.lists.specs.declared.Found.TheVariants.{At, Nothing}
+use Rattle.std.specs.Prelude.{List, ℕ, Option, Some, None}
 use Rattle.plan.specs.declared.Plan.{Plan}
 use Rattle.blockfile.specs.File.{block_at, id_at, blocks_in, first_with}
 use Rattle.blockfile.specs.Records.{records_of}
 
 -- The block that was found in the sheet, or else the plan's own.
-unfoldable pub block_or : Found → (sheet own : List ℕ) → List ℕ
-block_or (At j) sheet own = block_at sheet j
-block_or Nothing sheet own = own
+unfoldable pub block_or : Option ℕ → (sheet own : List ℕ) → List ℕ
+block_or (Some j) sheet own = block_at sheet j
+block_or None sheet own = own
 
 -- The block that counts for the guest at place k of the plan: the sheet's if it has one for that guest, otherwise the
 -- plan's.

@@ -1,17 +1,15 @@
 -- A guest's block in a pair, found by the guest's id: the sheet's if it has one, otherwise the plan's.
-use Rattle.std.specs.Prelude.{List, [], ℕ, zero, suc}
-use Rattle.lists.specs.declared.Found.{Found}
-use Rattle.lists.specs.declared.Found.TheVariants.{At, Nothing}
+use Rattle.std.specs.Prelude.{List, [], ℕ, zero, suc, Option, Some, None}
 use Rattle.plan.specs.First.{refused_by}
 use Rattle.blockfile.specs.File.{block_at, first_with}
 use Rattle.amendment.specs.declared.Located.{Located}
 use Rattle.amendment.specs.Pair.{in_plan, in_sheet, pair_refusal}
 
 -- What the searches found in the sheet and in the plan: 0 and the place in the first that has the guest, or refusal 7.
-unfoldable pub standing : (sheet plan : Found) → Located
-standing (At j) f = in_sheet 0 j
-standing Nothing (At k) = in_plan 0 k
-standing Nothing Nothing = in_plan 7 0
+unfoldable pub standing : (sheet plan : Option ℕ) → Located
+standing (Some j) f = in_sheet 0 j
+standing None (Some k) = in_plan 0 k
+standing None None = in_plan 7 0
 
 -- A pair's refusal as it is, or what comes after where its number is 0.
 unfoldable pub located_or : Located → Located → Located

@@ -1,9 +1,7 @@
 -- The pair of a standing plan and an amendment sheet: 1 to 8 blocks in any order, each with its guest's place in the
 -- plan. The refusals of a pair, in their order.
-use Rattle.std.specs.Prelude.{Bool, false, List, [], ◌∷◌, ℕ, eqb}
+use Rattle.std.specs.Prelude.{Bool, false, List, [], ◌∷◌, ℕ, eqb, Option, Some, None}
 use Rattle.lists.specs.Refusals.{refusal, ◌or_refuse◌}
-use Rattle.lists.specs.declared.Found.{Found}
-use Rattle.lists.specs.declared.Found.TheVariants.{At, Nothing}
 use Rattle.plan.specs.declared.Refusal.{Refusal}
 use Rattle.plan.specs.First.{or_else, first_refused, refuse_or}
 use Rattle.block.specs.Reading.{place_in}
@@ -19,9 +17,9 @@ abbrev pub in_sheet : (number place : ℕ) → Located
 in_sheet number place = record { number = number; place = place; sheet = 1 }
 
 -- Whether a search found that place.
-unfoldable pub is_found_at : Found → ℕ → Bool
-is_found_at (At k) place = eqb k place
-is_found_at Nothing place = false
+unfoldable pub is_found_at : Option ℕ → ℕ → Bool
+is_found_at (Some k) place = eqb k place
+is_found_at None place = false
 
 -- Passes 16: the plan has a guest with the id of the sheet's block k, and the block's place is that guest's.
 abbrev pub known_at : (plan sheet : List ℕ) → ℕ → Bool

@@ -8,16 +8,15 @@ ghost use Rattle.amendment.specs.Finder.{standing};
 
 use crate::Located;
 use block::layout;
-use lists::Found;
 use plan::Refusal;
 
 // Whether a search found that place.
-fn is_found_at(f: Found, place: u32) -> bool
+fn is_found_at(f: Option<u32>, place: u32) -> bool
     ensures { result ≡ is_found_at f place }
 {
     match f {
-        Found::At(k) => k == place,
-        Found::Nothing => false,
+        Some(k) => k == place,
+        None => false,
     }
 }
 
@@ -91,22 +90,22 @@ pub fn refusal_of(plan: &[u8], sheet: &[u8]) -> Located
 }
 
 // Where a block was found, in the sheet if it has one; refusal 7 where in neither.
-pub fn standing(sheet: Found, plan: Found) -> Located
+pub fn standing(sheet: Option<u32>, plan: Option<u32>) -> Located
     ensures { result ≡ standing sheet plan }
 {
     match sheet {
-        Found::At(j) => Located {
+        Some(j) => Located {
             number: 0,
             place: j,
             sheet: 1,
         },
-        Found::Nothing => match plan {
-            Found::At(k) => Located {
+        None => match plan {
+            Some(k) => Located {
                 number: 0,
                 place: k,
                 sheet: 0,
             },
-            Found::Nothing => Located {
+            None => Located {
                 number: 7,
                 place: 0,
                 sheet: 0,

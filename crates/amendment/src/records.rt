@@ -10,7 +10,6 @@ ghost use Rattle.amendment.specs.Reading.{ReadsPair};
 use crate::Paired;
 use crate::pairs::refusal_of;
 use block::layout;
-use lists::Found;
 use plan::{Guest, Plan};
 
 // The record of the block that counts for the guest at place k of the plan.
@@ -19,8 +18,8 @@ fn guest_at(plan: &[u8], sheet: &[u8], k: usize) -> Guest
     ensures { result ≡ guest_of (amended_block plan.now sheet.now k) }
 {
     match blockfile::first_with(sheet, blockfile::id_at(plan, k)) {
-        Found::At(j) => blockfile::guest_at(sheet, j as usize),
-        Found::Nothing => blockfile::guest_at(plan, k),
+        Some(j) => blockfile::guest_at(sheet, j as usize),
+        None => blockfile::guest_at(plan, k),
     }
 }
 

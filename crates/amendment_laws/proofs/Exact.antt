@@ -1,4 +1,5 @@
 -- When each refusal of a pair is given, and when a block is found in the sheet or in the plan. Assumes nothing.
+use Rattle.std.specs.Prelude.{Option, Some, None}
 use mathlib.Core.Path.{◌≡◌, refl, sym, ap, ◌∙◌}
 use mathlib.Core.Logic.{inl, inr, ⊎_elim}
 use mathlib.Core.Bool.{false, false≢true}
@@ -9,8 +10,6 @@ use lib.Dec.{eqb}
 use borrow.Author.Tests.{eq-eqb, ne_eqb, eqb-false}
 use Rattle.lists.specs.Exactly.{◌exactly_when◌}
 use Rattle.lists.specs.Refusals.{◌or_refuse◌}
-use Rattle.lists.specs.declared.Found.{Found}
-use Rattle.lists.specs.declared.Found.TheVariants.{At, Nothing}
 use Rattle.plan.specs.First.{refused, or_else, first_refused, refused_by}
 use Rattle.block.specs.Reading.{place_in}
 use Rattle.blockfile.specs.File.{block_at, id_at, blocks_in, blocks_refusal, file_refusal, first_with}
@@ -28,17 +27,17 @@ use Rattle.amendment_laws.proofs.Ids.{one_place}
 
 module _ (plan sheet : List ℕ) (k : ℕ) (ok : (file_refusal plan).number ≡ 0) where
   -- What 16's test says, by what the search for the block's id found.
-  fails_by : (f : Found) → first_with plan (id_at sheet k) ≡ f
+  fails_by : (f : Option ℕ) → first_with plan (id_at sheet k) ≡ f
       → (is_found_at f (place_in (block_at sheet k)) ≡ false) exactly_when Foreign plan sheet k
   unfolding is_found_at
-  fails_by Nothing e =
+  fails_by None e =
       let w : Nowhere (λ j. eqb (id_at plan j) (id_at sheet k)) (blocks_in plan) 0 =
       rw e at (least_says (λ j. eqb (id_at plan j) (id_at sheet k)) (blocks_in plan) 0) in (
         λ q.
             inl (λ h. false≢true (sym (w.never h.0 (omega arith) (omega (arith, h.1.0))) ∙ eq-eqb _ _ h.1.1)),
         λ h. refl,
       )
-  fails_by (At j) e =
+  fails_by (Some j) e =
       let o = found_at plan (id_at sheet k) j e in (
         λ q. inr (j, (o.0, (o.1, λ p. eqb-false j (place_in (block_at sheet k)) q (sym p)))),
         λ h.

@@ -1,5 +1,6 @@
 -- A pair that is not refused: the sheet's ids and places are those of guests of the plan, and the blocks that count
 -- have the plan's ids. Assumes nothing.
+use Rattle.std.specs.Prelude.{Option, Some, None}
 use mathlib.Core.Path.{◌≡◌, refl, sym, ap, ◌∙◌}
 use mathlib.Core.Bool.{Bool, true, false, false≢true}
 use mathlib.Core.List.{List}
@@ -8,8 +9,6 @@ use native.Mathlib.Decide.{dec_lt}
 use native.Mathlib.Omega.{arith}
 use lib.Dec.{eqb}
 use borrow.Author.Tests.{eq-eqb, eqb-true}
-use Rattle.lists.specs.declared.Found.{Found}
-use Rattle.lists.specs.declared.Found.TheVariants.{At, Nothing}
 use Rattle.plan.specs.Order.{new_id}
 use Rattle.block.specs.Reading.{id_in, place_in, own_place}
 use Rattle.blockfile.specs.File.{block_at, id_at, blocks_in, number_at, file_refusal, first_with}
@@ -22,10 +21,10 @@ use Rattle.blockfile.proofs.File.{FileIn, found_at}
 use Rattle.planfile_laws.proofs.Exact.{apart}
 
 -- A search that found a place found that one.
-found_there : (f : Found) (place : ℕ) → is_found_at f place ≡ true → f ≡ At place
+found_there : (f : Option ℕ) (place : ℕ) → is_found_at f place ≡ true → f ≡ Some place
 unfolding is_found_at
-found_there (At k) place e = ap At (eqb-true k place e)
-found_there Nothing place e = absurd (false≢true e)
+found_there (Some k) place e = ap Some (eqb-true k place e)
+found_there None place e = absurd (false≢true e)
 
 -- No two places of a plan have one id.
 pub one_place : (s : List ℕ) → (file_refusal s).number ≡ 0 → (j k : ℕ) → j < blocks_in s → k < blocks_in s
@@ -47,11 +46,11 @@ unfolding number_at
 plan_block s i k l = block_in _ _ _ (i.blocks k l)
 
 -- The block that counts for a guest has that guest's id.
-id_or : (sheet own : List ℕ) (id : ℕ) (f : Found) → first_with sheet id ≡ f → id_in own ≡ id
+id_or : (sheet own : List ℕ) (id : ℕ) (f : Option ℕ) → first_with sheet id ≡ f → id_in own ≡ id
     → id_in (block_or f sheet own) ≡ id
 unfolding block_or
-id_or sheet own id (At j) e d = (found_at sheet id j e).1
-id_or sheet own id Nothing e d = d
+id_or sheet own id (Some j) e d = (found_at sheet id j e).1
+id_or sheet own id None e d = d
 
 pub same_id : (plan sheet : List ℕ) (k : ℕ) → id_in (amended_block plan sheet k) ≡ id_at plan k
 same_id plan sheet k = id_or sheet (block_at plan k) (id_at plan k) (first_with sheet (id_at plan k)) refl refl
@@ -85,5 +84,5 @@ module _ (plan sheet : List ℕ) (ok : (file_refusal plan).number ≡ 0)
   -- Put at their places or found by their ids: the same blocks.
   pub same_block : (k : ℕ) → k < blocks_in plan → put_at plan sheet k ≡ amended_block plan sheet k
   same_block k l =
-      ap (λ (f : Found). block_or f sheet (block_at plan k))
+      ap (λ (f : Option ℕ). block_or f sheet (block_at plan k))
       (least_ext _ _ (blocks_in sheet) 0 (λ j a b. agree k l j (omega arith)))

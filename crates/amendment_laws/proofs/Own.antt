@@ -1,4 +1,5 @@
 -- A sheet of the plan's own blocks is not refused, and changes nothing. Assumes nothing.
+use Rattle.std.specs.Prelude.{Option, Some, None}
 use mathlib.Core.Path.{◌≡◌, refl, sym, ap, ◌∙◌}
 use mathlib.Core.Bool.{true, false}
 use mathlib.Core.List.{List, ◌++◌}
@@ -7,8 +8,6 @@ use native.Mathlib.Omega.{arith}
 use lib.ListN.{length, drop, replicate}
 use lib.Seq.{take_all}
 use borrow.Author.Tests.{eq-eqb, ne_eqb, eqb-true}
-use Rattle.lists.specs.declared.Found.{Found}
-use Rattle.lists.specs.declared.Found.TheVariants.{At, Nothing}
 use Rattle.plan.specs.declared.Guest.{Guest}
 use Rattle.plan.specs.Records.{blank}
 use Rattle.plan.specs.Ranges.{most_guests}
@@ -37,14 +36,14 @@ use Rattle.amendment_laws.proofs.Answers.{inside, as_same}
 
 module _ (plan sheet : List ℕ) (ok : (file_refusal plan).number ≡ 0) (own : OwnBlocks plan sheet) where
   -- The block that counts is the plan's own.
-  own_or : (k : ℕ) → k < blocks_in plan → (f : Found) → first_with sheet (id_at plan k) ≡ f
+  own_or : (k : ℕ) → k < blocks_in plan → (f : Option ℕ) → first_with sheet (id_at plan k) ≡ f
       → block_or f sheet (block_at plan k) ≡ block_at plan k
   unfolding block_or
-  own_or k l (At j) e =
+  own_or k l (Some j) e =
       let o = found_at sheet (id_at plan k) j e in
       let w = own j o.0 in
       w.1.1 ∙ ap (block_at plan) (one_place plan ok w.0 k w.1.0 l (sym (ap id_in w.1.1) ∙ o.1))
-  own_or k l Nothing e = refl
+  own_or k l None e = refl
 
   own_block : (k : ℕ) → k < blocks_in plan → amended_block plan sheet k ≡ block_at plan k
   own_block k l = own_or k l (first_with sheet (id_at plan k)) refl
@@ -102,7 +101,7 @@ module _ (plan sheet : List ℕ) (ok : (file_refusal plan).number ≡ 0) (own : 
         let w = own j l in
         let k : ℕ = w.0 in
         let d : id_at sheet j ≡ id_at plan k = ap id_in w.1.1 in
-        let f : At k ≡ first_with plan (id_at sheet j) =
+        let f : Some k ≡ first_with plan (id_at sheet j) =
         count_at _ (blocks_in plan) k w.1.0
         (λ z m.
         ne_eqb _ _ (λ e. let q = one_place plan ok z k (omega (arith, w.1.0)) w.1.0 (e ∙ d) in omega arith))

@@ -1,4 +1,5 @@
 -- The plan's bytes with the sheet's blocks at their places read as the amended plan. Assumes nothing.
+use Rattle.std.specs.Prelude.{Option, Some, None}
 use mathlib.Core.Path.{◌≡◌, refl, sym, ap, ◌∙◌}
 use mathlib.Core.Bool.{Bool, true}
 use mathlib.Core.List.{List, ◌++◌}
@@ -6,8 +7,6 @@ use Prim.Native.Nat.{ℕ, ◌*◌, ◌%◌, ◌<◌}
 use native.Mathlib.Omega.{arith}
 use lib.ListN.{length, drop, replicate}
 use borrow.Author.Tests.{eq-eqb, le-leb}
-use Rattle.lists.specs.declared.Found.{Found}
-use Rattle.lists.specs.declared.Found.TheVariants.{At, Nothing}
 use Rattle.plan.specs.declared.Guest.{Guest}
 use Rattle.plan.specs.Records.{blank}
 use Rattle.plan.specs.Ranges.{most_guests, guest_ok}
@@ -34,11 +33,11 @@ use Rattle.amendment_laws.proofs.Ids.{one_place, plan_block, same_id, its_place,
 
 module _ (plan sheet : List ℕ) (ok : (file_refusal plan).number ≡ 0) (i : PairIn plan sheet) where
   -- A block that counts is as long as a block, whichever slice it stands in.
-  long_or : (k : ℕ) → k < blocks_in plan → (f : Found) → first_with sheet (id_at plan k) ≡ f
+  long_or : (k : ℕ) → k < blocks_in plan → (f : Option ℕ) → first_with sheet (id_at plan k) ≡ f
       → length (block_or f sheet (block_at plan k)) ≡ block_size
   unfolding block_or
-  long_or k l (At j) e = part_long sheet _ j refl (found_at sheet (id_at plan k) j e).0
-  long_or k l Nothing e = part_long plan _ k refl l
+  long_or k l (Some j) e = part_long sheet _ j refl (found_at sheet (id_at plan k) j e).0
+  long_or k l None e = part_long plan _ k refl l
 
   long : (k : ℕ) → k < blocks_in plan → length (put_at plan sheet k) ≡ block_size
   long k l =
@@ -73,16 +72,16 @@ module _ (plan sheet : List ℕ) (ok : (file_refusal plan).number ≡ 0) (i : Pa
   sheet_block j l = block_in _ _ _ (i.sheet.blocks j l)
 
   -- Where the sheet has a block for the guest, that block says the guest's place.
-  passes_or : (k : ℕ) → k < blocks_in plan → (f : Found) → first_with sheet (id_at plan k) ≡ f → (fresh : Bool)
+  passes_or : (k : ℕ) → k < blocks_in plan → (f : Option ℕ) → first_with sheet (id_at plan k) ≡ f → (fresh : Bool)
       → fresh ≡ true
       → block_number (block_or f sheet (block_at plan k)) (own_place (block_or f sheet (block_at plan k)) k) fresh ≡ 0
   unfolding block_or
-  passes_or k l (At j) e fresh d =
+  passes_or k l (Some j) e fresh d =
       let o = found_at sheet (id_at plan k) j e in
       let p = its_place plan sheet ok i.known j o.0 in
       passes_too (block_at sheet j) true _ _ fresh (sheet_block j o.0)
       (eq-eqb _ _ (one_place plan ok (place_in (block_at sheet j)) k p.0 l (p.1 ∙ o.1))) d
-  passes_or k l Nothing e fresh d =
+  passes_or k l None e fresh d =
       let b = plan_block plan i.plan k l in
       passes_too (block_at plan k) _ _ _ fresh b (and_right (kind_ok (block_at plan k)) _ b.opens) d
 

@@ -1,7 +1,6 @@
 -- The bytes of the plan with the sheet's blocks put at their places, and what is the same of a pair and of a plan.
-use Rattle.std.specs.Prelude.{◌≡◌, List, ℕ, ◌<◌, eqb}
+use Rattle.std.specs.Prelude.{◌≡◌, List, ℕ, ◌<◌, eqb, Option}
 use Rattle.lists.specs.Search.{least}
-use Rattle.lists.specs.declared.Found.{Found}
 use Rattle.plan.specs.declared.Plan.{Plan}
 use Rattle.block.specs.Reading.{place_in}
 use Rattle.blockfile.specs.File.{block_at, blocks_in}
@@ -17,7 +16,7 @@ abbrev pub Fine : (plan sheet : List ℕ) → Type 0
 Fine plan sheet = (pair_refusal plan sheet).number ≡ 0
 
 -- The first block of a sheet that says place k.
-abbrev pub first_at : List ℕ → ℕ → Found
+abbrev pub first_at : List ℕ → ℕ → Option ℕ
 first_at sheet k = least (λ j. eqb (place_in (block_at sheet j)) k) (blocks_in sheet) 0
 
 -- Block k once the sheet's blocks are put at the places that they say.

@@ -1,4 +1,5 @@
 -- How the code comes to the refusal of reading, and what bytes that are not refused say. Assumes nothing.
+use Rattle.std.specs.Prelude.{Some}
 use mathlib.Core.Path.{◌≡◌, refl}
 use mathlib.Core.Bool.{Bool, true, false}
 use mathlib.Core.List.{List}
@@ -8,7 +9,6 @@ use lib.ListN.{length, take, drop, length-drop}
 use lib.Seq.{length-take-le}
 use lib.Dec.{eqb}
 use borrow.Author.Tests.{eqb-true}
-use Rattle.lists.specs.declared.Found.TheVariants.{At}
 use Rattle.plan.specs.Ranges.{within}
 use Rattle.block.specs.Layout.{block_size}
 use Rattle.plan.specs.First.{refused, first_refused}
@@ -79,7 +79,7 @@ pub part_at : (s : List ℕ) (k : ℕ)
 part_at s k = let d : block_size * k + block_size - block_size * k ≡ block_size = omega arith in rw d refl
 
 -- A block that was found is one of the blocks, and has the id.
-pub found_at : (s : List ℕ) (id j : ℕ) → first_with s id ≡ At j → (j < blocks_in s) × (id_at s j ≡ id)
+pub found_at : (s : List ℕ) (id j : ℕ) → first_with s id ≡ Some j → (j < blocks_in s) × (id_at s j ≡ id)
 found_at s id j e =
     let w : First (λ k. eqb (id_at s k) id) (blocks_in s) 0 j =
     rw e at (least_says (λ k. eqb (id_at s k) id) (blocks_in s) 0) in

@@ -1,8 +1,7 @@
 -- Blocks one after the other: a plan's bytes, its guests' blocks in order, and sheets of blocks in any order. The
 -- refusals of reading, in their order.
-use Rattle.std.specs.Prelude.{Bool, true, false, not, ◌&&◌, ◌||◌, List, ℕ, ◌*◌, ◌/◌, ◌%◌, length, take, drop, eqb}
+use Rattle.std.specs.Prelude.{Bool, true, false, not, ◌&&◌, ◌||◌, List, ℕ, ◌*◌, ◌/◌, ◌%◌, length, take, drop, eqb, Option}
 use Rattle.lists.specs.Search.{least}
-use Rattle.lists.specs.declared.Found.{Found}
 use Rattle.plan.specs.declared.Refusal.{Refusal}
 use Rattle.plan.specs.Ranges.{most_guests, within}
 use Rattle.plan.specs.First.{refused, first_refused}
@@ -48,5 +47,5 @@ abbrev pub file_refusal : List ℕ → Refusal
 file_refusal s = blocks_refusal true s
 
 -- The first block that has the id.
-abbrev pub first_with : List ℕ → (id : ℕ) → Found
+abbrev pub first_with : List ℕ → (id : ℕ) → Option ℕ
 first_with s id = least (λ k. eqb (id_at s k) id) (blocks_in s) 0

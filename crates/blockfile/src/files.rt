@@ -7,7 +7,6 @@ ghost use Rattle.block.specs.Reading.{own_place};
 ghost use Rattle.blockfile.specs.File.{block_at, id_at, blocks_in, size_ok, number_at, blocks_refusal, first_with};
 
 use block::layout;
-use lists::Found;
 use plan::Refusal;
 
 // The length of 8 blocks.
@@ -106,7 +105,7 @@ pub fn refusal_of(s: &[u8], placed: bool) -> Refusal
 }
 
 // The first block that has the id.
-pub fn first_with(s: &[u8], id: u32) -> Found
+pub fn first_with(s: &[u8], id: u32) -> Option<u32>
     requires { blocks_in s.now ≤ most_guests }
     ensures { result ≡ first_with s.now id }
 {
@@ -114,9 +113,9 @@ pub fn first_with(s: &[u8], id: u32) -> Found
     let mut k: usize = 0;
     while k < n {
         if id_at(s, k) == id {
-            return Found::At(k as u32);
+            return Some(k as u32);
         }
         k += 1;
     }
-    Found::Nothing
+    None
 }

@@ -1,11 +1,11 @@
 -- How the code comes to the answer: the way in, then the search. Assumes nothing.
+use Rattle.std.specs.Prelude.{Option}
 use mathlib.Core.Path.{◌≡◌, ◌∙◌, ap}
 use mathlib.Core.Bool.{◌&&◌}
 use mathlib.Core.List.{List, []}
 use Prim.Native.Nat.{ℕ, ◌≤◌}
 use Rattle.lists.specs.All.{all_to}
 use Rattle.lists.specs.Search.{least}
-use Rattle.lists.specs.declared.Found.{Found}
 use Rattle.plan.specs.Filled.{ColumnsOf}
 use Rattle.plan.specs.LookUp.{LooksUp}
 use Rattle.plan.specs.Ranges.{most_guests}
@@ -26,7 +26,7 @@ use Rattle.capacity.proofs.Capacity.{smallest_is}
 -- the guest that the way in found: the answer of the search
 pub capacity_judged : {p : Plan} {id : ℕ} {r : LookedUp} (l : LooksUp p id r) (h : r.refusal.number ≤ 0)
     {c : Columns} (f : ColumnsOf p.guests most_guests c) {jitters : List ℕ} (late : JittersOf c jitters)
-    {x : Found} {v : CapacityAnswer}
+    {x : Option ℕ} {v : CapacityAnswer}
     → x
     ≡ least
     (λ a. all_to (fitted_at c.capacities c.periods jitters) r.place

@@ -1,5 +1,6 @@
 -- The plan with another capacity is the plan itself above its place; so capacities are fitted downward and met upward
 -- in every plan that passes the check. Assumes nothing.
+use Rattle.std.specs.Prelude.{Some}
 use mathlib.Core.Path.{◌≡◌, refl, sym, ◌∙◌, ap, fun_ext}
 use mathlib.Core.Bool.{Bool, true, ◌&&◌}
 use mathlib.Core.List.{List, []}
@@ -8,7 +9,6 @@ use native.Mathlib.Omega.{arith}
 use lib.ListN.{length}
 use Rattle.lists.specs.All.{all_to}
 use Rattle.lists.specs.Search.{least}
-use Rattle.lists.specs.declared.Found.TheVariants.{At}
 use Rattle.equation.specs.System.{task_under}
 use Rattle.plan.specs.Charge.{charged}
 use Rattle.plan.specs.Filled.{ColumnsOf}
@@ -107,7 +107,7 @@ module _ (p : Plan) (ok : (plan_refusal p).number ≡ 0) (k : ℕ) (h : k < p.co
 
   -- a task that responds in time at a capacity does so at each larger one that is fitted, with no larger response
   pub met_below : (i : ℕ) → i < (guest_at p.guests k).tasks → (most c c' r : ℕ) → 1 ≤ c → c ≤ c' → fitted (with_capacity p k c') k ≡ true
-      → response_to (with_capacity p k c) k i most ≡ At r → (r' : ℕ) × (response_to (with_capacity p k c') k i most ≡ At r') × (r' ≤ r)
+      → response_to (with_capacity p k c) k i most ≡ Some r → (r' : ℕ) × (response_to (with_capacity p k c') k i most ≡ Some r') × (r' ≤ r)
   unfolding gap
   met_below i l most c c' r pos le fit e =
       let g = guest_at p.guests k in

@@ -1,4 +1,5 @@
 -- The search makes few tests for each guest of a plan that passes the check. Assumes nothing.
+use Rattle.std.specs.Prelude.{Option, Some, None, is_some}
 use mathlib.Core.Path.{◌≡◌, refl, sym, ◌∙◌, ap, fun_ext}
 use mathlib.Core.Bool.{Bool, true, false}
 use mathlib.Core.List.{List}
@@ -7,9 +8,6 @@ use native.Mathlib.Omega.{arith}
 use lib.ListN.{length}
 use Rattle.lists.specs.All.{all_to}
 use Rattle.lists.specs.Places.{nth}
-use Rattle.lists.specs.Search.{is_at}
-use Rattle.lists.specs.declared.Found.{Found}
-use Rattle.lists.specs.declared.Found.TheVariants.{At, Nothing}
 use Rattle.plan.specs.Charge.{charged}
 use Rattle.plan.specs.Filled.{Filled, ColumnsOf}
 use Rattle.plan.specs.Order.{plan_refusal}
@@ -65,9 +63,9 @@ module _ (p : Plan) (ok : (plan_refusal p).number ≡ 0) (k : ℕ) (h : k < p.co
   unfolding met gap
   meets_are run f i l =
       fun_ext (λ c.
-      ap (λ (g : Guest). is_at (response_to (with_capacity p k c) k i (deadline_of g i))) (guest_there p k here c)
-      ∙ ap is_at (task_there p k here c i (deadline_of own i))
-      ∙ ap is_at
+      ap (λ (g : Guest). is_some (response_to (with_capacity p k c) k i (deadline_of g i))) (guest_there p k here c)
+      ∙ ap is_some (task_there p k here c i (deadline_of own i))
+      ∙ ap is_some
       (task_alike (system_of over (at_capacity own c))
       (tried_system over own.period own.marks run (every_of own) c) own.tasks i l
       record {
@@ -127,7 +125,7 @@ module _ (p : Plan) (ok : (plan_refusal p).number ≡ 0) (k : ℕ) (h : k < p.co
 
   -- Where the smallest capacity a is up to 32, one test is made for each task, and one for each capacity below a: no
   -- more than a search upward makes.
-  pub capacity_tests : (a : ℕ) → smallest p k ≡ At a → a ≤ few → tests_of p k ≤ a - 1 + own.tasks
+  pub capacity_tests : (a : ℕ) → smallest p k ≡ Some a → a ≤ few → tests_of p k ≤ a - 1 + own.tasks
   unfolding smallest meets_at
   capacity_tests a q l =
       let s : First (works p k) own.period 1 a = rw q at (least_says (works p k) own.period 1) in
@@ -157,6 +155,6 @@ module _ (p : Plan) (ok : (plan_refusal p).number ≡ 0) (k : ℕ) (h : k < p.co
           omega (arith, tests_are (charged own) (λ j l. refl) e, t)
 
 -- what is said to be the smallest is what was found
-pub said_found : (f : Found) (a : ℕ) → capacity_says f ≡ Smallest a → f ≡ At a
-said_found (At c) a e = cc
-said_found Nothing a e = cc
+pub said_found : (f : Option ℕ) (a : ℕ) → capacity_says f ≡ Smallest a → f ≡ Some a
+said_found (Some c) a e = cc
+said_found None a e = cc

@@ -1,5 +1,6 @@
 -- Fitted capacities are closed downward, and below a fitted one more capacity is never worse; so capacities can be
 -- halved. Assumes nothing.
+use Rattle.std.specs.Prelude.{Some, None, is_some}
 use mathlib.Core.Path.{◌≡◌, refl, sym, ◌∙◌, ap, fun_ext}
 use mathlib.Core.Bool.{Bool, true, false}
 use mathlib.Core.List.{List}
@@ -7,8 +8,7 @@ use Prim.Native.Nat.{ℕ, ◌+◌, ◌-◌, ◌≤◌, ◌<◌}
 use native.Mathlib.Nat.{le_refl}
 use native.Mathlib.Omega.{arith}
 use Rattle.lists.specs.Places.{nth}
-use Rattle.lists.specs.Search.{is_at, least}
-use Rattle.lists.specs.declared.Found.TheVariants.{At, Nothing}
+use Rattle.lists.specs.Search.{least}
 use Rattle.equation.specs.Guest.{guest_side, guest_under}
 use Rattle.equation.specs.System.{System, gap_for, task_under}
 use Rattle.plan.specs.Charge.{charged}
@@ -72,7 +72,7 @@ module _ (above : ℕ → ℕ) (grows : Grows above) (period marks : ℕ) (run e
 
   -- a task that is met at a capacity is met at each larger one that is fitted, with no larger response
   pub met_up : (i c c' d r : ℕ) → 1 ≤ run i → 1 ≤ c → c ≤ c' → fits_at above period c' ≡ true
-      → task_under (at c) i d ≡ At r → (r' : ℕ) × (task_under (at c') i d ≡ At r') × (r' ≤ r)
+      → task_under (at c) i d ≡ Some r → (r' : ℕ) × (task_under (at c') i d ≡ Some r') × (r' ≤ r)
   unfolding fits_at
   met_up i c c' d r runs pos le fit e =
       let sure = regular (at c') grows i record {
@@ -113,10 +113,10 @@ tried_alike above period marks c run every n f = record {
 pub met_tried : (above : ℕ → ℕ) (period marks c : ℕ) (run every : List ℕ) (deadline : ℕ → ℕ) (n i : ℕ) {late : List ℕ}
     {b : Bool}
     → Filled late (λ j. gap_for (marked marks j) (period - c)) n → i < n
-    → is_at (task_under (column_system above c period run every late) i (deadline i)) ≡ b
+    → is_some (task_under (column_system above c period run every late) i (deadline i)) ≡ b
     → met_at above period marks (nth run) (nth every) deadline i c ≡ b
 met_tried above period marks c run every deadline n i f h e =
-    sym (ap is_at (task_alike _ (tried_system above period marks (nth run) (nth every) c) n i h
+    sym (ap is_some (task_alike _ (tried_system above period marks (nth run) (nth every) c) n i h
     (tried_alike above period marks c run every n f) (deadline i)))
     ∙ e
 
@@ -124,7 +124,7 @@ met_tried above period marks c run every deadline n i f h e =
 pub meets_tried : (above : ℕ → ℕ) (period marks c : ℕ) (run every : List ℕ) (deadline : ℕ → ℕ) (n i : ℕ) {late : List ℕ}
     {b : Bool}
     → fits_at above period c ≡ true → Filled late (λ j. gap_for (marked marks j) (period - c)) n → i < n
-    → is_at (task_under (column_system above c period run every late) i (deadline i)) ≡ b
+    → is_some (task_under (column_system above c period run every late) i (deadline i)) ≡ b
     → meets_at above period marks (nth run) (nth every) deadline i c ≡ b
 unfolding meets_at
 meets_tried above period marks c run every deadline n i fits f h e =
@@ -144,14 +144,14 @@ module _ (above : ℕ → ℕ) (period marks : ℕ) (run every deadline : ℕ �
 
   -- or nowhere: then no capacity works
   pub task_nowhere : (n : ℕ) → i < n → c' < 1
-      → Nothing ≡ least (works_at above period marks run every deadline n) period 1
+      → None ≡ least (works_at above period marks run every deadline n) period 1
   unfolding meets_at works_at accepted_in met_under fits_at
   task_nowhere n h k =
       settled_nowhere (fits_at above period) (met_at above period marks run every deadline) period i c c' s e n h k
 
 -- where the guest is unfit at 1, no capacity works
 pub none_works : (above : ℕ → ℕ) → Grows above → (period marks : ℕ) (run every deadline : ℕ → ℕ) (n : ℕ)
-    → fits_at above period 1 ≡ false → Nothing ≡ least (works_at above period marks run every deadline n) period 1
+    → fits_at above period 1 ≡ false → None ≡ least (works_at above period marks run every deadline n) period 1
 unfolding works_at accepted_in met_under fits_at
 none_works above grows period marks run every deadline n e =
     none_fits (fits_at above period) (met_at above period marks run every deadline) period n
@@ -160,7 +160,7 @@ none_works above grows period marks run every deadline n e =
 -- all tasks are settled at c: it is the smallest that works
 pub all_settled : (above : ℕ → ℕ) (period marks : ℕ) (run every deadline : ℕ → ℕ) (i n c : ℕ) → i ≡ n → 1 ≤ n
     → Settled (fits_at above period) (met_at above period marks run every deadline) period i c
-    → At c ≡ least (works_at above period marks run every deadline n) period 1
+    → Some c ≡ least (works_at above period marks run every deadline n) period 1
 unfolding works_at accepted_in met_under fits_at
 all_settled above period marks run every deadline i n c e h s =
     settled_all (fits_at above period) (met_at above period marks run every deadline) period n c h (rw (← e) s)

@@ -1,5 +1,6 @@
 -- Task by task: what is the smallest for each task, from where the one before it ended, is at the end the smallest for
 -- all. Over any numbers that can be halved for each task. Assumes nothing.
+use Rattle.std.specs.Prelude.{Option, Some, None}
 use mathlib.Core.Path.{◌≡◌, refl, sym, ◌∙◌}
 use mathlib.Core.Bool.{Bool, true, false, false≢true, ◌&&◌}
 use Prim.Native.Nat.{ℕ, suc, ◌+◌, ◌-◌, ◌≤◌, ◌<◌}
@@ -8,8 +9,6 @@ use native.Mathlib.Numerals.{add-one}
 use native.Mathlib.Omega.{arith}
 use Rattle.lists.specs.All.{all_to}
 use Rattle.lists.specs.Search.{least}
-use Rattle.lists.specs.declared.Found.{Found}
-use Rattle.lists.specs.declared.Found.TheVariants.{At, Nothing}
 use Rattle.capacity.specs.Search.{or_best, smallest_of}
 use Rattle.lists.proofs.All.{and_left, and_right, and_true, and_false_left, and_false_right, all_at, all_by, all_fails}
 use Rattle.lists.proofs.Search.{First, Nowhere, Says, least_says, least_is}
@@ -20,18 +19,18 @@ pub smallest_first : (f : ℕ → Bool) (lo hi c : ℕ) → 1 ≤ lo → c ≡ s
 unfolding smallest_of
 smallest_first f lo hi c pos e h = go (least f (hi - lo) lo) (least_says f (hi - lo) lo) e
   where
-    go : (r : Found) → Says f (hi - lo) lo r → c ≡ or_best r 0 → First f (hi - lo) lo c
-    go Nothing s q = absurd (omega arith)
-    go (At y) s q = rw q s
+    go : (r : Option ℕ) → Says f (hi - lo) lo r → c ≡ or_best r 0 → First f (hi - lo) lo c
+    go None s q = absurd (omega arith)
+    go (Some y) s q = rw q s
 
 -- and where it is 0 there is none
 pub smallest_none : (f : ℕ → Bool) (lo hi c : ℕ) → 1 ≤ lo → c ≡ smallest_of f lo hi 0 → c < 1 → Nowhere f (hi - lo) lo
 unfolding smallest_of
 smallest_none f lo hi c pos e h = go (least f (hi - lo) lo) (least_says f (hi - lo) lo) e
   where
-    go : (r : Found) → Says f (hi - lo) lo r → c ≡ or_best r 0 → Nowhere f (hi - lo) lo
-    go Nothing s q = s
-    go (At y) s q = absurd (omega (arith, s.low))
+    go : (r : Option ℕ) → Says f (hi - lo) lo r → c ≡ or_best r 0 → Nowhere f (hi - lo) lo
+    go None s q = s
+    go (Some y) s q = absurd (omega (arith, s.low))
 
 -- where c does not pass, the smallest from c on is past it
 pub smallest_past : (f : ℕ → Bool) (c hi : ℕ) → c < hi → f c ≡ false → smallest_of f c hi 0 ≡ smallest_of f (c + 1) hi 0
@@ -120,10 +119,10 @@ module _ (fit : ℕ → Bool) (m : ℕ → ℕ → Bool) where
         }
 
     -- it is met nowhere from c on: so all n tasks are met nowhere
-    pub settled_nowhere : (n : ℕ) → i < n → c' < 1 → Nothing ≡ least (up_to n) period 1
+    pub settled_nowhere : (n : ℕ) → i < n → c' < 1 → None ≡ least (up_to n) period 1
     settled_nowhere n h k =
         let f = smallest_none (one i) c (period + 1) c' s.low e k in
-        least_is (up_to n) period 1 Nothing record {
+        least_is (up_to n) period 1 None record {
           never = λ z p q. elim (dec_le c z) [
             | yes l ↦ one_fails n i z h (f.never z l (omega arith))
             | no l ↦ fewer_fail i n z (omega arith) (s.below z p (omega arith))
@@ -132,18 +131,18 @@ module _ (fit : ℕ → Bool) (m : ℕ → ℕ → Bool) where
 
   -- where 1 does not fit, and what fits is closed downward, none is met anywhere
   pub none_fits : (period n : ℕ) → ((c : ℕ) → 1 ≤ c → fit c ≡ true → fit 1 ≡ true) → fit 1 ≡ false
-      → Nothing ≡ least (up_to n) period 1
+      → None ≡ least (up_to n) period 1
   none_fits period n down e =
-      least_is (up_to n) period 1 Nothing record { never = λ z p q. and_false_left _ (unfit z p (fit z) refl) }
+      least_is (up_to n) period 1 None record { never = λ z p q. and_false_left _ (unfit z p (fit z) refl) }
     where
       unfit : (z : ℕ) → 1 ≤ z → (b : Bool) → fit z ≡ b → fit z ≡ false
       unfit z p false q = q
       unfit z p true q = absurd (false≢true (sym e ∙ down z p q))
 
   -- all n tasks are settled: it is the smallest at which all are met
-  pub settled_all : (period n c : ℕ) → 1 ≤ n → Settled period n c → At c ≡ least (up_to n) period 1
+  pub settled_all : (period n c : ℕ) → 1 ≤ n → Settled period n c → Some c ≡ least (up_to n) period 1
   settled_all period n c h s =
-      least_is (up_to n) period 1 (At c) record {
+      least_is (up_to n) period 1 (Some c) record {
         low = s.low;
         high = omega (arith, s.high);
         holds = and_true s.fits (all_by (λ j. m j c) n s.met);

@@ -1,12 +1,10 @@
 -- The promise fixes the number and value that the answer's case sets out. Assumes nothing.
+use Rattle.std.specs.Prelude.{Option, Some, None, is_some}
 use mathlib.Core.Path.{◌≡◌, refl, ap, ◌∙◌}
 use mathlib.Core.Bool.{Bool, true, false}
 use mathlib.Core.List.{[], ◌∷◌}
 use Prim.Native.Nat.{ℕ, zero, suc}
 use Rattle.lists.specs.Refusals.{unless, refusal, ◌or_refuse◌}
-use Rattle.lists.specs.Search.{is_at}
-use Rattle.lists.specs.declared.Found.{Found}
-use Rattle.lists.specs.declared.Found.TheVariants.{At, Nothing}
 use Rattle.plan.specs.First.{refused, or_else, refused_by, refuse_or}
 use Rattle.plan.specs.Order.{records_then}
 use Rattle.plan.specs.Told.{refusing, saying, value_of}
@@ -20,12 +18,12 @@ use Rattle.capacity.specs.Promises.{Sized}
 use Rattle.capacity.specs.Told.{capacity_told, CapacityTells}
 
 -- 11 is the last of the tests, and fails where nothing was found
-last_test : (x k : ℕ) (b : Bool) (f : Found)
+last_test : (x k : ℕ) (b : Bool) (f : Option ℕ)
     → capacity_told (refuse_or Refused (or_else x k (refused (refusal (b or_refuse 7 ∷ [])) 0)) (capacity_says f))
-    ≡ refuse_or refusing (or_else x k (refused (refusal (b or_refuse 7 ∷ is_at f or_refuse 11 ∷ [])) 0)) (saying (value_of f))
+    ≡ refuse_or refusing (or_else x k (refused (refusal (b or_refuse 7 ∷ is_some f or_refuse 11 ∷ [])) 0)) (saying (value_of f))
 unfolding capacity_told refused_by or_else refusal unless
-last_test zero k true (At c) = refl
-last_test zero k true Nothing = refl
+last_test zero k true (Some c) = refl
+last_test zero k true None = refl
 last_test zero k false f = refl
 last_test (suc x) k b f = refl
 

@@ -1,8 +1,6 @@
 -- The answer for a guest's id, with its refusals in order.
-use Rattle.std.specs.Prelude.{[], ◌∷◌, ℕ}
+use Rattle.std.specs.Prelude.{[], ◌∷◌, ℕ, Option, Some, None}
 use Rattle.lists.specs.Refusals.{◌or_refuse◌}
-use Rattle.lists.specs.declared.Found.{Found}
-use Rattle.lists.specs.declared.Found.TheVariants.{At, Nothing}
 use Rattle.plan.specs.First.{refuse_or}
 use Rattle.plan.specs.Order.{records_then}
 use Rattle.plan.specs.Place.{place_of, has_guest}
@@ -12,9 +10,9 @@ use Rattle.capacity.specs.declared.CapacityAnswer.TheVariants.{Refused, Smallest
 use Rattle.capacity.specs.Capacity.{smallest}
 
 -- the answer is the capacity that was found, or 11 where none works
-abbrev pub capacity_says : Found → CapacityAnswer
-capacity_says (At c) = Smallest c
-capacity_says Nothing = Refused 11 0
+abbrev pub capacity_says : Option ℕ → CapacityAnswer
+capacity_says (Some c) = Smallest c
+capacity_says None = Refused 11 0
 
 -- the smallest capacity of a guest: the records' order, then 7, then 11
 unfoldable pub smallest_capacity : Plan → ℕ → CapacityAnswer

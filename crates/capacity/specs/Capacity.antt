@@ -1,7 +1,6 @@
 -- The smallest capacity of a guest in a plan, all else unchanged.
-use Rattle.std.specs.Prelude.{Bool, ◌&&◌, ℕ}
+use Rattle.std.specs.Prelude.{Bool, ◌&&◌, ℕ, Option}
 use Rattle.lists.specs.Search.{least}
-use Rattle.lists.specs.declared.Found.{Found}
 use Rattle.plan.specs.Placed.{with_guest}
 use Rattle.plan.specs.Records.{guest_at}
 use Rattle.plan.specs.declared.Guest.{Guest}
@@ -33,5 +32,5 @@ unfoldable pub works : Plan → ℕ → ℕ → Bool
 works p k c = let q = with_capacity p k c in fitted_to q k && all_met q k
 
 -- the smallest capacity from 1 to the period that works
-unfoldable pub smallest : Plan → ℕ → Found
+unfoldable pub smallest : Plan → ℕ → Option ℕ
 smallest p k = least (works p k) (guest_at p.guests k).period 1

@@ -1,10 +1,8 @@
 -- What the capacities of a guest come to, under guests that take `above v` from v ticks, and what a turn of the search
 -- leaves. Inner: no promise of an entry names this.
-use Rattle.std.specs.Prelude.{◌≡◌, Bool, true, not, ◌&&◌, ℕ, min, ◌+◌, ◌-◌, ◌*◌, ◌/◌, ◌≤◌, leb}
+use Rattle.std.specs.Prelude.{◌≡◌, Bool, true, not, ◌&&◌, ℕ, min, ◌+◌, ◌-◌, ◌*◌, ◌/◌, ◌≤◌, leb, Option, Some, None, is_some}
 use Rattle.lists.specs.Choice.{pick}
-use Rattle.lists.specs.Search.{least, is_at}
-use Rattle.lists.specs.declared.Found.{Found}
-use Rattle.lists.specs.declared.Found.TheVariants.{At, Nothing}
+use Rattle.lists.specs.Search.{least}
 use Rattle.equation.specs.Guest.{guest_under}
 use Rattle.equation.specs.System.{System, gap_for, task_under}
 use Rattle.plan.specs.Marks.{marked}
@@ -13,7 +11,7 @@ use Rattle.capacity.specs.declared.search.Span.{Span}
 
 -- whether a guest with such a period is fitted at capacity c
 unfoldable pub fits_at : (above : ℕ → ℕ) → (period c : ℕ) → Bool
-fits_at above period c = is_at (guest_under above c period)
+fits_at above period c = is_some (guest_under above c period)
 
 -- a guest at capacity c, seen from its tasks, run being the charged runs: J is 0 of a bound task, else T - c
 abbrev pub tried_system : (above : ℕ → ℕ) → (period marks : ℕ) → (run every : ℕ → ℕ) → (c : ℕ) → System
@@ -33,7 +31,7 @@ works_at above period marks run every deadline n c = accepted_in (tried_system a
 -- whether task i is met there
 abbrev pub met_at : (above : ℕ → ℕ) → (period marks : ℕ) → (run every deadline : ℕ → ℕ) → (i c : ℕ) → Bool
 met_at above period marks run every deadline i c =
-    is_at (task_under (tried_system above period marks run every c) i (deadline i))
+    is_some (task_under (tried_system above period marks run every c) i (deadline i))
 
 -- whether it is fitted there and task i is met
 unfoldable pub meets_at : (above : ℕ → ℕ) → (period marks : ℕ) → (run every deadline : ℕ → ℕ) → (i c : ℕ) → Bool
@@ -41,9 +39,9 @@ meets_at above period marks run every deadline i c =
     fits_at above period c && met_at above period marks run every deadline i c
 
 -- the capacity that was found, or else the best before it
-abbrev pub or_best : Found → (best : ℕ) → ℕ
-or_best Nothing best = best
-or_best (At c) best = c
+abbrev pub or_best : Option ℕ → (best : ℕ) → ℕ
+or_best None best = best
+or_best (Some c) best = c
 
 -- the smallest capacity from lo on and below hi that works, or else the best before it
 unfoldable pub smallest_of : (works : ℕ → Bool) → (lo hi best : ℕ) → ℕ

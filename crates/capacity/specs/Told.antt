@@ -1,7 +1,6 @@
 -- Document 01's number and value for each case of the answer, and what the entry's answer tells by it.
-use Rattle.std.specs.Prelude.{◌≡◌, [], ◌∷◌, ℕ}
+use Rattle.std.specs.Prelude.{◌≡◌, [], ◌∷◌, ℕ, is_some}
 use Rattle.lists.specs.Refusals.{◌or_refuse◌}
-use Rattle.lists.specs.Search.{is_at}
 use Rattle.plan.specs.First.{refuse_or}
 use Rattle.plan.specs.Order.{records_then}
 use Rattle.plan.specs.Place.{place_of, has_guest}
@@ -20,5 +19,5 @@ capacity_told (Smallest c) = saying (c ∷ [])
 abbrev pub CapacityTells : Plan → ℕ → CapacityAnswer → Type 0
 CapacityTells p id r =
     let found = smallest p (place_of p id) in
-    capacity_told r ≡ refuse_or refusing (records_then p (has_guest p id or_refuse 7 ∷ is_at found or_refuse 11 ∷ []))
+    capacity_told r ≡ refuse_or refusing (records_then p (has_guest p id or_refuse 7 ∷ is_some found or_refuse 11 ∷ []))
     (saying (value_of found))

@@ -6,7 +6,6 @@ ghost use Rattle.response.specs.Columns.{guests_take};
 ghost use Rattle.response.specs.Ready.{AboveIn, ColumnsIn, ServerIn};
 ghost use Rattle.capacity.specs.Search.{fits_at, meets_at, smallest_of, next_try, Known, Narrows};
 
-use lists::is_at;
 use response::{gaps_of, guest_response, task_response};
 
 // The capacities up to this one are tried one by one.

@@ -16,17 +16,16 @@ ghost use Rattle.capacity.specs.Search.{works_at};
 
 use crate::CapacityAnswer;
 use crate::search::smallest_in;
-use lists::{Found, is_at};
 use plan::Guest;
 use response::{Seat, all_fitted, charged_of, first_unmet, gaps_of, guest_response};
 
 // The answer of a search.
-fn capacity_says(f: Found) -> CapacityAnswer
+fn capacity_says(f: Option<u32>) -> CapacityAnswer
     ensures { result ≡ capacity_says f }
 {
     match f {
-        Found::At(c) => CapacityAnswer::Smallest(c),
-        Found::Nothing => CapacityAnswer::Refused(11, 0),
+        Some(c) => CapacityAnswer::Smallest(c),
+        None => CapacityAnswer::Refused(11, 0),
     }
 }
 
@@ -44,7 +43,7 @@ fn settled(
     every: &[u32; 16],
     deadline: &[u32; 16],
     tasks: usize,
-) -> Found
+) -> Option<u32>
     requires above_in { AboveIn periods.now jitters.now k × (1 ≤ tasks) }
     requires le_period { ((1 ≤ period) × (period ≤ longest)) × ColumnsIn run.now every.now deadline.now tasks }
     ensures { result
@@ -53,7 +52,7 @@ fn settled(
         period 1 }
 {
     if !is_at(guest_response(capacities, periods, jitters, k, 1, period)) {
-        return Found::Nothing;
+        return None;
     }
     let mut c: u32 = 1;
     let mut i: usize = 0;
@@ -63,7 +62,7 @@ fn settled(
             capacities, periods, jitters, k, c, period, run, every, &late, deadline, i, tasks,
         );
         if tasks <= i {
-            return Found::At(c);
+            return Some(c);
         }
         c = smallest_in(
             capacities,
@@ -81,7 +80,7 @@ fn settled(
             0,
         );
         if c < 1 {
-            return Found::Nothing;
+            return None;
         }
         i += 1;
     }
@@ -95,7 +94,7 @@ pub fn smallest_at(
     periods: &[u32; 16],
     jitters: &[u32; 16],
     k: usize,
-) -> Found
+) -> Option<u32>
     requires { Seated g capacities.now periods.now jitters.now k × (1 ≤ g.tasks) }
     ensures { result
         ≡ least
@@ -105,7 +104,7 @@ pub fn smallest_at(
         g.period 1 }
 {
     if !all_fitted(capacities, periods, jitters, k) {
-        return Found::Nothing;
+        return None;
     }
     let every = g.every;
     let deadline = g.deadline;

@@ -1,4 +1,5 @@
 -- How the loop comes to the least capacities. Assumes nothing.
+use Rattle.std.specs.Prelude.{Option, Some, None}
 use mathlib.Core.Path.{◌≡◌, refl, sym, ◌∙◌, ap}
 use mathlib.Core.Bool.{true, ◌&&◌}
 use mathlib.Core.List.{List}
@@ -9,8 +10,6 @@ use borrow.Author.Tests.{eqb-true}
 use Rattle.lists.specs.All.{all_to}
 use Rattle.lists.specs.Places.{nth}
 use Rattle.lists.specs.Search.{least}
-use Rattle.lists.specs.declared.Found.{Found}
-use Rattle.lists.specs.declared.Found.TheVariants.{At, Nothing}
 use Rattle.plan.specs.declared.Columns.{Columns}
 use Rattle.plan.specs.declared.Plan.{Plan}
 use Rattle.plan.specs.declared.Refusal.{Refusal}
@@ -39,27 +38,27 @@ use Rattle.choice.proofs.ColumnsPut.{columns_put, jitters_put}
 
 -- What a search says: nothing is found, or a capacity from 1 to the period.
 pub record Within (p : Plan) (k c : ℕ) : Type 0 where
-  pub found : smallest p k ≡ At c
+  pub found : smallest p k ≡ Some c
   pub low : 1 ≤ c
   pub high : c ≤ (guest_at p.guests k).period
 
 -- A search that gives no ticks found nothing: a capacity is at least 1.
-pub none_found : (p : Plan) (k c : ℕ) → c ≡ ticks_of (smallest p k) → c < 1 → smallest p k ≡ Nothing
+pub none_found : (p : Plan) (k c : ℕ) → c ≡ ticks_of (smallest p k) → c < 1 → smallest p k ≡ None
 unfolding smallest
 none_found p k c e h = go (smallest p k) refl (least_says (works p k) (guest_at p.guests k).period 1)
   where
-    go : (f : Found) → smallest p k ≡ f → Says (works p k) (guest_at p.guests k).period 1 f → smallest p k ≡ Nothing
-    go Nothing q s = q
-    go (At d) q s = let z : c ≡ d = e ∙ ap ticks_of q in absurd (omega (arith, s.low))
+    go : (f : Option ℕ) → smallest p k ≡ f → Says (works p k) (guest_at p.guests k).period 1 f → smallest p k ≡ None
+    go None q s = q
+    go (Some d) q s = let z : c ≡ d = e ∙ ap ticks_of q in absurd (omega (arith, s.low))
 
 -- One that gives ticks found them.
 pub some_found : (p : Plan) (k c : ℕ) → c ≡ ticks_of (smallest p k) → 1 ≤ c → Within p k c
 unfolding smallest
 some_found p k c e h = go (smallest p k) refl (least_says (works p k) (guest_at p.guests k).period 1)
   where
-    go : (f : Found) → smallest p k ≡ f → Says (works p k) (guest_at p.guests k).period 1 f → Within p k c
-    go Nothing q s = let z : c ≡ 0 = e ∙ ap ticks_of q in absurd (omega arith)
-    go (At d) q s =
+    go : (f : Option ℕ) → smallest p k ≡ f → Says (works p k) (guest_at p.guests k).period 1 f → Within p k c
+    go None q s = let z : c ≡ 0 = e ∙ ap ticks_of q in absurd (omega arith)
+    go (Some d) q s =
         let z : c ≡ d = e ∙ ap ticks_of q in
         rw z record { found = q; low = s.low; high = omega (arith, s.high) }
 
@@ -70,32 +69,32 @@ module _ (given p : Plan) (n k : ℕ) (h : k < n) where
   left = omega arith
 
   -- the answer by what the search for it finds
-  by_found : (f : Found) → smallest p k ≡ f
+  by_found : (f : Option ℕ) → smallest p k ≡ f
       → chosen_from given p (suc (n - (k + 1))) k
       ≡ elim f [
-        | At c ↦ chosen_from given (with_capacity p k c) (n - (k + 1)) (suc k)
-        | Nothing ↦ answering given 11 k
+        | Some c ↦ chosen_from given (with_capacity p k c) (n - (k + 1)) (suc k)
+        | None ↦ answering given 11 k
       ]
   unfolding chosen_from
   by_found f e =
-      ap (λ (g : Found).
+      ap (λ (g : Option ℕ).
       elim g [
-        | At c ↦ chosen_from given (with_capacity p k c) (n - (k + 1)) (suc k)
-        | Nothing ↦ answering given 11 k
+        | Some c ↦ chosen_from given (with_capacity p k c) (n - (k + 1)) (suc k)
+        | None ↦ answering given 11 k
       ])
       e
 
   -- where none works for it
-  pub chosen_none : smallest p k ≡ Nothing → answering given 11 k ≡ chosen_from given p (n - k) k
-  chosen_none e = sym (ap (λ (m : ℕ). chosen_from given p m k) left ∙ by_found Nothing e)
+  pub chosen_none : smallest p k ≡ None → answering given 11 k ≡ chosen_from given p (n - k) k
+  chosen_none e = sym (ap (λ (m : ℕ). chosen_from given p m k) left ∙ by_found None e)
 
   -- where one works
-  pub chosen_next : (c : ℕ) → smallest p k ≡ At c
+  pub chosen_next : (c : ℕ) → smallest p k ≡ Some c
       → chosen_from given (with_capacity p k c) (n - (k + 1)) (k + 1) ≡ chosen_from given p (n - k) k
   chosen_next c e =
       let q : k + 1 ≡ suc k = omega arith in
       ap (λ (j : ℕ). chosen_from given (with_capacity p k c) (n - (k + 1)) j) q
-      ∙ sym (ap (λ (m : ℕ). chosen_from given p m k) left ∙ by_found (At c) e)
+      ∙ sym (ap (λ (m : ℕ). chosen_from given p m k) left ∙ by_found (Some c) e)
 
 -- where no guest is left
 pub chosen_end : (given p : Plan) (n k : ℕ) → n ≤ k → answering p 0 0 ≡ chosen_from given p (n - k) k
@@ -156,7 +155,7 @@ module _ {given : Plan} {n : ℕ} {periods jitters capacities : List ℕ} {p : P
 
   -- the search off the columns is the plan's
   pub turn_search :
-      {x : Found}
+      {x : Option ℕ}
       → x
       ≡ least
       (λ c. all_to (fitted_at capacities periods jitters) k

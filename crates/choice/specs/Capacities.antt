@@ -1,8 +1,7 @@
 -- The least capacities of a plan: from the highest guest down each is the smallest that works, under those above at
 -- theirs.
-use Rattle.std.specs.Prelude.{[], ◌∷◌, ℕ, zero, suc}
+use Rattle.std.specs.Prelude.{[], ◌∷◌, ℕ, zero, suc, Some, None}
 use Rattle.lists.specs.Refusals.{◌or_refuse◌}
-use Rattle.lists.specs.declared.Found.TheVariants.{At, Nothing}
 use Rattle.plan.specs.First.{refused, refuse_or}
 use Rattle.plan.specs.Order.{records_then}
 use Rattle.plan.specs.Periodic.{all_periodic}
@@ -20,8 +19,8 @@ unfoldable pub chosen_from : (given p : Plan) → (m k : ℕ) → Chosen
 chosen_from given p zero k = answering p 0 0
 chosen_from given p (suc m) k =
     elim (smallest p k) [
-      | At c ↦ chosen_from given (with_capacity p k c) m (suc k)
-      | Nothing ↦ answering given 11 k
+      | Some c ↦ chosen_from given (with_capacity p k c) m (suc k)
+      | None ↦ answering given 11 k
     ]
 
 -- The least capacities: the records' order, then 23 for a Deferrable guest, then 11 with the place of the first guest at

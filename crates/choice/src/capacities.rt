@@ -8,17 +8,16 @@ ghost use Rattle.choice.specs.Capacities.{chosen_from};
 
 use crate::Chosen;
 use capacity::smallest_at;
-use lists::Found;
 use plan::{Guest, Plan, Refusal, columns_of};
 use response::jitters_of;
 
 // The ticks that were found, or 0.
-fn ticks_of(f: Found) -> u32
+fn ticks_of(f: Option<u32>) -> u32
     ensures { result ≡ ticks_of f }
 {
     match f {
-        Found::At(c) => c,
-        Found::Nothing => 0,
+        Some(c) => c,
+        None => 0,
     }
 }
 

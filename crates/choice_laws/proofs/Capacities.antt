@@ -1,5 +1,6 @@
 -- The least capacities are accepted, and the least of all choices: those above take no more than in any other choice, so
 -- that what works there for a guest works here. Assumes nothing.
+use Rattle.std.specs.Prelude.{Option, Some, None}
 use mathlib.Core.Path.{◌≡◌, refl, sym, ◌∙◌, ap, subst}
 use mathlib.Core.Bool.{true, false, false≢true}
 use Prim.Native.Nat.{ℕ, zero, suc, ◌+◌, ◌≤◌, ◌<◌}
@@ -7,8 +8,6 @@ use native.Mathlib.Decide.{dec_lt}
 use native.Mathlib.Nat.{mul-le-mul_left}
 use native.Mathlib.Omega.{arith}
 use Rattle.lists.specs.All.{all_to}
-use Rattle.lists.specs.declared.Found.{Found}
-use Rattle.lists.specs.declared.Found.TheVariants.{At, Nothing}
 use Rattle.rounding.specs.Asked.{asked}
 use Rattle.plan.specs.Order.{plan_refusal}
 use Rattle.plan.specs.Periodic.{start_refusal}
@@ -172,10 +171,10 @@ module _ (p : Plan) (ok : (start_refusal p).number ≡ 0) where
           omega (arith, ((plan_in P order_there).guests k (omega (arith, same_count))).head.fits)
 
       -- so the search finds a capacity
-      not_none : smallest q k ≡ Nothing → ⊥
+      not_none : smallest q k ≡ None → ⊥
       unfolding smallest
       not_none r =
-          let o : Says (works q k) (guest_at q.guests k).period 1 Nothing =
+          let o : Says (works q k) (guest_at q.guests k).period 1 None =
           rw r at (least_says (works q k) (guest_at q.guests k).period 1) in
           false≢true (sym (o.never (c k) low (omega (arith, high))) ∙ enough)
 
@@ -189,19 +188,19 @@ module _ (p : Plan) (ok : (start_refusal p).number ≡ 0) where
     all_less (suc m) k q s n less =
         go (smallest q k) refl (λ a t l. all_less m (suc k) (with_capacity q k a) t (omega arith) l)
       where
-        next : Found → Chosen
-        next f = elim f [ At a ↦ chosen_from p (with_capacity q k a) m (suc k) | Nothing ↦ answering p 11 k ]
+        next : Option ℕ → Chosen
+        next f = elim f [ Some a ↦ chosen_from p (with_capacity q k a) m (suc k) | None ↦ answering p 11 k ]
 
         Good : Chosen → Type 0
         Good r = (r.refusal.number ≡ 0) × ((j : ℕ) → j < p.count → (guest_at r.plan.guests j).capacity ≤ c j)
 
-        go : (f : Found) → smallest q k ≡ f
+        go : (f : Option ℕ) → smallest q k ≡ f
             → ((a : ℕ) → Stage p (with_capacity q k a) (suc k)
             → ((j : ℕ) → j < suc k → (guest_at (with_capacity q k a).guests j).capacity ≤ c j)
             → Good (chosen_from p (with_capacity q k a) m (suc k)))
             → Good (next f)
-        go Nothing r rec = absurd (not_none q k s (omega arith) less r)
-        go (At a) r rec =
+        go None r rec = absurd (not_none q k s (omega arith) less r)
+        go (Some a) r rec =
             let L = least_of q k a r in
             let t = stage_next p q k s (omega arith) a L in
             rec a t (λ j l.

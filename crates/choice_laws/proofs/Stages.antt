@@ -1,14 +1,12 @@
 -- A choice guest by guest: after k of them the first k are fitted with all their tasks met, and what comes below changes
 -- none of that. Assumes nothing.
+use Rattle.std.specs.Prelude.{Option, Some, None, is_some}
 use mathlib.Core.Path.{◌≡◌, refl, sym, ◌∙◌, ap, subst}
 use mathlib.Core.Bool.{Bool, true, false≢true}
 use Prim.Native.Nat.{ℕ, zero, suc, ◌+◌, ◌≤◌, ◌<◌}
 use native.Mathlib.Decide.{dec_le, ℕ_discrete}
 use native.Mathlib.Omega.{arith}
 use Rattle.lists.specs.All.{all_to}
-use Rattle.lists.specs.Search.{is_at}
-use Rattle.lists.specs.declared.Found.{Found}
-use Rattle.lists.specs.declared.Found.TheVariants.{At, Nothing}
 use Rattle.equation.specs.System.{task_under}
 use Rattle.plan.specs.Order.{plan_refusal}
 use Rattle.plan.specs.Placed.{with_guest}
@@ -55,13 +53,13 @@ pub record Least (q : Plan) (k a : ℕ) : Type 0 where
   pub first : (z : ℕ) → 1 ≤ z → works q k z ≡ true → a ≤ z
 
 -- the capacity found is such
-pub least_of : (q : Plan) (k a : ℕ) → smallest q k ≡ At a → Least q k a
+pub least_of : (q : Plan) (k a : ℕ) → smallest q k ≡ Some a → Least q k a
 unfolding smallest
 least_of q k a e = go (smallest q k) e (least_says (works q k) (guest_at q.guests k).period 1)
   where
-    go : (f : Found) → f ≡ At a → Says (works q k) (guest_at q.guests k).period 1 f → Least q k a
-    go Nothing e s = absurd (let z : ◌≡◌ {A = ℕ} 0 1 = cc in omega arith)
-    go (At b) e s =
+    go : (f : Option ℕ) → f ≡ Some a → Says (works q k) (guest_at q.guests k).period 1 f → Least q k a
+    go None e s = absurd (let z : ◌≡◌ {A = ℕ} 0 1 = cc in omega arith)
+    go (Some b) e s =
         let z : b ≡ a = cc in
         rw (← z) record {
           low = s.low;
@@ -79,7 +77,7 @@ least_of q k a e = go (smallest q k) e (least_says (works q k) (guest_at q.guest
 
 -- whether a guest's tasks are met under guests that take so much
 abbrev meets_under : (above : ℕ → ℕ) → Guest → Bool
-meets_under above g = all_to (λ i. is_at (task_under (system_of above g) i (deadline_of g i))) g.tasks
+meets_under above g = all_to (λ i. is_some (task_under (system_of above g) i (deadline_of g i))) g.tasks
 
 module _ (p q : Plan) (k : ℕ) (s : Stage p q k) (h : k < p.count) (a : ℕ) (L : Least q k a) where
   abbrev after : Plan
@@ -130,13 +128,13 @@ chosen_stage p zero k q s e z = let n : k ≡ p.count = omega arith in subst (λ
 chosen_stage p (suc m) k q s e z =
     go (smallest q k) refl (λ c t y. chosen_stage p m (suc k) (with_capacity q k c) t (omega arith) y) z
   where
-    next : Found → Chosen
-    next f = elim f [ At c ↦ chosen_from p (with_capacity q k c) m (suc k) | Nothing ↦ answering p 11 k ]
+    next : Option ℕ → Chosen
+    next f = elim f [ Some c ↦ chosen_from p (with_capacity q k c) m (suc k) | None ↦ answering p 11 k ]
 
-    go : (f : Found) → smallest q k ≡ f
+    go : (f : Option ℕ) → smallest q k ≡ f
         → ((c : ℕ) → Stage p (with_capacity q k c) (suc k) → (chosen_from p (with_capacity q k c) m (suc k)).refusal.number ≡ 0
         → Stage p (chosen_from p (with_capacity q k c) m (suc k)).plan p.count)
         → (next f).refusal.number ≡ 0
         → Stage p (next f).plan p.count
-    go Nothing r rec y = absurd (omega arith)
-    go (At a) r rec y = rec a (stage_next p q k s (omega arith) a (least_of q k a r)) y
+    go None r rec y = absurd (omega arith)
+    go (Some a) r rec y = rec a (stage_next p q k s (omega arith) a (least_of q k a r)) y

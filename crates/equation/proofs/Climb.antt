@@ -1,10 +1,10 @@
 -- Within each window in which a task's load is done the search climbs to a solution. Assumes nothing.
+use Rattle.std.specs.Prelude.{Some}
 use mathlib.Core.Path.{◌≡◌, refl}
 use mathlib.Core.Logic.{⊎_elim}
 use Prim.Native.Nat.{ℕ, zero, suc, ◌+◌, ◌-◌, ◌≤◌}
 use native.Mathlib.Nat.{eq-or-lt_of_le}
 use native.Mathlib.Omega.{arith}
-use Rattle.lists.specs.declared.Found.TheVariants.{At}
 use Rattle.equation.specs.Guest.{guest_side, guest_under}
 use Rattle.equation.specs.System.{System, load, right}
 use Rattle.equation.specs.Standing.{before, rest, Done, Stands}
@@ -34,7 +34,7 @@ module _ (S : System) (i x : ℕ) (s : Regular S i x) where
       let y = side_climbs S.above (rest S.capacity l) here.part s.grows here.enough in
       let low = (lies S i x s l (load_some S i w s.runs)).more in
       let v = solve_by f room y.0 (omega (arith, y.1)) (omega (arith, y.2, here.ends)) y.3 in
-      let found : guest_under S.above (rest S.capacity l) room ≡ At v.0 = v.1 in
+      let found : guest_under S.above (rest S.capacity l) room ≡ Some v.0 = v.1 in
       let least = ends S i x s w l t refl v.0 room found in (
         before S.capacity S.period l + v.0,
         record {

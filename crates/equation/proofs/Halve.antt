@@ -1,12 +1,11 @@
 -- Halving an interval for the first number that works: what fits is closed downward, what works upward as far as it
 -- fits. Assumes nothing.
+use Rattle.std.specs.Prelude.{Option, Some, None}
 use mathlib.Core.Path.{◌≡◌, refl, sym, ◌∙◌}
 use mathlib.Core.Bool.{Bool, true, false, false≢true}
 use Prim.Native.Nat.{ℕ, ◌+◌, ◌-◌, ◌≤◌, ◌<◌}
 use native.Mathlib.Omega.{arith}
 use native.Mathlib.Decide.{dec_le}
-use Rattle.lists.specs.declared.Found.{Found}
-use Rattle.lists.specs.declared.Found.TheVariants.{At, Nothing}
 use Rattle.lists.specs.Search.{least}
 use Rattle.lists.proofs.Search.{Says, First, Nowhere, least_says, least_is}
 
@@ -32,21 +31,21 @@ module _ (fit works : ℕ → Bool) (s : Halving fit works) (lo mid hi : ℕ) (p
   none_below f e z p k = not_true (works z) (λ w. false≢true (sym e ∙ s.grow z mid p k w f))
 
   -- what is said of the left part holds of the whole, where none works from the middle on
-  left_says : (r : Found) → ((z : ℕ) → mid ≤ z → works z ≡ false) → Says works (mid - lo) lo r
+  left_says : (r : Option ℕ) → ((z : ℕ) → mid ≤ z → works z ≡ false) → Says works (mid - lo) lo r
       → Says works (hi - lo) lo r
-  left_says Nothing n o =
+  left_says None n o =
       record { never = λ z p k. elim (dec_le mid z) [ yes q ↦ n z q | no q ↦ o.never z p (omega arith) ] }
-  left_says (At y) n o = record { low = o.low; high = omega arith; holds = o.holds; first = o.first }
+  left_says (Some y) n o = record { low = o.low; high = omega arith; holds = o.holds; first = o.first }
 
   -- what is said of the right part holds of the whole, where none works up to the middle
-  right_says : (r : Found) → ((z : ℕ) → 1 ≤ z → z ≤ mid → works z ≡ false) → Says works (hi - (mid + 1)) (mid + 1) r
+  right_says : (r : Option ℕ) → ((z : ℕ) → 1 ≤ z → z ≤ mid → works z ≡ false) → Says works (hi - (mid + 1)) (mid + 1) r
       → Says works (hi - lo) lo r
-  right_says Nothing n o =
+  right_says None n o =
       record {
         never = λ z p k. elim (dec_le z mid)
             [ yes q ↦ n z (omega arith) q | no q ↦ o.never z (omega arith) (omega arith) ];
       }
-  right_says (At y) n o = record {
+  right_says (Some y) n o = record {
     low = omega arith;
     high = omega arith;
     holds = o.holds;
@@ -68,10 +67,10 @@ module _ (fit works : ℕ → Bool) (s : Halving fit works) (lo mid hi : ℕ) (p
       (least_says works (hi - (mid + 1)) (mid + 1)))
 
   -- the middle works, and so does one to the left
-  pub halve_lower : {y : ℕ} → least works (mid - lo) lo ≡ At y → At y ≡ least works (hi - lo) lo
+  pub halve_lower : {y : ℕ} → least works (mid - lo) lo ≡ Some y → Some y ≡ least works (hi - lo) lo
   halve_lower {y} e =
       let o : First works (mid - lo) lo y = rw e at (least_says works (mid - lo) lo) in
-      least_is works (hi - lo) lo (At y) record {
+      least_is works (hi - lo) lo (Some y) record {
         low = o.low;
         high = omega (arith, o.high);
         holds = o.holds;
@@ -79,10 +78,10 @@ module _ (fit works : ℕ → Bool) (s : Halving fit works) (lo mid hi : ℕ) (p
       }
 
   -- the middle works, and none does to the left
-  pub halve_here : works mid ≡ true → least works (mid - lo) lo ≡ Nothing → At mid ≡ least works (hi - lo) lo
+  pub halve_here : works mid ≡ true → least works (mid - lo) lo ≡ None → Some mid ≡ least works (hi - lo) lo
   halve_here w e =
       let o : Nowhere works (mid - lo) lo = rw e at (least_says works (mid - lo) lo) in
-      least_is works (hi - lo) lo (At mid) record {
+      least_is works (hi - lo) lo (Some mid) record {
         low = l;
         high = omega arith;
         holds = w;
@@ -90,5 +89,5 @@ module _ (fit works : ℕ → Bool) (s : Halving fit works) (lo mid hi : ℕ) (p
       }
 
 -- an empty interval has none
-pub halve_none : (works : ℕ → Bool) (lo hi : ℕ) → hi ≤ lo → Nothing ≡ least works (hi - lo) lo
-halve_none works lo hi h = least_is works (hi - lo) lo Nothing record { never = λ z p k. absurd (omega arith) }
+pub halve_none : (works : ℕ → Bool) (lo hi : ℕ) → hi ≤ lo → None ≡ least works (hi - lo) lo
+halve_none works lo hi h = least_is works (hi - lo) lo None record { never = λ z p k. absurd (omega arith) }

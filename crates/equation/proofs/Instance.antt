@@ -1,9 +1,9 @@
 -- The scope's plan whose right side falls, as a system: guest 8/9 above guest 1/11, two tasks of run 1 and period 31.
 -- Assumes nothing.
+use Rattle.std.specs.Prelude.{Some, None}
 use mathlib.Core.Path.{◌≡◌, refl}
 use Rattle.lists.specs.Search.{least, first_from}
 use Rattle.lists.specs.Sum.{sum_to}
-use Rattle.lists.specs.declared.Found.TheVariants.{At, Nothing}
 use Rattle.rounding.specs.Up.{up}
 use Rattle.rounding.specs.Asked.{asked}
 use Rattle.equation.specs.Solve.{solve}
@@ -24,12 +24,12 @@ lower = record {
 -- The second task's right side is 20 at 20, 28 at 21 and 23 at 22; its response is 30, which a deadline of 29 does not
 -- hold.
 record Falls : Type 0 where
-  fits : guest_under lower.above 1 11 ≡ At 9
+  fits : guest_under lower.above 1 11 ≡ Some 9
   at_20 : right lower 1 20 ≡ 20
   at_21 : right lower 1 21 ≡ 28
   at_22 : right lower 1 22 ≡ 23
-  responds : task_under lower 1 31 ≡ At 30
-  late : task_under lower 1 29 ≡ Nothing
+  responds : task_under lower 1 31 ≡ Some 30
+  late : task_under lower 1 29 ≡ None
 
 -- the definitions compute these numbers
 falls : Falls

@@ -1,10 +1,9 @@
 -- Two systems of the same tasks: where the second has no less capacity and no larger gap, its responses are no later.
 -- Assumes nothing.
+use Rattle.std.specs.Prelude.{Option, Some, None}
 use mathlib.Core.Path.{◌≡◌, refl, ap}
 use Prim.Native.Nat.{ℕ, ◌+◌, ◌-◌, ◌≤◌, ◌<◌}
 use native.Mathlib.Omega.{arith}
-use Rattle.lists.specs.declared.Found.{Found}
-use Rattle.lists.specs.declared.Found.TheVariants.{At, Nothing}
 use Rattle.rounding.specs.Asked.{asked}
 use Rattle.equation.specs.Solve.{solve}
 use Rattle.equation.specs.System.{System, load, right, response_of, later, task_under}
@@ -26,19 +25,19 @@ pub record Roomier (S S' : System) (i : ℕ) : Type 0 where
   pub gap : (j : ℕ) → j ≤ i → S'.gap j ≤ S.gap j
 
 -- the window behind a task's response
-window_of_lem : (gap r : ℕ) (f : Found) → later gap f ≡ At r → (w : ℕ) × (f ≡ At w) × (r ≡ w + gap)
+window_of_lem : (gap r : ℕ) (f : Option ℕ) → later gap f ≡ Some r → (w : ℕ) × (f ≡ Some w) × (r ≡ w + gap)
 unfolding response_of
-window_of_lem gap r Nothing e = absurd (let z : ◌≡◌ {A = ℕ} 0 1 = cc in omega arith)
-window_of_lem gap r (At w) e = (w, refl, (let k : r ≡ w + gap = cc in k))
+window_of_lem gap r None e = absurd (let z : ◌≡◌ {A = ℕ} 0 1 = cc in omega arith)
+window_of_lem gap r (Some w) e = (w, refl, (let k : r ≡ w + gap = cc in k))
 
 -- a window that solves an equation has a least one behind it, so a response that is no later
 respond_by : (f : ℕ → ℕ) (d J J' w y r : ℕ) → J' ≤ J → w ≤ d - J → r ≡ w + J → 1 ≤ y → y ≤ w → y ≡ f y
-    → (r' : ℕ) × (later J' (solve f (d - J')) ≡ At r') × (r' ≤ r)
+    → (r' : ℕ) × (later J' (solve f (d - J')) ≡ Some r') × (r' ≤ r)
 unfolding response_of
 respond_by f d J J' w y r g high e low le q =
     let found = solve_by f (d - J') y low (omega arith) q in
     let at = found.0 in
-    let is : solve f (d - J') ≡ At at = found.1 in
+    let is : solve f (d - J') ≡ Some at = found.1 in
     (at + J', ap (later J') is, omega (arith, found.2))
 
 module _ (S S' : System) (i x : ℕ) (some : 0 < S.capacity) (s : Regular S' i x) (e : Roomier S S' i) where
@@ -62,8 +61,8 @@ module _ (S S' : System) (i x : ℕ) (some : 0 < S.capacity) (s : Regular S' i x
       (solution_done S i w some within runs sol))
 
   -- a task that responds in the first responds in the second, no later
-  pub respond_sooner : (most r : ℕ) → task_under S i most ≡ At r
-      → (r' : ℕ) × (task_under S' i most ≡ At r') × (r' ≤ r)
+  pub respond_sooner : (most r : ℕ) → task_under S i most ≡ Some r
+      → (r' : ℕ) × (task_under S' i most ≡ Some r') × (r' ≤ r)
   unfolding task_under
   respond_sooner most r q =
       let f = right S i in

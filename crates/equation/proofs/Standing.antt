@@ -1,12 +1,12 @@
 -- The search for a task's window: from load to window and back, until the load stays. A window in which a load is done is
 -- no sooner for a larger load, so that no turn passes a solution. Assumes nothing.
+use Rattle.std.specs.Prelude.{Some, None}
 use mathlib.Core.Path.{◌≡◌, refl, ap}
 use mathlib.Core.Logic.{◌⊎◌, inl, inr}
 use Prim.Native.Nat.{ℕ, suc, ◌+◌, ◌-◌, ◌*◌, ◌≤◌, ◌<◌}
 use native.Mathlib.Decide.{dec_lt}
 use native.Mathlib.Nat.{mul-le-mul_right, eq-or-lt_of_le}
 use native.Mathlib.Omega.{arith}
-use Rattle.lists.specs.declared.Found.TheVariants.{At, Nothing}
 use Rattle.equation.specs.Guest.{guest_side, guest_under}
 use Rattle.equation.specs.Solve.{solve}
 use Rattle.equation.specs.System.{System, load, server_periods, right}
@@ -83,8 +83,8 @@ module _ (S : System) (i x : ℕ) (s : Regular S i x) where
 
     -- where no window of at most `room` ticks is one that the load ends with, there is no solution
     pub stands_none : (room : ℕ)
-        → guest_under S.above (rest S.capacity l) (room - before S.capacity S.period l) ≡ Nothing
-        → Nothing ≡ solve (right S i) room
+        → guest_under S.above (rest S.capacity l) (room - before S.capacity S.period l) ≡ None
+        → None ≡ solve (right S i) room
     unfolding guest_under
     stands_none room none =
         let f = guest_side S.above (rest S.capacity l) in
@@ -98,7 +98,7 @@ module _ (S : System) (i x : ℕ) (s : Regular S i x) where
               absurd (a y.0 (omega (arith, y.1, (lies S i x s l some).more)) (omega (arith, y.2, d.ends)) y.3)
         ])
 
-    module _ (v most : ℕ) (found : guest_under S.above (rest S.capacity l) most ≡ At v) where
+    module _ (v most : ℕ) (found : guest_under S.above (rest S.capacity l) most ≡ Some v) where
       -- what the load ends with is the least in its last server period
       pub ends : Solved (guest_side S.above (rest S.capacity l)) most v
       unfolding guest_under
@@ -147,7 +147,7 @@ module _ (S : System) (i x : ℕ) (s : Regular S i x) where
       -- the least one
       pub stands_found : (room : ℕ) → before S.capacity S.period l + v ≤ room
           → load S i (before S.capacity S.period l + v) ≤ l
-          → At (before S.capacity S.period l + v) ≡ solve (right S i) room
+          → Some (before S.capacity S.period l + v) ≡ solve (right S i) room
       stands_found room high stays =
           let y = before S.capacity S.period l + v in
           solve_at (right S i) room y (omega (arith, ends.low)) high (stands_sol stays) (stands_under y stands_turn)

@@ -1,6 +1,5 @@
 -- Where the search for a window stands. Inner: no promise of an entry names this.
-use Rattle.std.specs.Prelude.{◌≡◌, ℕ, ◌+◌, ◌-◌, ◌*◌, ◌≤◌}
-use Rattle.lists.specs.declared.Found.{Found}
+use Rattle.std.specs.Prelude.{◌≡◌, ℕ, ◌+◌, ◌-◌, ◌*◌, ◌≤◌, Option}
 use Rattle.equation.specs.Guest.{guest_side, guest_under}
 use Rattle.equation.specs.System.{System, load, server_periods, later}
 
@@ -19,7 +18,7 @@ rest capacity load = load - (server_periods load capacity - 1) * capacity
 
 -- the least window of at most `room` ticks that a load ends with: in its last server period what is left of it climbs
 -- as a guest's capacity does
-unfoldable pub window_of : (above : ℕ → ℕ) → (capacity period load room : ℕ) → Found
+unfoldable pub window_of : (above : ℕ → ℕ) → (capacity period load room : ℕ) → Option ℕ
 window_of above capacity period load room =
     later (before capacity period load)
     (guest_under above (rest capacity load) (room - before capacity period load))

@@ -1,8 +1,6 @@
 -- The equation of a task, over functions of a place. The records of a plan, the columns that the code reads, and the
 -- windows behind demand 3 each say which numbers these functions are.
-use Rattle.std.specs.Prelude.{Bool, true, false, ℕ, ◌+◌, ◌-◌, ◌*◌}
-use Rattle.lists.specs.declared.Found.{Found}
-use Rattle.lists.specs.declared.Found.TheVariants.{At, Nothing}
+use Rattle.std.specs.Prelude.{Bool, true, false, ℕ, ◌+◌, ◌-◌, ◌*◌, Option, Some, None}
 use Rattle.rounding.specs.Up.{up}
 use Rattle.rounding.specs.Asked.{asked}
 use Rattle.equation.specs.Solve.{solve}
@@ -48,10 +46,10 @@ unfoldable pub response_of : (J w : ℕ) → ℕ
 response_of J w = w + J
 
 -- the response of the window that was found, if one was
-abbrev pub later : (J : ℕ) → Found → Found
-later J Nothing = Nothing
-later J (At w) = At (response_of J w)
+abbrev pub later : (J : ℕ) → Option ℕ → Option ℕ
+later J None = None
+later J (Some w) = Some (response_of J w)
 
 -- w + J for the least window w that is its own right side, where w + J is at most `most`
-unfoldable pub task_under : System → (i most : ℕ) → Found
+unfoldable pub task_under : System → (i most : ℕ) → Option ℕ
 task_under S i most = later (S.gap i) (solve (right S i) (most - S.gap i))

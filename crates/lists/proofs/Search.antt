@@ -1,4 +1,5 @@
 -- Laws of `least` and `first_from`. Assumes nothing.
+use Rattle.std.specs.Prelude.{Option, Some, None, is_some}
 use mathlib.Core.Path.{◌≡◌, refl, sym, ◌∙◌, ap}
 use mathlib.Core.Logic.{◌⊎◌, inl, inr, ⊎_elim}
 use mathlib.Core.Bool.{Bool, true, false, false≢true}
@@ -7,9 +8,7 @@ use native.Mathlib.Nat.{eq-or-lt_of_le}
 use native.Mathlib.Numerals.{add-one}
 use native.Mathlib.Omega.{arith}
 use Rattle.lists.specs.Choice.{pick}
-use Rattle.lists.specs.Search.{least, first_from, is_at}
-use Rattle.lists.specs.declared.Found.{Found}
-use Rattle.lists.specs.declared.Found.TheVariants.{At, Nothing}
+use Rattle.lists.specs.Search.{least, first_from}
 
 -- y is the first number from x on, and below x + d, at which p passes
 pub record First (p : ℕ → Bool) (d x y : ℕ) : Type 0 where
@@ -23,12 +22,12 @@ pub record Nowhere (p : ℕ → Bool) (d x : ℕ) : Type 0 where
   pub never : (z : ℕ) → x ≤ z → z < x + d → p z ≡ false
 
 -- what an answer of the search says of p
-abbrev pub Says : (ℕ → Bool) → ℕ → ℕ → Found → Type 0
-Says p d x Nothing = Nowhere p d x
-Says p d x (At y) = First p d x y
+abbrev pub Says : (ℕ → Bool) → ℕ → ℕ → Option ℕ → Type 0
+Says p d x None = Nowhere p d x
+Says p d x (Some y) = First p d x y
 
 -- where p passes at x the search finds x
-least_true : (p : ℕ → Bool) (d x : ℕ) → p x ≡ true → least p (suc d) x ≡ At x
+least_true : (p : ℕ → Bool) (d x : ℕ) → p x ≡ true → least p (suc d) x ≡ Some x
 unfolding least
 least_true p d x e = rw (e, least)
 
@@ -38,13 +37,13 @@ unfolding least
 least_false p d x e = rw (e, least)
 
 -- p fails at x, so what is said from x + 1 on is said from x on
-stepped : (p : ℕ → Bool) (d x : ℕ) (f : Found) → p x ≡ false → Says p d (suc x) f → Says p (suc d) x f
-stepped p d x Nothing e o = record { never = λ z h k. go z k (eq-or-lt_of_le h) }
+stepped : (p : ℕ → Bool) (d x : ℕ) (f : Option ℕ) → p x ≡ false → Says p d (suc x) f → Says p (suc d) x f
+stepped p d x None e o = record { never = λ z h k. go z k (eq-or-lt_of_le h) }
   where
     go : (z : ℕ) → z < x + suc d → (x ≡ z) ⊎ (x < z) → p z ≡ false
     go z k (inl q) = rw (← q) e
     go z k (inr l) = o.never z l (omega arith)
-stepped p d x (At y) e o =
+stepped p d x (Some y) e o =
     record { low = omega arith; high = omega arith; holds = o.holds; first = λ z h k. go z k (eq-or-lt_of_le h) }
   where
     go : (z : ℕ) → z < y → (x ≡ z) ⊎ (x < z) → p z ≡ false
@@ -67,25 +66,25 @@ least_says p (suc d) x = go (p x) refl (least_says p d (suc x))
     go false e o = rw (least_false p d x e) (stepped p d x (least p d (suc x)) e o)
 
 -- two answers that say what is so of p are one
-pub says_one : (p : ℕ → Bool) (d x : ℕ) (r s : Found) → Says p d x r → Says p d x s → r ≡ s
-says_one p d x Nothing Nothing a b = refl
-says_one p d x Nothing (At y) a b = absurd (false≢true (sym (a.never y b.low b.high) ∙ b.holds))
-says_one p d x (At y) Nothing a b = absurd (false≢true (sym (b.never y a.low a.high) ∙ a.holds))
-says_one p d x (At y) (At z) a b =
+pub says_one : (p : ℕ → Bool) (d x : ℕ) (r s : Option ℕ) → Says p d x r → Says p d x s → r ≡ s
+says_one p d x None None a b = refl
+says_one p d x None (Some y) a b = absurd (false≢true (sym (a.never y b.low b.high) ∙ b.holds))
+says_one p d x (Some y) None a b = absurd (false≢true (sym (b.never y a.low a.high) ∙ a.holds))
+says_one p d x (Some y) (Some z) a b =
     let h : ¬ (y < z) = λ k. false≢true (sym (b.first y a.low k) ∙ a.holds) in
     let g : ¬ (z < y) = λ k. false≢true (sym (a.first z b.low k) ∙ b.holds) in
     let e : y ≡ z = omega arith in
-    ap At e
+    ap Some e
 
 -- an answer that says what is so of p is the search's
-pub least_is : (p : ℕ → Bool) (d x : ℕ) (r : Found) → Says p d x r → r ≡ least p d x
+pub least_is : (p : ℕ → Bool) (d x : ℕ) (r : Option ℕ) → Says p d x r → r ≡ least p d x
 least_is p d x r a = says_one p d x r (least p d x) a (least_says p d x)
 
 -- tests that agree on the numbers searched find the same
 says_ext :
-    (p q : ℕ → Bool) (d x : ℕ) (f : Found) → ((z : ℕ) → x ≤ z → z < x + d → p z ≡ q z) → Says p d x f → Says q d x f
-says_ext p q d x Nothing h w = record { never = λ z l b. sym (h z l b) ∙ w.never z l b }
-says_ext p q d x (At y) h w = record {
+    (p q : ℕ → Bool) (d x : ℕ) (f : Option ℕ) → ((z : ℕ) → x ≤ z → z < x + d → p z ≡ q z) → Says p d x f → Says q d x f
+says_ext p q d x None h w = record { never = λ z l b. sym (h z l b) ∙ w.never z l b }
+says_ext p q d x (Some y) h w = record {
   low = w.low;
   high = w.high;
   holds = sym (h y w.low w.high) ∙ w.holds;
@@ -100,21 +99,21 @@ abbrev pub Passed : (ℕ → Bool) → ℕ → Type 0
 Passed p k = (z : ℕ) → z < k → p z ≡ false
 
 -- a counting loop's way out: k passes
-pub count_at : (p : ℕ → Bool) (n k : ℕ) → k < n → Passed p k → p k ≡ true → At k ≡ least p n 0
+pub count_at : (p : ℕ → Bool) (n k : ℕ) → k < n → Passed p k → p k ≡ true → Some k ≡ least p n 0
 count_at p n k h b e =
-    least_is p n 0 (At k) record { low = omega arith; high = omega arith; holds = e; first = λ z l m. b z m }
+    least_is p n 0 (Some k) record { low = omega arith; high = omega arith; holds = e; first = λ z l m. b z m }
 
 -- a counting loop's end: no number passed
-pub count_none : (p : ℕ → Bool) (n k : ℕ) → n ≤ k → Passed p k → Nothing ≡ least p n 0
-count_none p n k h b = least_is p n 0 Nothing record { never = λ z l m. b z (omega arith) }
+pub count_none : (p : ℕ → Bool) (n k : ℕ) → n ≤ k → Passed p k → None ≡ least p n 0
+count_none p n k h b = least_is p n 0 None record { never = λ z l m. b z (omega arith) }
 
 -- where something was found it is a number
-pub at_of : (f : Found) → is_at f ≡ true → (y : ℕ) × (f ≡ At y)
-at_of Nothing e = absurd (false≢true e)
-at_of (At y) e = (y, refl)
+pub at_of : (f : Option ℕ) → is_some f ≡ true → (y : ℕ) × (f ≡ Some y)
+at_of None e = absurd (false≢true e)
+at_of (Some y) e = (y, refl)
 
 -- a number that was found is something
-pub is_at_lem : {f : Found} {y : ℕ} → f ≡ At y → is_at f ≡ true
+pub is_at_lem : {f : Option ℕ} {y : ℕ} → f ≡ Some y → is_some f ≡ true
 is_at_lem e = rw e refl
 
 -- a search over places, one turn: place k passes

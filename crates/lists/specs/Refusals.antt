@@ -1,5 +1,5 @@
 -- Numbered refusals: tests in a fixed order, the first that fails gives its number.
-use Rattle.std.specs.Prelude.{Bool, true, false, List, [], ◌∷◌, ℕ}
+use Rattle.std.specs.Prelude.{Bool, true, false, List, [], ◌∷◌, ℕ, zero, suc, Result, Ok, Err}
 
 -- a test, and the number that a failure of it is refused by
 pub record Test : Type 0 where
@@ -20,3 +20,8 @@ refusal (t ∷ ts) = unless t.passes t.number (refusal ts)
 infixl 70 ◌or_refuse◌
 abbrev pub ◌or_refuse◌ : Bool → ℕ → Test
 passes or_refuse number = record { passes = passes; number = number }
+
+-- the number that refuses, or the answer where it is 0
+abbrev pub unless_number : {A : Type 0} → ℕ → A → Result A ℕ
+unless_number zero answer = Ok answer
+unless_number (suc n) answer = Err (suc n)

@@ -2,16 +2,14 @@
 -- For a task of the second let m be the lowest, in the first, of it and those above it. Its window holds one release of
 -- m itself, and all the others stand above m; so the load of m there is no less than that of the task, and the
 -- comparison of two systems gives the task a window that is no longer. Assumes nothing.
+use Rattle.std.specs.Prelude.{Option, Some, None, is_some}
 use mathlib.Core.Path.{◌≡◌, refl, ap}
 use mathlib.Core.Bool.{true, false≢true}
 use mathlib.Core.Logic.{⊎_elim}
 use Prim.Native.Nat.{ℕ, suc, ◌+◌, ◌-◌, ◌*◌, ◌≤◌, ◌<◌}
 use native.Mathlib.Nat.{eq-or-lt_of_le, le_refl, mul-le-mul_right}
 use native.Mathlib.Omega.{arith}
-use Rattle.lists.specs.Search.{is_at}
 use Rattle.lists.specs.Sum.{sum_to}
-use Rattle.lists.specs.declared.Found.{Found}
-use Rattle.lists.specs.declared.Found.TheVariants.{At, Nothing}
 use Rattle.rounding.specs.Asked.{asked}
 use Rattle.rounding.specs.Up.{up}
 use Rattle.equation.specs.Solve.{solve}
@@ -35,17 +33,17 @@ pub record Meets (S : System) (i d w : ℕ) : Type 0 where
 
 module _ (S : System) (i d : ℕ) where
   -- A task that has a response of at most d has such a window.
-  pub response_meets : is_at (task_under S i d) ≡ true → (w : ℕ) × Meets S i d w
+  pub response_meets : is_some (task_under S i d) ≡ true → (w : ℕ) × Meets S i d w
   unfolding task_under
   response_meets e = go (solve (right S i) (d - S.gap i)) (solve_answers (right S i) (d - S.gap i)) e
     where
-      go : (f : Found) → Answers (right S i) (d - S.gap i) f → is_at (later (S.gap i) f) ≡ true
+      go : (f : Option ℕ) → Answers (right S i) (d - S.gap i) f → is_some (later (S.gap i) f) ≡ true
           → (w : ℕ) × Meets S i d w
-      go Nothing a q = absurd (false≢true q)
-      go (At w) a q = (w, record { low = a.low; sol = a.sol; in_time = omega (arith, a.low, a.high) })
+      go None a q = absurd (false≢true q)
+      go (Some w) a q = (w, record { low = a.low; sol = a.sol; in_time = omega (arith, a.low, a.high) })
 
   -- One that has such a window has a response of at most d.
-  pub meets_response : (w : ℕ) → Meets S i d w → is_at (task_under S i d) ≡ true
+  pub meets_response : (w : ℕ) → Meets S i d w → is_some (task_under S i d) ≡ true
   unfolding task_under
   meets_response w m =
       is_at_lem (ap (later (S.gap i))

@@ -1,5 +1,5 @@
 -- A refusal with its place: the first place whose number is not 0. An answer is a refusal or else what was asked for.
-use Rattle.std.specs.Prelude.{ℕ, zero, suc}
+use Rattle.std.specs.Prelude.{ℕ, zero, suc, Result, Ok, Err}
 use Rattle.plan.specs.declared.Refusal.{Refusal}
 
 -- the refusal by number n at place k
@@ -28,3 +28,12 @@ refused_by refuse (suc n) place answer = refuse (suc n) place
 -- a refusal, or the answer where its number is 0
 abbrev pub refuse_or : {A : Type 0} → (ℕ → ℕ → A) → Refusal → A → A
 refuse_or refuse r answer = refused_by refuse r.number r.place answer
+
+-- the refusal by number n at place k, or the answer where n is 0
+abbrev pub refused_or : {A : Type 0} → (number place : ℕ) → A → Result A Refusal
+refused_or zero place answer = Ok answer
+refused_or (suc n) place answer = Err (refused (suc n) place)
+
+-- a refusal, or the answer where its number is 0
+abbrev pub unless_refused : {A : Type 0} → Refusal → A → Result A Refusal
+unless_refused r answer = refused_or r.number r.place answer

@@ -1,8 +1,6 @@
 -- What an answer of several cases tells, in document 01's terms: the refusal's number and place, and the values in
 -- ticks.
-use Rattle.std.specs.Prelude.{List, [], ◌∷◌, ℕ}
-use Rattle.lists.specs.declared.Found.{Found}
-use Rattle.lists.specs.declared.Found.TheVariants.{At, Nothing}
+use Rattle.std.specs.Prelude.{List, [], ◌∷◌, ℕ, Option, Some, None}
 use Rattle.plan.specs.declared.Refusal.{Refusal}
 use Rattle.plan.specs.First.{refused, fine}
 
@@ -20,6 +18,6 @@ abbrev pub saying : (values : List ℕ) → Told
 saying values = record { refusal = fine; values = values }
 
 -- a number that was found is the one value
-abbrev pub value_of : Found → List ℕ
-value_of (At x) = x ∷ []
-value_of Nothing = []
+abbrev pub value_of : Option ℕ → List ℕ
+value_of (Some x) = x ∷ []
+value_of None = []

@@ -1,12 +1,11 @@
 -- How the code comes to the block found, and that it lies within the bytes. Assumes nothing.
+use Rattle.std.specs.Prelude.{Option, Some, None}
 use mathlib.Core.Path.{◌≡◌, refl, sym, ap, ◌∙◌}
 use mathlib.Core.Bool.{Bool}
 use mathlib.Core.List.{List, []}
 use Prim.Native.Nat.{ℕ, zero, suc, ◌≤◌, ◌<◌}
 use native.Mathlib.Omega.{arith}
 use lib.Dec.{eqb}
-use Rattle.lists.specs.declared.Found.{Found}
-use Rattle.lists.specs.declared.Found.TheVariants.{At, Nothing}
 use Rattle.plan.specs.declared.Refusal.{Refusal}
 use Rattle.plan.specs.First.{or_else}
 use Rattle.blockfile.specs.File.{block_at, id_at, blocks_in, file_refusal, first_with}
@@ -49,10 +48,10 @@ module _ (s : List ℕ) (id : ℕ) where
   found_there r e h = let z : r.number ≡ 0 = omega arith in rw (← e, z) refl
 
 -- A place that was found is one of the blocks.
-placed_below : (p : ℕ → Bool) (n : ℕ) (f : Found) → Says p n 0 f → (place_or_seven f).number ≡ 0
+placed_below : (p : ℕ → Bool) (n : ℕ) (f : Option ℕ) → Says p n 0 f → (place_or_seven f).number ≡ 0
     → (place_or_seven f).place < n
-placed_below p n Nothing w e = absurd (omega arith)
-placed_below p n (At y) w e = let h = w.high in omega arith
+placed_below p n None w e = absurd (omega arith)
+placed_below p n (Some y) w e = let h = w.high in omega arith
 
 -- The place that was found is one of the blocks.
 pub found_within : (s : List ℕ) (id : ℕ) → (found_place s id).number ≡ 0 → (found_place s id).place < blocks_in s

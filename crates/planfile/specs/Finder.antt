@@ -1,15 +1,13 @@
 -- A guest's block in a plan's bytes, found by the guest's id.
-use Rattle.std.specs.Prelude.{List, [], ℕ, zero, suc}
-use Rattle.lists.specs.declared.Found.{Found}
-use Rattle.lists.specs.declared.Found.TheVariants.{At, Nothing}
+use Rattle.std.specs.Prelude.{List, [], ℕ, zero, suc, Option, Some, None}
 use Rattle.plan.specs.declared.Refusal.{Refusal}
 use Rattle.plan.specs.First.{refused, or_else}
 use Rattle.blockfile.specs.File.{block_at, file_refusal, first_with}
 
 -- What was found as number and place: 0 and the place, or refusal 7.
-abbrev pub place_or_seven : Found → Refusal
-place_or_seven (At k) = refused 0 k
-place_or_seven Nothing = refused 7 0
+abbrev pub place_or_seven : Option ℕ → Refusal
+place_or_seven (Some k) = refused 0 k
+place_or_seven None = refused 7 0
 
 -- The finder's companion: the reading order, then 7, then the found block's place.
 unfoldable pub found_place : List ℕ → (id : ℕ) → Refusal

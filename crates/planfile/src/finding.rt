@@ -2,19 +2,18 @@
 ghost use Rattle.std.specs.Prelude.{◌≡◌};
 ghost use Rattle.planfile.specs.Finder.{place_or_seven};
 
-use lists::Found;
 use plan::Refusal;
 
 // What was found as number and place: 0 and the place, or refusal 7.
-pub fn place_or_seven(f: Found) -> Refusal
+pub fn place_or_seven(f: Option<u32>) -> Refusal
     ensures { result ≡ place_or_seven f }
 {
     match f {
-        Found::At(k) => Refusal {
+        Some(k) => Refusal {
             number: 0,
             place: k,
         },
-        Found::Nothing => Refusal {
+        None => Refusal {
             number: 7,
             place: 0,
         },

@@ -1,5 +1,6 @@
 -- When each refusal of bytes is given: 1 to 6 of reading blocks, places counting or not, and 7 of the finder. Assumes
 -- nothing.
+use Rattle.std.specs.Prelude.{Option, Some, None}
 use mathlib.Core.Path.{◌≡◌, refl, sym, ap, ◌∙◌}
 use mathlib.Core.Logic.{◌⊎◌, inl, inr, ⊎_elim}
 use mathlib.Core.Bool.{Bool, true, false, false≢true, not, ◌&&◌, ◌||◌}
@@ -9,8 +10,6 @@ use native.Mathlib.Omega.{arith}
 use lib.ListN.{length}
 use lib.Dec.{eqb}
 use borrow.Author.Tests.{eq-eqb, ne_eqb, eqb-true}
-use Rattle.lists.specs.declared.Found.{Found}
-use Rattle.lists.specs.declared.Found.TheVariants.{At, Nothing}
 use Rattle.lists.specs.Refusals.{refusal, unless, ◌or_refuse◌}
 use Rattle.plan.specs.declared.Refusal.{Refusal}
 use Rattle.plan.specs.First.{refused, or_else}
@@ -161,15 +160,15 @@ module _ (s : List ℕ) (id : ℕ) where
       past_file (file_refusal s).number (file_refusal s).place n k (place_or_seven (first_with s id)) (most true s) e h
 
   -- What 7 says, by what the search found.
-  seven_by : (f : Found) → Says (λ k. eqb (id_at s k) id) (blocks_in s) 0 f → place_or_seven f ≡ refused 7 0 → (k : ℕ)
+  seven_by : (f : Option ℕ) → Says (λ k. eqb (id_at s k) id) (blocks_in s) 0 f → place_or_seven f ≡ refused 7 0 → (k : ℕ)
       → k < blocks_in s → id_at s k ≡ id → ⊥
-  seven_by Nothing w e k l q = false≢true (sym (w.never k (omega arith) (omega arith)) ∙ eq-eqb _ _ q)
-  seven_by (At y) w e k l q = let z : ◌≡◌ {A = ℕ} 0 7 = ap (λ (r : Refusal). r.number) e in omega arith
+  seven_by None w e k l q = false≢true (sym (w.never k (omega arith) (omega arith)) ∙ eq-eqb _ _ q)
+  seven_by (Some y) w e k l q = let z : ◌≡◌ {A = ℕ} 0 7 = ap (λ (r : Refusal). r.number) e in omega arith
 
-  there_by : (f : Found) (k : ℕ) → Says (λ k. eqb (id_at s k) id) (blocks_in s) 0 f → place_or_seven f ≡ refused 0 k
+  there_by : (f : Option ℕ) (k : ℕ) → Says (λ k. eqb (id_at s k) id) (blocks_in s) 0 f → place_or_seven f ≡ refused 0 k
       → (k < blocks_in s) × (id_at s k ≡ id)
-  there_by Nothing k w e = absurd (let z : ◌≡◌ {A = ℕ} 7 0 = ap (λ (r : Refusal). r.number) e in omega arith)
-  there_by (At y) k w e =
+  there_by None k w e = absurd (let z : ◌≡◌ {A = ℕ} 7 0 = ap (λ (r : Refusal). r.number) e in omega arith)
+  there_by (Some y) k w e =
       let q : y ≡ k = ap (λ (r : Refusal). r.place) e in
       (omega (arith, w.high), ap (id_at s) (sym q) ∙ eqb-true _ _ w.holds)
 

@@ -1,4 +1,5 @@
 -- What the code reads off columns and records is what the definitions say of the plan. Assumes nothing.
+use Rattle.std.specs.Prelude.{Option, is_some}
 use mathlib.Core.Path.{◌≡◌, refl, sym, ◌∙◌, ap, fun_ext}
 use mathlib.Core.Bool.{Bool, ◌&&◌}
 use mathlib.Core.List.{List}
@@ -7,8 +8,6 @@ use native.Mathlib.Numerals.{add-one}
 use native.Mathlib.Omega.{arith}
 use Rattle.lists.specs.All.{all_to}
 use Rattle.lists.specs.Places.{nth}
-use Rattle.lists.specs.Search.{is_at}
-use Rattle.lists.specs.declared.Found.{Found}
 use Rattle.equation.specs.Guest.{guest_under}
 use Rattle.equation.specs.System.{System, gap_for}
 use Rattle.plan.specs.Records.{guest_at}
@@ -62,12 +61,12 @@ pub accepted_alike : (S S' : System) (deadline : ℕ → ℕ) (n : ℕ) → Same
 unfolding accepted_in met_under
 accepted_alike S S' deadline n a =
     ap (λ (b : Bool). fitted_in S && b)
-    (all_ext _ _ n (λ i h. ap is_at (task_alike S S' n i h a (deadline i))))
+    (all_ext _ _ n (λ i h. ap is_some (task_alike S S' n i h a (deadline i))))
     ∙ rw (a.capacity, a.period, a.above) refl
 
 -- what the code's test of an answer says of the answer
-pub test_is : {f a : Found} {r b : Bool} → f ≡ a → r ≡ is_at f → r ≡ b → is_at a ≡ b
-test_is e q t = ap is_at (sym e) ∙ sym q ∙ t
+pub test_is : {f a : Option ℕ} {r b : Bool} → f ≡ a → r ≡ is_some f → r ≡ b → is_some a ≡ b
+test_is e q t = ap is_some (sym e) ∙ sym q ∙ t
 
 -- a guest of a plan is accepted where it is fitted and all its tasks are met
 pub accepted_is : (p : Plan) (k : ℕ)
@@ -97,7 +96,7 @@ module _ (p : Plan) (c : Columns) (f : ColumnsOf p.guests most_guests c) {jitter
   -- the first n of the columns are fitted where the plan's guests are
   pub columns_fit : (n : ℕ) → n ≤ 8 → all_to (fitted_at c.capacities c.periods jitters) n ≡ all_to (fitted p) n
   unfolding fitted_at fitted
-  columns_fit n h = all_ext _ _ n (λ j l. ap is_at (columns_respond j (omega arith)))
+  columns_fit n h = all_ext _ _ n (λ j l. ap is_some (columns_respond j (omega arith)))
 
   -- the guest at place k of the columns and all above are fitted where the plan's are
   pub columns_fit_to : (k : ℕ) → k < 8 → all_to (fitted_at c.capacities c.periods jitters) (k + 1) ≡ fitted_to p k

@@ -1,9 +1,9 @@
 -- The guest's recurrence x := C + above x climbs to the least solution, since its right side grows. Assumes nothing.
+use Rattle.std.specs.Prelude.{Some, None}
 use mathlib.Core.Path.{◌≡◌}
 use mathlib.Core.List.{List}
 use Prim.Native.Nat.{ℕ, ◌+◌, ◌≤◌, ◌<◌}
 use native.Mathlib.Omega.{arith}
-use Rattle.lists.specs.declared.Found.TheVariants.{At, Nothing}
 use Rattle.lists.specs.Places.{nth}
 use Rattle.rounding.specs.Asked.{asked}
 use Rattle.equation.specs.Guest.{guest_side, guest_under}
@@ -27,7 +27,7 @@ take_is capacities periods jitters n v sum e = e
 
 -- no number that the recurrence climbs through is past a solution
 pub from_under : (above : ℕ → ℕ) (capacity most x : ℕ) → Rising (guest_side above capacity) x → most < x
-    → Nothing ≡ guest_under above capacity most
+    → None ≡ guest_under above capacity most
 unfolding guest_under
 from_under above capacity most x r h = solve_none (guest_side above capacity) most x h (rise_under _ x r)
 
@@ -53,21 +53,21 @@ module _ {above : ℕ → ℕ} {capacity most x y : ℕ} (i : GuestInv above cap
       record { grows = i.grows; short = i.short; low = omega arith; high = h; rising = rw q turned }
 
   -- the loop's end at a solution
-  pub guest_found : y ≤ x → At x ≡ guest_under above capacity most
+  pub guest_found : y ≤ x → Some x ≡ guest_under above capacity most
   unfolding guest_under guest_side
   guest_found h =
       solve_at (guest_side above capacity) most x i.low i.high (omega (arith, i.rising.rises))
       (rise_under (guest_side above capacity) x i.rising)
 
   -- the loop's end past the most
-  pub guest_none : most < y → Nothing ≡ guest_under above capacity most
+  pub guest_none : most < y → None ≡ guest_under above capacity most
   unfolding guest_under guest_side
   guest_none h =
       solve_none (guest_side above capacity) most (guest_side above capacity x) (omega arith)
       (rise_under (guest_side above capacity) (guest_side above capacity x) turned)
 
 -- what the response of a fitted guest says
-pub response_says : (above : ℕ → ℕ) (capacity period x : ℕ) → guest_under above capacity period ≡ At x
+pub response_says : (above : ℕ → ℕ) (capacity period x : ℕ) → guest_under above capacity period ≡ Some x
     → Solved (guest_side above capacity) period x
 unfolding guest_under
 response_says above capacity period x e = rw e at (solve_answers (guest_side above capacity) period)

@@ -1,4 +1,5 @@
 -- What a search for a window says of its task, and hands on to the search for the task below. Assumes nothing.
+use Rattle.std.specs.Prelude.{Option, Some, None, is_some}
 use mathlib.Core.Path.{◌≡◌, refl, sym, ◌∙◌, ap}
 use mathlib.Core.Bool.{true, false}
 use mathlib.Core.List.{List}
@@ -8,9 +9,6 @@ use native.Mathlib.Numerals.{add-one}
 use native.Mathlib.Omega.{arith}
 use lib.ListN.{replicate, length-replicate}
 use Rattle.lists.specs.Places.{nth}
-use Rattle.lists.specs.Search.{is_at}
-use Rattle.lists.specs.declared.Found.{Found}
-use Rattle.lists.specs.declared.Found.TheVariants.{At, Nothing}
 use Rattle.equation.specs.Solve.{solve}
 use Rattle.equation.specs.System.{System, right, response_of, later, task_under}
 use Rattle.response.specs.Ready.{Ready}
@@ -27,21 +25,21 @@ use Rattle.response.proofs.TaskLaws.{regular}
 
 -- What the ticks that a search gives say of what it found.
 record TicksSay (f : ℕ → ℕ) (t r : ℕ) : Type 0 where
-  none : r < 1 → solve f t ≡ Nothing
-  some : 1 ≤ r → solve f t ≡ At r
+  none : r < 1 → solve f t ≡ None
+  some : 1 ≤ r → solve f t ≡ Some r
   high : r ≤ t
 
 -- they say so
 told : (f : ℕ → ℕ) (t r : ℕ) → r ≡ ticks_of (solve f t) → TicksSay f t r
 told f t r e = go (solve f t) refl (solve_answers f t)
   where
-    go : (g : Found) → solve f t ≡ g → Answers f t g → TicksSay f t r
-    go Nothing q a =
+    go : (g : Option ℕ) → solve f t ≡ g → Answers f t g → TicksSay f t r
+    go None q a =
         let z : r ≡ 0 = e ∙ ap ticks_of q in
         record { none = λ h. q; some = λ h. absurd (omega arith); high = omega arith }
-    go (At w) q a =
+    go (Some w) q a =
         let z : r ≡ w = e ∙ ap ticks_of q in
-        record { none = λ h. absurd (omega (arith, a.low)); some = λ h. q ∙ ap At (sym z); high = omega (arith, a.high) }
+        record { none = λ h. absurd (omega (arith, a.low)); some = λ h. q ∙ ap Some (sym z); high = omega (arith, a.high) }
 
 -- a search may begin at 1 with no edges
 pub begins_fresh : (S : System) → Grows S.above → (i : ℕ) → Ready S i → Begins S i 1 (replicate 16 0) 0
@@ -58,12 +56,12 @@ module _ (S : System) (i most : ℕ) {edge : List ℕ} {sum r : ℕ} (f : FindsW
   says = told (right S i) (most - S.gap i) r f.is
 
   -- no window: no response
-  pub finds_none : r < 1 → Nothing ≡ task_under S i most
+  pub finds_none : r < 1 → None ≡ task_under S i most
   unfolding task_under
   finds_none h = sym (ap (later (S.gap i)) (says.none h))
 
   -- a window: its response, which is at most `most`
-  pub finds_at : 1 ≤ r → At (r + S.gap i) ≡ task_under S i most
+  pub finds_at : 1 ≤ r → Some (r + S.gap i) ≡ task_under S i most
   unfolding task_under response_of
   finds_at h = sym (ap (later (S.gap i)) (says.some h))
 
@@ -95,7 +93,7 @@ module _ (S : System) (i most : ℕ) {edge : List ℕ} {sum r : ℕ} (f : FindsW
 pub record MetSo (S : System) (deadline : ℕ → ℕ) (from n r : ℕ) : Type 0 where
   pub low : from ≤ r
   pub high : r ≤ n
-  pub met : (j : ℕ) → from ≤ j → j < r → is_at (task_under S j (deadline j)) ≡ true
+  pub met : (j : ℕ) → from ≤ j → j < r → is_some (task_under S j (deadline j)) ≡ true
 
 -- a loop starts: none has been looked at
 pub met_none : (S : System) (deadline : ℕ → ℕ) (from n : ℕ) → from ≤ n → MetSo S deadline from n from
@@ -103,7 +101,7 @@ met_none S deadline from n h = record { low = omega arith; high = h; met = λ j 
 
 module _ {S : System} {deadline : ℕ → ℕ} {from n r : ℕ} (s : MetSo S deadline from n r) where
   -- a turn: one more is met
-  pub met_next : r < n → is_at (task_under S r (deadline r)) ≡ true → MetSo S deadline from n (r + 1)
+  pub met_next : r < n → is_some (task_under S r (deadline r)) ≡ true → MetSo S deadline from n (r + 1)
   met_next h e = record {
     low = omega (arith, s.low);
     high = omega arith;
@@ -115,15 +113,15 @@ module _ {S : System} {deadline : ℕ → ℕ} {from n r : ℕ} (s : MetSo S dea
   }
 
   -- the loop's end: the next one is not met, or there is none
-  pub met_ends : (r < n → is_at (task_under S r (deadline r)) ≡ false) → MetTo S deadline from n r
+  pub met_ends : (r < n → is_some (task_under S r (deadline r)) ≡ false) → MetTo S deadline from n r
   met_ends e = record { low = s.low; high = s.high; met = s.met; unmet = e }
 
 -- all tasks are met where none is the first that is not
 pub met_all : (S : System) (deadline : ℕ → ℕ) (n r : ℕ) → MetTo S deadline 0 n r → n ≤ r → met_under S deadline n ≡ true
 unfolding met_under
-met_all S deadline n r s h = all_by (λ i. is_at (task_under S i (deadline i))) n (λ j l. s.met j (omega arith) (omega arith))
+met_all S deadline n r s h = all_by (λ i. is_some (task_under S i (deadline i))) n (λ j l. s.met j (omega arith) (omega arith))
 
 -- not all are where one is the first that is not
 pub met_not : (S : System) (deadline : ℕ → ℕ) (n r : ℕ) → MetTo S deadline 0 n r → r < n → met_under S deadline n ≡ false
 unfolding met_under
-met_not S deadline n r s h = sym (all_fails (λ i. is_at (task_under S i (deadline i))) n r h (s.unmet h))
+met_not S deadline n r s h = sym (all_fails (λ i. is_some (task_under S i (deadline i))) n r h (s.unmet h))

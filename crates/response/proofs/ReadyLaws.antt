@@ -1,4 +1,5 @@
 -- What records in their ranges give the inner functions. Assumes nothing.
+use Rattle.std.specs.Prelude.{is_some}
 use mathlib.Core.Path.{◌≡◌, sym, ◌∙◌, ap}
 use mathlib.Core.Bool.{Bool, true}
 use mathlib.Core.List.{List}
@@ -6,7 +7,6 @@ use Prim.Native.Nat.{ℕ, ◌+◌, ◌-◌, ◌≤◌, ◌<◌}
 use native.Mathlib.Omega.{arith}
 use Rattle.lists.specs.All.{all_to}
 use Rattle.lists.specs.Places.{nth}
-use Rattle.lists.specs.Search.{is_at}
 use Rattle.equation.specs.Guest.{guest_under}
 use Rattle.equation.specs.System.{gap_for}
 use Rattle.plan.specs.Charge.{charged}
@@ -97,12 +97,12 @@ module _ (g : Guest) (capacities periods jitters : List ℕ) (k : ℕ) (s : Seat
 
   -- the guest is fitted where it and all above are
   pub seated_fits : all_to (fitted_at capacities periods jitters) (k + 1) ≡ true
-      → is_at (guest_under (guests_take capacities periods jitters k) g.capacity g.period) ≡ true
+      → is_some (guest_under (guests_take capacities periods jitters k) g.capacity g.period) ≡ true
   unfolding fitted_at
   seated_fits a =
       let above = guests_take capacities periods jitters k in
-      ap (λ (c : ℕ). is_at (guest_under above c g.period)) (sym s.capacity)
-      ∙ ap (λ (t : ℕ). is_at (guest_under above (nth capacities k) t)) (sym s.period)
+      ap (λ (c : ℕ). is_some (guest_under above c g.period)) (sym s.capacity)
+      ∙ ap (λ (t : ℕ). is_some (guest_under above (nth capacities k) t)) (sym s.period)
       ∙ all_at (fitted_at capacities periods jitters) (k + 1) k (omega arith) a
 
 -- each guest of records in order is seated in their columns

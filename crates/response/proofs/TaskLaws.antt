@@ -1,4 +1,5 @@
 -- The search for a task's window: from load to window and back, until the load stays. Assumes nothing.
+use Rattle.std.specs.Prelude.{Option, Some, None}
 use mathlib.Core.Path.{◌≡◌, refl, sym, ◌∙◌, ap}
 use mathlib.Core.Logic.{◌⊎◌, inl, inr}
 use mathlib.Core.List.{List}
@@ -8,8 +9,6 @@ use native.Mathlib.Nat.{mul-le-mul_left}
 use native.Mathlib.Omega.{arith}
 use lib.ListN.{length}
 use Rattle.lists.specs.Places.{nth}
-use Rattle.lists.specs.declared.Found.{Found}
-use Rattle.lists.specs.declared.Found.TheVariants.{At, Nothing}
 use Rattle.rounding.specs.Edges.{Kept}
 use Rattle.rounding.specs.Asked.{asked}
 use Rattle.rounding.specs.Up.{up}
@@ -62,7 +61,7 @@ module _ (above : ℕ → ℕ) (capacity period l room : ℕ) (some : 1 ≤ capa
   unfolding window_of
   window_late h =
       let left = rest capacity l in
-      let e : guest_under above left (room - before capacity period l) ≡ Nothing =
+      let e : guest_under above left (room - before capacity period l) ≡ None =
       sym (from_under above left _ left (side_start above left) (omega (arith, load_lies.more))) in
       rw e refl
 
@@ -72,7 +71,7 @@ module _ (above : ℕ → ℕ) (capacity period l room : ℕ) (some : 1 ≤ capa
   window_large within h =
       let left = rest capacity l in
       let m = up l capacity - 1 in
-      let e : guest_under above left (room - before capacity period l) ≡ Nothing =
+      let e : guest_under above left (room - before capacity period l) ≡ None =
       sym (from_under above left _ left (side_start above left)
       (omega (arith, load_lies.more, mul-le-mul_left m within))) in
       rw e refl
@@ -89,22 +88,22 @@ module _ (above : ℕ → ℕ) (capacity period l room : ℕ) (some : 1 ≤ capa
         (omega arith, rw (e, hp, hl) (h (omega arith)))
 
     -- the window, off what was found in the last server period
-    pub window_is : (f : Found) → f ≡ guest_under above left (room - p)
+    pub window_is : (f : Option ℕ) → f ≡ guest_under above left (room - p)
         → ticks_of (later p f) ≡ ticks_of (window_of above capacity period l room)
     unfolding window_of
     window_is f e = rw (e, hp, hl) refl
 
     -- it is within the room
-    pub window_within : (f : Found) → p ≤ room → f ≡ guest_under above left (room - p) → ticks_of (later p f) ≤ room
+    pub window_within : (f : Option ℕ) → p ≤ room → f ≡ guest_under above left (room - p) → ticks_of (later p f) ≤ room
     unfolding guest_under response_of
-    window_within Nothing h e = omega arith
-    window_within (At v) h e =
+    window_within None h e = omega arith
+    window_within (Some v) h e =
         let o : Solved (guest_side above left) (room - p) v = rw (← e) at (solve_answers (guest_side above left) (room - p)) in
         omega (arith, o.high)
 
   -- no window: nothing was found in the last server period
   pub window_none : (r : ℕ) → r ≡ ticks_of (window_of above capacity period l room) → r < 1
-      → guest_under above (rest capacity l) (room - before capacity period l) ≡ Nothing
+      → guest_under above (rest capacity l) (room - before capacity period l) ≡ None
   unfolding window_of guest_under response_of
   window_none r e h = go (solve f t) refl (solve_answers f t)
     where
@@ -114,15 +113,15 @@ module _ (above : ℕ → ℕ) (capacity period l room : ℕ) (some : 1 ≤ capa
       t : ℕ
       t = room - before capacity period l
 
-      go : (g : Found) → solve f t ≡ g → Answers f t g → solve f t ≡ Nothing
-      go Nothing q a = q
-      go (At v) q a =
-          let k : r ≡ v + before capacity period l = e ∙ ap (λ (g : Found). ticks_of (later (before capacity period l) g)) q in
+      go : (g : Option ℕ) → solve f t ≡ g → Answers f t g → solve f t ≡ None
+      go None q a = q
+      go (Some v) q a =
+          let k : r ≡ v + before capacity period l = e ∙ ap (λ (g : Option ℕ). ticks_of (later (before capacity period l) g)) q in
           absurd (omega (arith, a.low))
 
   -- a window: it ends with what was found in the last server period
   pub window_found : (r : ℕ) → r ≡ ticks_of (window_of above capacity period l room) → 1 ≤ r
-      → (v : ℕ) × (guest_under above (rest capacity l) (room - before capacity period l) ≡ At v)
+      → (v : ℕ) × (guest_under above (rest capacity l) (room - before capacity period l) ≡ Some v)
       × (r ≡ before capacity period l + v) × (r ≤ room)
   unfolding window_of guest_under response_of
   window_found r e h = go (solve f t) refl (solve_answers f t)
@@ -133,13 +132,13 @@ module _ (above : ℕ → ℕ) (capacity period l room : ℕ) (some : 1 ≤ capa
       t : ℕ
       t = room - before capacity period l
 
-      go : (g : Found) → solve f t ≡ g → Answers f t g
-          → (v : ℕ) × (solve f t ≡ At v) × (r ≡ before capacity period l + v) × (r ≤ room)
-      go Nothing q a =
-          let k : r ≡ 0 = e ∙ ap (λ (g : Found). ticks_of (later (before capacity period l) g)) q in
+      go : (g : Option ℕ) → solve f t ≡ g → Answers f t g
+          → (v : ℕ) × (solve f t ≡ Some v) × (r ≡ before capacity period l + v) × (r ≤ room)
+      go None q a =
+          let k : r ≡ 0 = e ∙ ap (λ (g : Option ℕ). ticks_of (later (before capacity period l) g)) q in
           absurd (omega arith)
-      go (At v) q a =
-          let k : r ≡ v + before capacity period l = e ∙ ap (λ (g : Found). ticks_of (later (before capacity period l) g)) q in
+      go (Some v) q a =
+          let k : r ≡ v + before capacity period l = e ∙ ap (λ (g : Option ℕ). ticks_of (later (before capacity period l) g)) q in
           (v, q, omega arith, omega (arith, a.low, a.high))
 
 -- The search for the window of task i stands at w, within the room, where the task's load is l; the edges of the tasks
@@ -164,7 +163,7 @@ load_is S i w own asks e q = omega arith
 pub finds_late : (S : System) (i t : ℕ) (edge : List ℕ) (sum w : ℕ) → length edge ≡ 16 → t < w → Under (right S i) w
     → FindsWindow S i t edge sum 0
 finds_late S i t edge sum w long past under =
-    let e : Nothing ≡ solve (right S i) t = solve_none (right S i) t w past under in
+    let e : None ≡ solve (right S i) t = solve_none (right S i) t w past under in
     record { is = ap ticks_of e; long = long; stands = λ h. absurd (omega arith); kept = λ h. absurd (omega arith) }
 
 module _ {S : System} {i room : ℕ} {edge : List ℕ} {w asks l : ℕ} (s : Searching S i room edge w asks l) where
@@ -192,7 +191,7 @@ module _ {S : System} {i room : ℕ} {edge : List ℕ} {w asks l : ℕ} (s : Sea
 
     module _ (h : 1 ≤ r) where
       found : (v : ℕ)
-          × (guest_under S.above (rest S.capacity l) (room - before S.capacity S.period l) ≡ At v)
+          × (guest_under S.above (rest S.capacity l) (room - before S.capacity S.period l) ≡ Some v)
           × (r ≡ before S.capacity S.period l + v) × (r ≤ room)
       found = window_found S.above S.capacity S.period l room s.sure.some search_some r e h
 

@@ -1,11 +1,10 @@
 -- The equations as the code reads them, off lent columns and off one record, under guests that take `above v` from v
 -- ticks.
 -- Inner: no promise of an entry names this.
-use Rattle.std.specs.Prelude.{Bool, ◌&&◌, List, ℕ, ◌-◌}
+use Rattle.std.specs.Prelude.{Bool, ◌&&◌, List, ℕ, ◌-◌, is_some}
 use Rattle.lists.specs.Choice.{pick}
 use Rattle.lists.specs.Places.{nth}
 use Rattle.lists.specs.All.{all_to}
-use Rattle.lists.specs.Search.{is_at}
 use Rattle.rounding.specs.Asked.{asked}
 use Rattle.equation.specs.Guest.{guest_under}
 use Rattle.equation.specs.System.{System, task_under}
@@ -26,7 +25,7 @@ guests_take capacities periods jitters n = asked (nth capacities) (nth periods) 
 -- whether the guest at place k of the columns is fitted
 unfoldable pub fitted_at : (capacities periods jitters : List ℕ) → ℕ → Bool
 fitted_at capacities periods jitters k =
-    is_at (guest_under (guests_take capacities periods jitters k) (nth capacities k) (nth periods k))
+    is_some (guest_under (guests_take capacities periods jitters k) (nth capacities k) (nth periods k))
 
 -- a guest seen from its tasks, off columns: run being the charged runs, and late the J of each
 abbrev pub column_system : (above : ℕ → ℕ) → (capacity period : ℕ) → (run every late : List ℕ) → System
@@ -41,11 +40,11 @@ column_system above capacity period run every late = record {
 
 -- whether the first n tasks of a system are met
 unfoldable pub met_under : System → (deadline : ℕ → ℕ) → ℕ → Bool
-met_under S deadline n = all_to (λ i. is_at (task_under S i (deadline i))) n
+met_under S deadline n = all_to (λ i. is_some (task_under S i (deadline i))) n
 
 -- whether the guest of a system is fitted
 abbrev pub fitted_in : System → Bool
-fitted_in S = is_at (guest_under S.above S.capacity S.period)
+fitted_in S = is_some (guest_under S.above S.capacity S.period)
 
 -- whether the guest of a system is fitted and its first n tasks are met
 unfoldable pub accepted_in : System → (deadline : ℕ → ℕ) → ℕ → Bool

@@ -1,7 +1,6 @@
 -- Whether tasks are met, where their guest and all above are fitted.
-use Rattle.std.specs.Prelude.{Bool, ◌&&◌, ℕ}
+use Rattle.std.specs.Prelude.{Bool, ◌&&◌, ℕ, is_some}
 use Rattle.lists.specs.All.{all_to}
-use Rattle.lists.specs.Search.{is_at}
 use Rattle.plan.specs.Records.{guest_at, deadline_of}
 use Rattle.plan.specs.declared.Plan.{Plan}
 use Rattle.response.specs.Guest.{fitted}
@@ -10,7 +9,7 @@ use Rattle.response.specs.Task.{response_to}
 -- a task of the guest at place k is met, where that guest and all above are fitted, if it has a response of at most the
 -- deadline
 unfoldable pub met : Plan → ℕ → ℕ → Bool
-met p k i = is_at (response_to p k i (deadline_of (guest_at p.guests k) i))
+met p k i = is_some (response_to p k i (deadline_of (guest_at p.guests k) i))
 
 -- all tasks of the guest at place k are met, where it and all above are fitted
 unfoldable pub all_met : Plan → ℕ → Bool

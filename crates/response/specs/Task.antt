@@ -1,6 +1,5 @@
 -- The task's equation and its response: which numbers of the records the functions of the equation are.
-use Rattle.std.specs.Prelude.{ℕ, ◌-◌}
-use Rattle.lists.specs.declared.Found.{Found}
+use Rattle.std.specs.Prelude.{ℕ, ◌-◌, Option}
 use Rattle.equation.specs.System.{System, gap_for, right, task_under}
 use Rattle.plan.specs.Records.{guest_at, every_of}
 use Rattle.plan.specs.Charge.{charged}
@@ -34,7 +33,7 @@ unfoldable pub task_right : Plan → ℕ → ℕ → ℕ → ℕ
 task_right p k i w = right (system_in p k) i w
 
 -- w + J for the least window w that is its own right side, where w + J is at most `most`
-unfoldable pub response_to : Plan → ℕ → ℕ → (most : ℕ) → Found
+unfoldable pub response_to : Plan → ℕ → ℕ → (most : ℕ) → Option ℕ
 response_to p k i most = task_under (system_in p k) i most
 
 -- the response that is quoted is looked for up to the task's period
@@ -42,5 +41,5 @@ unfoldable pub limit : Guest → ℕ → ℕ
 limit g i = every_of g i
 
 -- the task's response
-unfoldable pub task_response : Plan → ℕ → ℕ → Found
+unfoldable pub task_response : Plan → ℕ → ℕ → Option ℕ
 task_response p k i = response_to p k i (limit (guest_at p.guests k) i)

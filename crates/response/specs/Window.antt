@@ -1,19 +1,16 @@
 -- What the search for a task's window gives, and hands on to the search for the task below. Inner: no promise of an
 -- entry names this.
-use Rattle.std.specs.Prelude.{◌≡◌, true, false, List, ℕ, ◌≤◌, ◌<◌, length}
+use Rattle.std.specs.Prelude.{◌≡◌, true, false, List, ℕ, ◌≤◌, ◌<◌, length, Option, Some, None, is_some}
 use Rattle.lists.specs.Places.{nth}
-use Rattle.lists.specs.Search.{is_at}
-use Rattle.lists.specs.declared.Found.{Found}
-use Rattle.lists.specs.declared.Found.TheVariants.{At, Nothing}
 use Rattle.rounding.specs.Edges.{Kept, Behind}
 use Rattle.equation.specs.Solve.{solve}
 use Rattle.equation.specs.Standing.{Stands}
 use Rattle.equation.specs.System.{System, right, task_under}
 
 -- the ticks that were found, or 0 for none
-abbrev pub ticks_of : Found → ℕ
-ticks_of Nothing = 0
-ticks_of (At w) = w
+abbrev pub ticks_of : Option ℕ → ℕ
+ticks_of None = 0
+ticks_of (Some w) = w
 
 -- The search for task i may begin at w: it stands there, and the edges of the tasks above are those of a window that is
 -- no longer.
@@ -33,5 +30,5 @@ pub record FindsWindow (S : System) (i t : ℕ) (edge : List ℕ) (sum r : ℕ) 
 pub record MetTo (S : System) (deadline : ℕ → ℕ) (from n r : ℕ) : Type 0 where
   pub low : from ≤ r
   pub high : r ≤ n
-  pub met : (j : ℕ) → from ≤ j → j < r → is_at (task_under S j (deadline j)) ≡ true
-  pub unmet : r < n → is_at (task_under S r (deadline r)) ≡ false
+  pub met : (j : ℕ) → from ≤ j → j < r → is_some (task_under S j (deadline j)) ≡ true
+  pub unmet : r < n → is_some (task_under S r (deadline r)) ≡ false

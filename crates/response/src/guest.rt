@@ -8,7 +8,6 @@ ghost use Rattle.plan.specs.Ranges.{longest};
 ghost use Rattle.response.specs.Columns.{guests_take, fitted_at};
 ghost use Rattle.response.specs.Ready.{AboveIn, EachShort, Ranged, ServerIn};
 
-use lists::{Found, is_at};
 use rounding::{moved_on, wide};
 
 // The least x of at most `most` that is the capacity and what the first n guests take from x ticks: the recurrence,
@@ -22,7 +21,7 @@ pub fn response_from(
     capacity: u32,
     from: u32,
     most: u32,
-) -> Found
+) -> Option<u32>
     requires above_in { AboveIn periods.now jitters.now n × ((1 ≤ capacity) × ((1 ≤ from) × (most ≤ longest))) }
     requires rising { Rising (guest_side (guests_take capacities.now periods.now jitters.now n) capacity) from }
     ensures { result
@@ -30,7 +29,7 @@ pub fn response_from(
         capacity most }
 {
     if most < from {
-        return Found::Nothing;
+        return None;
     }
     let mut edge = [0u32; 16];
     let mut sum: u64 = 0;
@@ -39,10 +38,10 @@ pub fn response_from(
         sum = moved_on(capacities, periods, jitters, n, x, &mut edge, sum);
         let next = wide(capacity) + sum;
         if next <= wide(x) {
-            return Found::At(x);
+            return Some(x);
         }
         if wide(most) < next {
-            return Found::Nothing;
+            return None;
         }
         x = next as u32;
     }
@@ -56,7 +55,7 @@ pub fn guest_response(
     n: usize,
     capacity: u32,
     period: u32,
-) -> Found
+) -> Option<u32>
     requires { AboveIn periods.now jitters.now n × ServerIn capacity period }
     ensures { result
         ≡ guest_under (guests_take capacities.now periods.now jitters.now n)
@@ -71,7 +70,7 @@ pub fn response_at(
     periods: &[u32; 16],
     jitters: &[u32; 16],
     k: usize,
-) -> Found
+) -> Option<u32>
     requires { ((k < 16) × (EachShort periods.now k × EachShort jitters.now k))
         × ServerIn (nth capacities.now k) (nth periods.now k) }
     ensures { result
@@ -93,7 +92,7 @@ pub fn all_fitted(
 {
     let mut k: usize = 0;
     while k < n {
-        if !is_at(response_at(capacities, periods, jitters, k)) {
+        if response_at(capacities, periods, jitters, k).is_none() {
             return false;
         }
         k += 1;

@@ -10,7 +10,6 @@ ghost use Rattle.response.specs.Ready.{Ready, AboveIn, EachShort};
 ghost use Rattle.response.specs.Window.{ticks_of, Begins, FindsWindow};
 
 use crate::guest::response_from;
-use lists::Found;
 use rounding::{moved_on, quotient, wide};
 
 // The server periods before the last one that a load takes.
@@ -42,13 +41,13 @@ fn begun(p: u32, left: u32, w: u32) -> u32
 }
 
 // The window that ends with the part found of its last server period, which starts at p, or 0 for none.
-fn window_at(p: u32, f: Found) -> u32
+fn window_at(p: u32, f: Option<u32>) -> u32
     requires { ticks_of (later p f) ≤ longest }
     ensures { result ≡ ticks_of (later p f) }
 {
     match f {
-        Found::At(v) => p + v,
-        Found::Nothing => 0,
+        Some(v) => p + v,
+        None => 0,
     }
 }
 
@@ -169,7 +168,7 @@ pub fn task_response(
     late: &[u32; 16],
     i: usize,
     most: u32,
-) -> Found
+) -> Option<u32>
     requires above_in { AboveIn periods.now jitters.now n × (i < 16) }
     requires ready { Ready (column_system (guests_take capacities.now periods.now jitters.now n) capacity period run.now
         every.now late.now) i }
@@ -186,7 +185,7 @@ pub fn task_response(
         &mut sum,
     );
     if w < 1 {
-        return Found::Nothing;
+        return None;
     }
-    Found::At(w + late[i])
+    Some(w + late[i])
 }

@@ -7,7 +7,6 @@ ghost use Rattle.response.specs.Ready.{AboveIn, InRange};
 ghost use Rattle.response.specs.Trial.{trial_of};
 
 use crate::met::first_unmet;
-use lists::{Found, is_at};
 
 // What a guest comes to with its capacity: unfit, fitted with a task that is not met, or fitted with all its tasks met.
 #[derive(Clone, Copy)]
@@ -21,7 +20,7 @@ pub enum Trial {
 // read off lent columns, run being the charged runs and late the J of each, so that a search copies nothing for a
 // capacity that it tries.
 pub fn try_guest(
-    f: Found,
+    f: Option<u32>,
     capacities: &[u32; 16],
     periods: &[u32; 16],
     jitters: &[u32; 16],
@@ -42,7 +41,7 @@ pub fn try_guest(
         capacity period run.now every.now late.now)
         (nth deadline.now) tasks }
 {
-    if !is_at(f) {
+    if f.is_none() {
         return Trial::Unfit;
     }
     let met = first_unmet(

@@ -1,12 +1,11 @@
 -- Each promise fixes the number and values that the verdict's case sets out. Assumes nothing.
+use Rattle.std.specs.Prelude.{Option, Some, None}
 use mathlib.Core.Path.{◌≡◌, refl, ap, ◌∙◌}
 use mathlib.Core.Bool.{Bool, true, false}
 use mathlib.Core.List.{[]}
 use Prim.Native.Nat.{ℕ}
 use lib.Dec.{leb}
 use Rattle.lists.specs.Choice.{pick}
-use Rattle.lists.specs.declared.Found.{Found}
-use Rattle.lists.specs.declared.Found.TheVariants.{At, Nothing}
 use Rattle.plan.specs.Told.{saying, value_of}
 use Rattle.plan.specs.Place.{place_of}
 use Rattle.plan.specs.declared.Plan.{Plan}
@@ -24,23 +23,23 @@ use Rattle.verdict.specs.declared.TaskVerdict.TheVariants as task
 use Rattle.verdict.specs.declared.Acceptance.TheVariants as plan
 
 -- a guest's response is the value
-guest_value : (f : Found) → guest_told (guest_says f) ≡ saying (value_of f)
+guest_value : (f : Option ℕ) → guest_told (guest_says f) ≡ saying (value_of f)
 unfolding guest_told
-guest_value (At x) = refl
-guest_value Nothing = refl
+guest_value (Some x) = refl
+guest_value None = refl
 
 -- a response that is quoted is the value, met or unmet
-quoted_value : (b : Bool) (r : ℕ) → task_told (quoted_by b r) ≡ saying (value_of (At r))
+quoted_value : (b : Bool) (r : ℕ) → task_told (quoted_by b r) ≡ saying (value_of (Some r))
 unfolding task_told quoted_by
 quoted_value true r = refl
 quoted_value false r = refl
 
 -- a task's response is the value, and an unjudged task has none
-task_value : (b : Bool) (deadline : ℕ) (f : Found) → task_told (task_says b deadline f) ≡ saying (pick b (value_of f) [])
+task_value : (b : Bool) (deadline : ℕ) (f : Option ℕ) → task_told (task_says b deadline f) ≡ saying (pick b (value_of f) [])
 unfolding task_told task_says
 task_value false deadline f = refl
-task_value true deadline (At r) = quoted_value (leb r deadline) r
-task_value true deadline Nothing = refl
+task_value true deadline (Some r) = quoted_value (leb r deadline) r
+task_value true deadline None = refl
 
 -- an acceptance has no value
 plan_value : (b : Bool) → plan_told (accept_says b) ≡ saying []

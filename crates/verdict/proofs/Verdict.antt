@@ -1,4 +1,5 @@
 -- How the code comes to a verdict: the way in, the test of 8, then the equations. Assumes nothing.
+use Rattle.std.specs.Prelude.{Option}
 use mathlib.Core.Path.{◌≡◌, refl, ◌∙◌, ap}
 use mathlib.Core.Bool.{Bool, true, false}
 use mathlib.Core.List.{List, [], ◌∷◌}
@@ -7,7 +8,6 @@ use native.Mathlib.Omega.{arith}
 use Rattle.lists.specs.All.{all_to}
 use Rattle.lists.specs.Places.{nth}
 use Rattle.lists.specs.Refusals.{◌or_refuse◌}
-use Rattle.lists.specs.declared.Found.{Found}
 use Rattle.plan.specs.First.{refused_by}
 use Rattle.plan.specs.Order.{plan_refusal}
 use Rattle.equation.specs.Guest.{guest_under}
@@ -38,12 +38,12 @@ use Rattle.verdict.specs.declared.TaskVerdict.TheVariants as task
 use Rattle.verdict.specs.declared.Acceptance.TheVariants as plan
 
 -- a task under an unfit guest is unjudged
-pub says_unjudged : {b : Bool} (deadline : ℕ) (f : Found) → b ≡ false → Unjudged ≡ task_says b deadline f
+pub says_unjudged : {b : Bool} (deadline : ℕ) (f : Option ℕ) → b ≡ false → Unjudged ≡ task_says b deadline f
 unfolding task_says
 says_unjudged deadline f e = rw e refl
 
 -- a task under fitted guests has the verdict of its response
-pub says_judged : {b : Bool} (deadline : ℕ) {f a : Found} {v : TaskVerdict} → b ≡ true → v ≡ task_says true deadline f
+pub says_judged : {b : Bool} (deadline : ℕ) {f a : Option ℕ} {v : TaskVerdict} → b ≡ true → v ≡ task_says true deadline f
     → f ≡ a → v ≡ task_says b deadline a
 says_judged deadline e q t = rw (e, ← t) q
 
@@ -66,7 +66,7 @@ module _ {p : Plan} {id : ℕ} {r : LookedUp} (l : LooksUp p id r) (h : r.refusa
   -- off the plan's columns
   module _ {c : Columns} (f : ColumnsOf p.guests most_guests c) {jitters : List ℕ} (late : JittersOf c jitters) where
     -- the verdict of the guest
-    pub guest_judged : {x : Found} {v : GuestVerdict}
+    pub guest_judged : {x : Option ℕ} {v : GuestVerdict}
         → x ≡ guest_under (guests_take c.capacities c.periods jitters r.place) (nth c.capacities r.place)
         (nth c.periods r.place)
         → v ≡ guest_says x

@@ -1,8 +1,6 @@
 -- The verdicts of a guest and of a task and the acceptance of a plan, each with its refusals in order.
-use Rattle.std.specs.Prelude.{Bool, true, false, [], ◌∷◌, ℕ, ◌-◌, leb}
+use Rattle.std.specs.Prelude.{Bool, true, false, [], ◌∷◌, ℕ, ◌-◌, leb, Option, Some, None}
 use Rattle.lists.specs.Refusals.{◌or_refuse◌}
-use Rattle.lists.specs.declared.Found.{Found}
-use Rattle.lists.specs.declared.Found.TheVariants.{At, Nothing}
 use Rattle.plan.specs.Records.{guest_at, deadline_of}
 use Rattle.plan.specs.First.{refuse_or}
 use Rattle.plan.specs.Order.{plan_refusal, records_then}
@@ -22,9 +20,9 @@ use Rattle.verdict.specs.declared.TaskVerdict.TheVariants as task
 use Rattle.verdict.specs.declared.Acceptance.TheVariants as plan
 
 -- a guest is fitted with its response, or unfit where it has none
-abbrev pub guest_says : Found → GuestVerdict
-guest_says (At x) = Fitted x
-guest_says Nothing = Unfit
+abbrev pub guest_says : Option ℕ → GuestVerdict
+guest_says (Some x) = Fitted x
+guest_says None = Unfit
 
 -- the verdict of a guest: the records' order, then 7
 unfoldable pub guest_verdict : Plan → ℕ → GuestVerdict
@@ -38,10 +36,10 @@ quoted_by false r = UnmetAt r
 
 -- a task is met or unmet with its response, unmet where it has none up to its period, and unjudged where its own
 -- guest or one above is unfit
-unfoldable pub task_says : Bool → (deadline : ℕ) → Found → TaskVerdict
+unfoldable pub task_says : Bool → (deadline : ℕ) → Option ℕ → TaskVerdict
 task_says false deadline f = Unjudged
-task_says true deadline (At r) = quoted_by (leb r deadline) r
-task_says true deadline Nothing = Unmet
+task_says true deadline (Some r) = quoted_by (leb r deadline) r
+task_says true deadline None = Unmet
 
 -- the verdict of a task: the records' order, then 7, then 8
 unfoldable pub task_verdict : Plan → ℕ → ℕ → TaskVerdict

@@ -12,7 +12,6 @@ ghost use Rattle.response.specs.Ready.{Seated};
 ghost use Rattle.response.specs.Seat.{Servers, SeatedIn, Sits};
 
 use crate::{GuestVerdict, TaskVerdict};
-use lists::Found;
 use plan::{Guest, has_task};
 use response::{
     Seat, Trial, all_fitted, charged_of, gaps_of, guest_response, response_at, task_response,
@@ -20,12 +19,12 @@ use response::{
 };
 
 // The verdict of a guest's response.
-fn guest_says(f: Found) -> GuestVerdict
+fn guest_says(f: Option<u32>) -> GuestVerdict
     ensures { result ≡ guest_says f }
 {
     match f {
-        Found::At(x) => GuestVerdict::Fitted(x),
-        Found::Nothing => GuestVerdict::Unfit,
+        Some(x) => GuestVerdict::Fitted(x),
+        None => GuestVerdict::Unfit,
     }
 }
 
@@ -57,12 +56,12 @@ fn quoted_by(response: u32, deadline: u32) -> TaskVerdict
 }
 
 // The verdict of a task's response under fitted guests.
-fn met_or_not(f: Found, deadline: u32) -> TaskVerdict
+fn met_or_not(f: Option<u32>, deadline: u32) -> TaskVerdict
     ensures { result ≡ task_says true deadline f }
 {
     match f {
-        Found::At(r) => quoted_by(r, deadline),
-        Found::Nothing => TaskVerdict::Unmet,
+        Some(r) => quoted_by(r, deadline),
+        None => TaskVerdict::Unmet,
     }
 }
 

@@ -1,12 +1,11 @@
 -- The answer for the smallest capacity has its meaning and is the only one that has it. Assumes nothing.
+use Rattle.std.specs.Prelude.{Option, Some, None}
 use mathlib.Core.Path.{◌≡◌, refl, sym, ◌∙◌, ap}
 use mathlib.Core.Bool.{true, false≢true}
 use mathlib.Core.List.{[], ◌∷◌}
 use Prim.Native.Nat.{ℕ, ◌≤◌, ◌<◌}
 use native.Mathlib.Omega.{arith}
 use Rattle.lists.specs.Refusals.{◌or_refuse◌}
-use Rattle.lists.specs.declared.Found.{Found}
-use Rattle.lists.specs.declared.Found.TheVariants.{At, Nothing}
 use Rattle.plan.specs.Records.{guest_at}
 use Rattle.plan.specs.declared.Plan.{Plan}
 use Rattle.response.specs.Guest.{fitted_to}
@@ -49,14 +48,14 @@ good_works p k c g =
     and_true (all_fitted (with_capacity p k c) k g.fitted) (in_time_met (with_capacity p k c) k g.met)
 
 -- what the search says is what the answer means
-search_means : (p : Plan) (k : ℕ) (f : Found) → Says (works p k) (guest_at p.guests k).period 1 f
+search_means : (p : Plan) (k : ℕ) (f : Option ℕ) → Says (works p k) (guest_at p.guests k).period 1 f
     → CapacityMeans p k (capacity_says f)
-search_means p k Nothing o = record {
+search_means p k None o = record {
   number = refl;
   nowhere = refl;
   none = λ c g. false≢true (sym (o.never c g.low (omega (arith, g.high))) ∙ good_works p k c g);
 }
-search_means p k (At c) o = record {
+search_means p k (Some c) o = record {
   works = works_good p k c o.low (omega (arith, o.high)) o.holds;
   least = λ z l g. false≢true (sym (o.first z g.low l) ∙ good_works p k z g);
 }

@@ -1,5 +1,6 @@
 -- A guest's verdict has its meaning and is the only one that has it: the search's answer is the least solution.
 -- Assumes nothing.
+use Rattle.std.specs.Prelude.{Option, Some, None}
 use mathlib.Core.Path.{◌≡◌, refl, sym, ◌∙◌, ap}
 use mathlib.Core.Bool.{true, false≢true}
 use mathlib.Core.List.{[], ◌∷◌}
@@ -8,8 +9,6 @@ use native.Mathlib.Omega.{arith}
 use lib.Dec.{eqb}
 use borrow.Author.Tests.{eq-eqb, lt-ltb, ltb-true}
 use Rattle.lists.specs.Refusals.{◌or_refuse◌}
-use Rattle.lists.specs.declared.Found.{Found}
-use Rattle.lists.specs.declared.Found.TheVariants.{At, Nothing}
 use Rattle.plan.specs.Order.{plan_refusal}
 use Rattle.plan.specs.Place.{place_of, has_guest}
 use Rattle.plan.specs.Records.{guest_at}
@@ -60,10 +59,10 @@ guest_verdict_is p id k t =
     ∙ ap (λ (j : ℕ). guest_says (guest_response p j)) (there_place p id k t)
 
 -- a response means the least solution, none that there is no solution
-response_means : (p : Plan) (k : ℕ) (f : Found) → Answers (guest_right p k) (guest_at p.guests k).period f
+response_means : (p : Plan) (k : ℕ) (f : Option ℕ) → Answers (guest_right p k) (guest_at p.guests k).period f
     → GuestMeans p k (guest_says f)
-response_means p k Nothing a = λ x s. a x s.low s.high s.solves
-response_means p k (At x) a = record {
+response_means p k None a = λ x s. a x s.low s.high s.solves
+response_means p k (Some x) a = record {
   fits = record { low = a.low; high = a.high; solves = a.sol };
   least = λ z l s. (let h : x ≤ z = a.under z s.low s.solves in omega arith);
 }

@@ -1,4 +1,5 @@
 -- A task's verdict has its meaning and is the only one that has it. Assumes nothing.
+use Rattle.std.specs.Prelude.{Option, Some, None, is_some}
 use mathlib.Core.Path.{◌≡◌, refl, sym, ◌∙◌, ap, subst}
 use mathlib.Core.Bool.{Bool, true, false, false≢true}
 use mathlib.Core.List.{[], ◌∷◌}
@@ -7,9 +8,6 @@ use native.Mathlib.Omega.{arith}
 use lib.Dec.{leb}
 use borrow.Author.Tests.{leb-true, leb-false}
 use Rattle.lists.specs.Refusals.{◌or_refuse◌}
-use Rattle.lists.specs.Search.{is_at}
-use Rattle.lists.specs.declared.Found.{Found}
-use Rattle.lists.specs.declared.Found.TheVariants.{At, Nothing}
 use Rattle.equation.specs.Solve.{solve}
 use Rattle.plan.specs.Place.{place_of, has_guest, has_task}
 use Rattle.equation.specs.System.{response_of, later, task_under}
@@ -54,12 +52,12 @@ task_verdict_is p id k i t h =
 
 -- under fitted guests a response means the least solution, met or unmet by the deadline, and none means that there is
 -- no solution up to the period
-response_means : (p : Plan) (k i : ℕ) → AllFit p k → (f : Found)
+response_means : (p : Plan) (k i : ℕ) → AllFit p k → (f : Option ℕ)
     → Answers (task_right p k i) (limit (guest_at p.guests k) i - gap (guest_at p.guests k) i) f
     → TaskMeans p k i (task_says true (deadline_of (guest_at p.guests k) i) (later (gap (guest_at p.guests k) i) f))
 unfolding task_says limit response_of
-response_means p k i all Nothing a = record { fitted = all; none = λ w s h. a w s.low (omega arith) s.solves }
-response_means p k i all (At w) a = by (leb r deadline) refl
+response_means p k i all None a = record { fitted = all; none = λ w s h. a w s.low (omega arith) s.solves }
+response_means p k i all (Some w) a = by (leb r deadline) refl
   where
     r : ℕ
     r = w + gap (guest_at p.guests k) i
@@ -82,7 +80,7 @@ response_means p k i all (At w) a = by (leb r deadline) refl
     by false e = unfold quoted_by in record { quoted = quoted; late = omega (arith, leb-false r deadline e) }
 
 -- under an unfit guest unjudged has its meaning
-unjudged_means : (p : Plan) (k i deadline : ℕ) (f : Found) → fitted_to p k ≡ false
+unjudged_means : (p : Plan) (k i deadline : ℕ) (f : Option ℕ) → fitted_to p k ≡ false
     → TaskMeans p k i (task_says false deadline f)
 unfolding task_says fitted_to
 unjudged_means p k i deadline f e =
@@ -209,11 +207,11 @@ met_in_time p k e i h =
     room : ℕ
     room = deadline_of (guest_at p.guests k) i - gap (guest_at p.guests k) i
 
-    go : (f : Found) → solve (task_right p k i) room ≡ f → Answers (task_right p k i) room f → met p k i ≡ true
+    go : (f : Option ℕ) → solve (task_right p k i) room ≡ f → Answers (task_right p k i) room f → met p k i ≡ true
         → (w : ℕ) × TaskSolves p k i w × InTime p k i w
-    go Nothing q a m = unfold met response_to task_under task_right in
-        absurd (false≢true (sym (ap (λ (f : Found). is_at (later (gap (guest_at p.guests k) i) f)) q) ∙ m))
-    go (At w) q a m = (w, record { low = a.low; solves = a.sol }, omega (arith, a.low, a.high))
+    go None q a m = unfold met response_to task_under task_right in
+        absurd (false≢true (sym (ap (λ (f : Option ℕ). is_some (later (gap (guest_at p.guests k) i) f)) q) ∙ m))
+    go (Some w) q a m = (w, record { low = a.low; solves = a.sol }, omega (arith, a.low, a.high))
 
 -- a guest whose tasks have solutions in time passes the test
 pub in_time_met : (p : Plan) (k : ℕ) → AllInTime p k → all_met p k ≡ true

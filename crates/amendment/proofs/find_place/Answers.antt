@@ -1,7 +1,7 @@
 -- `amendment::find_place` meets its contract: the pair's refusal, or what the searches found. Assumes nothing.
+use Rattle.std.specs.Prelude.{Option}
 use mathlib.Core.Path.{ap, ◌∙◌}
 use native.Mathlib.Omega.{arith}
-use Rattle.lists.specs.declared.Found.{Found}
 use Rattle.blockfile.specs.File.{first_with}
 use Rattle.amendment.specs.Finder.{standing}
 use Rattle.amendment.proofs.Pair.{pair_in}
@@ -24,5 +24,5 @@ returns c =
     let a = c.args in
     place_stands a.plan.now a.sheet.now a.id _ _ c.refusal_of-r.ensures c.if-r-gt0.false
     (c.standing.ensures
-    ∙ ap (λ (f : Found). standing f c.first_with-2.result) c.first_with.ensures
+    ∙ ap (λ (f : Option ℕ). standing f c.first_with-2.result) c.first_with.ensures
     ∙ ap (standing (first_with a.sheet.now a.id)) c.first_with-2.ensures)

@@ -2,10 +2,10 @@
 use Rattle.amendment.specs.Pair.{is_found_at}
 use Rattle.amendment.proofs.pairs.is_found_at.Goals as goal
 
-pub returns-in-At : goal.returns-in-At
+pub returns-in-Some : goal.returns-in-Some
 unfolding is_found_at
-returns-in-At c = cc
+returns-in-Some c = cc
 
-pub returns-in-Nothing : goal.returns-in-Nothing
+pub returns-in-None : goal.returns-in-None
 unfolding is_found_at
-returns-in-Nothing c = cc
+returns-in-None c = cc

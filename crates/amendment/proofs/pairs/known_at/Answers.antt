@@ -1,6 +1,6 @@
 -- `amendment::pairs::known_at` meets its contract: the part is the sheet's block k. Assumes nothing.
+use Rattle.std.specs.Prelude.{Option}
 use mathlib.Core.Path.{ap, ◌∙◌}
-use Rattle.lists.specs.declared.Found.{Found}
 use Rattle.block.specs.Reading.{place_in}
 use Rattle.blockfile.specs.File.{id_at, first_with}
 use Rattle.amendment.specs.Pair.{is_found_at}
@@ -14,7 +14,7 @@ pub returns : goal.returns
 returns c =
     let a = c.args in
     c.is_found_at.ensures
-    ∙ ap (λ (x : Found). is_found_at x c.place_of.result)
+    ∙ ap (λ (x : Option ℕ). is_found_at x c.place_of.result)
     (c.first_with-f.ensures ∙ ap (first_with a.plan.now) c.id_at.ensures)
     ∙ ap (is_found_at (first_with a.plan.now (id_at a.sheet.now a.k)))
     (c.place_of.ensures ∙ ap place_in c.block_at.ensures)

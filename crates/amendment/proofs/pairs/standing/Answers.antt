@@ -2,14 +2,14 @@
 use Rattle.amendment.specs.Finder.{standing}
 use Rattle.amendment.proofs.pairs.standing.Goals as goal
 
-pub returns-in-At : goal.returns-in-At
+pub returns-in-Some : goal.returns-in-Some
 unfolding standing
-returns-in-At c = cc
+returns-in-Some c = cc
 
-pub returns-in-At-plan : goal.returns-in-At-plan
+pub returns-in-Some-plan : goal.returns-in-Some-plan
 unfolding standing
-returns-in-At-plan c = cc
+returns-in-Some-plan c = cc
 
-pub returns-in-Nothing-plan : goal.returns-in-Nothing-plan
+pub returns-in-None-plan : goal.returns-in-None-plan
 unfolding standing
-returns-in-Nothing-plan c = cc
+returns-in-None-plan c = cc

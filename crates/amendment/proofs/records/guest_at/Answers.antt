@@ -10,20 +10,20 @@ pub guest_at-requires : goal.guest_at-requires
 guest_at-requires c =
     let a = c.args in
     (found_at a.sheet.now (id_at a.plan.now a.k) _
-    (sym (c.first_with.ensures ∙ ap (first_with a.sheet.now) c.id_at.ensures) ∙ c.in-At.is)).0
+    (sym (c.first_with.ensures ∙ ap (first_with a.sheet.now) c.id_at.ensures) ∙ c.in-Some.is)).0
 
-pub returns-in-At : goal.returns-in-At
-returns-in-At c =
+pub returns-in-Some : goal.returns-in-Some
+returns-in-Some c =
     let a = c.args in
     c.guest_at.ensures
     ∙ ap guest_of
     (from_sheet a.plan.now a.sheet.now a.k _
-    (sym (c.first_with.ensures ∙ ap (first_with a.sheet.now) c.id_at.ensures) ∙ c.in-At.is))
+    (sym (c.first_with.ensures ∙ ap (first_with a.sheet.now) c.id_at.ensures) ∙ c.in-Some.is))
 
-pub returns-in-Nothing : goal.returns-in-Nothing
-returns-in-Nothing c =
+pub returns-in-None : goal.returns-in-None
+returns-in-None c =
     let a = c.args in
-    c.guest_at-in-Nothing.ensures
+    c.guest_at-in-None.ensures
     ∙ ap guest_of
     (from_plan a.plan.now a.sheet.now a.k
-    (sym (c.first_with.ensures ∙ ap (first_with a.sheet.now) c.id_at.ensures) ∙ c.in-Nothing.is))
+    (sym (c.first_with.ensures ∙ ap (first_with a.sheet.now) c.id_at.ensures) ∙ c.in-None.is))

@@ -1,7 +1,7 @@
 -- `capacity::search::fits` meets its contract: a guest that is fitted at a capacity is fitted at each smaller one. Assumes
 -- nothing.
+use Rattle.std.specs.Prelude.{is_some}
 use mathlib.Core.Path.{sym, ◌∙◌, ap}
-use Rattle.lists.specs.Search.{is_at}
 use Rattle.response.specs.Columns.{guests_take}
 use Rattle.capacity.specs.Search.{fits_at}
 use Rattle.response.proofs.GuestLaws.{take_grows}
@@ -16,4 +16,4 @@ returns-then-best-gt0 c =
 
 pub returns : goal.returns
 unfolding fits_at
-returns c = c.is_at.ensures ∙ ap is_at c.guest_response.ensures
+returns c = c.is_at.ensures ∙ ap is_some c.guest_response.ensures

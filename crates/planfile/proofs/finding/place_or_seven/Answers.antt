@@ -1,8 +1,8 @@
 -- `planfile::finding::place_or_seven` meets its contract, by what was found. Assumes nothing.
 use Rattle.planfile.proofs.finding.place_or_seven.Goals as goal
 
-pub returns-in-At : goal.returns-in-At
-returns-in-At c = cc
+pub returns-in-Some : goal.returns-in-Some
+returns-in-Some c = cc
 
-pub returns-in-Nothing : goal.returns-in-Nothing
-returns-in-Nothing c = cc
+pub returns-in-None : goal.returns-in-None
+returns-in-None c = cc

@@ -1,10 +1,10 @@
 -- `response::met::first_unmet` meets its contract: the tasks passed are met, and the search for the next may begin where
 -- that for the last ended. Assumes nothing.
+use Rattle.std.specs.Prelude.{is_some}
 use mathlib.Core.Path.{sym, ap}
 use Prim.Native.Nat.{◌+◌}
 use native.Mathlib.Omega.{arith}
 use Rattle.lists.specs.Places.{nth}
-use Rattle.lists.specs.Search.{is_at}
 use Rattle.response.specs.Columns.{guests_take, column_system}
 use Rattle.response.proofs.GuestLaws.{take_grows}
 use Rattle.response.proofs.MetLaws.{begins_fresh, begins_below, finds_none, finds_at, met_none, met_next, met_ends}
@@ -33,7 +33,7 @@ window_from-w-requires c =
 pub returns-then-w-lt1 : goal.returns-then-w-lt1
 returns-then-w-lt1 c =
     met_ends c.loop-i.invariant.0
-    (λ h. sym (ap is_at
+    (λ h. sym (ap is_some
     (finds_none (column_system (guests_take c.args.capacities.now c.args.periods.now c.args.jitters.now c.args.k)
     c.args.capacity c.args.period c.args.run.now c.args.every.now c.args.late.now) c.loop-i.i (nth c.args.deadline.now c.loop-i.i) c.window_from-w.ensures c.if-w-lt1.true)))
 
@@ -43,7 +43,7 @@ loop-i-preserved c =
     let h = c.loop-i-test.true in
     let found = c.window_from-w.ensures in
     let most = nth c.args.deadline.now i in (
-      met_next c.loop-i.invariant.0 h (sym (ap is_at (finds_at (column_system (guests_take c.args.capacities.now c.args.periods.now c.args.jitters.now c.args.k)
+      met_next c.loop-i.invariant.0 h (sym (ap is_some (finds_at (column_system (guests_take c.args.capacities.now c.args.periods.now c.args.jitters.now c.args.k)
           c.args.capacity c.args.period c.args.run.now c.args.every.now c.args.late.now) i most found (omega arith)))),
       λ b. begins_below (column_system (guests_take c.args.capacities.now c.args.periods.now c.args.jitters.now c.args.k)
           c.args.capacity c.args.period c.args.run.now c.args.every.now c.args.late.now) i most found (take_grows _ _ _ _) (c.requires.each_short.1.asks i h) (c.requires.by_index i h)

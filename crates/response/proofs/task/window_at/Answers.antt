@@ -5,8 +5,8 @@ use Rattle.response.proofs.task.window_at.Goals as goal
 
 pub overflow_add-result : goal.overflow_add-result
 unfolding response_of
-overflow_add-result c = let h = rw c.in-At.is at c.requires in omega (arith, h)
+overflow_add-result c = let h = rw c.in-Some.is at c.requires in omega (arith, h)
 
-pub returns-in-At : goal.returns-in-At
+pub returns-in-Some : goal.returns-in-Some
 unfolding response_of
-returns-in-At c = rw c.in-At.is (omega arith)
+returns-in-Some c = rw c.in-Some.is (omega arith)

@@ -3,10 +3,10 @@ use mathlib.Core.Path.{refl}
 use Rattle.verdict.specs.Verdict.{task_says}
 use Rattle.verdict.proofs.judge.met_or_not.Goals as goal
 
-pub returns-in-At : goal.returns-in-At
+pub returns-in-Some : goal.returns-in-Some
 unfolding task_says
-returns-in-At c = rw c.in-At.is c.quoted_by.ensures
+returns-in-Some c = rw c.in-Some.is c.quoted_by.ensures
 
-pub returns-in-Nothing : goal.returns-in-Nothing
+pub returns-in-None : goal.returns-in-None
 unfolding task_says
-returns-in-Nothing c = rw c.in-Nothing.is refl
+returns-in-None c = rw c.in-None.is refl
