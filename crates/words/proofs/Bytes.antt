@@ -1,5 +1,5 @@
 -- Laws of the bytes of words: words and bytes go over into each other and back. Assumes nothing.
-use Rattle.std.proofs.Common.{◌≡◌, ℕ, zero, suc, ◌+◌, ◌*◌, ◌/◌, ◌%◌, ◌<◌, ◌≤◌, ◌≢◌, List, [], ◌∷◌, ◌++◌, length, get_or, take, drop, set, replicate, sym, refl, ap, ◌∙◌, ⊎_elim, append_assoc, mod-eq_of_lt, eq-or-lt_of_le, add-one, arith, length-append, get_or-set_other, get_or-set_same}
+use Rattle.std.proofs.Common.{◌≡◌, ℕ, zero, suc, ◌+◌, ◌*◌, ◌/◌, ◌%◌, ◌<◌, ◌≤◌, ◌≢◌, List, [], ◌∷◌, ◌++◌, length, get_or, take, set, replicate, sym, refl, ap, ◌∙◌, ⊎_elim, append_assoc, mod-eq_of_lt, eq-or-lt_of_le, arith, length-append, get_or-set_other, get_or-set_same}
 use native.Mathlib.Nat.{div-div-eq-div-mul}
 use lib.ListN.{replicate-append-replicate}
 use Rattle.lists.specs.Places.{nth}
@@ -156,18 +156,6 @@ pub put_set : (x : List ℕ) (n k w : ℕ) (t : List ℕ) → length x ≡ n →
 put_set x n k w t e l =
     put_among (nth x) (nth (set x k w)) n k w t l (get_or-set_same x k w 0 (omega arith))
     (λ j o. get_or-set_other x k j w 0 o)
-
--- One byte more is zero.
-pub zeros_next : (n : ℕ) (b : List ℕ) → n < length b
-    → set (replicate n 0 ++ drop n b) n 0 ≡ replicate (suc n) 0 ++ drop (suc n) b
-zeros_next zero (x ∷ b) h = refl
-zeros_next (suc n) (x ∷ b) h = ap (λ (r : List ℕ). 0 ∷ r) (zeros_next n b (omega arith))
-zeros_next n [] h = absurd (omega arith)
-
--- A loop's turn.
-pub zeros_turn : (n : ℕ) (b₀ b : List ℕ) → n < length b₀ → b ≡ replicate n 0 ++ drop n b₀
-    → set b n 0 ≡ replicate (n + 1) 0 ++ drop (n + 1) b₀
-zeros_turn n b₀ b h e = rw (e, add-one n) (zeros_next n b₀ h)
 
 -- Zero bytes are zero words.
 pub bytes_zeros : (f : ℕ → ℕ) (n : ℕ) → ((k : ℕ) → k < n → f k ≡ 0) → replicate (4 * n) 0 ≡ bytes_of f n

@@ -1,9 +1,10 @@
 -- Laws of one word put into bytes: its own bytes, and those before and behind it. Assumes nothing.
-use Rattle.std.proofs.Common.{◌≡◌, ℕ, ◌+◌, ◌*◌, ◌/◌, ◌%◌, ◌<◌, ◌≤◌, ◌≢◌, List, ◌++◌, length, set, ap, ◌∙◌, ⊎_elim, arith, length-set, get_or-set_other, get_or-set_same}
+use Rattle.std.proofs.Common.{◌≡◌, ℕ, zero, suc, ◌+◌, ◌*◌, ◌/◌, ◌%◌, ◌<◌, ◌≤◌, ◌≢◌, List, [], ◌∷◌, ◌++◌, length, set, refl, ap, ◌∙◌, ⊎_elim, arith, length-set, get_or-set_other, get_or-set_same}
 use native.Mathlib.Decide.{dec_lt}
 use lib.Seq.{set-append_left, set-get_or}
 use Rattle.lists.specs.Places.{nth}
-use Rattle.words.specs.Bytes.{Bytes, with_u32, with_word}
+use borrow.Rule.Slice.PartMut.{put_mid}
+use Rattle.words.specs.Bytes.{Bytes, bytes4, with_u32, with_word}
 use Rattle.words.specs.Word.{word_wrap, u32_at, word}
 use Rattle.lists.proofs.Places.{set_get}
 use Rattle.words.proofs.Bytes.{join4_mod, split4}
@@ -129,3 +130,16 @@ with_own b i h =
 pub word_own : (b : List ℕ) (k : ℕ) → Bytes b → with_word b k (word b k) ≡ b
 unfolding word
 word_own b k h = with_own b (4 * k) h
+
+-- The four bytes put in one after the other are put in as a part.
+pub with_part : (b : List ℕ) (i w : ℕ) → i + 4 ≤ length b → put_mid i 4 b (bytes4 w) ≡ with_u32 b i w
+with_part (a ∷ b ∷ c ∷ d ∷ t) zero w h = refl
+with_part (x ∷ b) (suc i) w h =
+    let s1 : suc i + 1 ≡ suc (i + 1) = omega arith in
+    let s2 : suc i + 2 ≡ suc (i + 2) = omega arith in
+    let s3 : suc i + 3 ≡ suc (i + 3) = omega arith in
+    rw (s1, s2, s3) (ap (λ (r : List ℕ). x ∷ r) (with_part b i w (omega arith)))
+with_part [] i w h = absurd (omega arith)
+with_part (a ∷ []) zero w h = absurd (omega arith)
+with_part (a ∷ b ∷ []) zero w h = absurd (omega arith)
+with_part (a ∷ b ∷ c ∷ []) zero w h = absurd (omega arith)

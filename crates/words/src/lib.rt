@@ -1,24 +1,17 @@
 // Little-endian words in lent bytes: read, written, and summed modulo 2 to the 32.
 #![tactic(auto)]
 
-ghost use Rattle.std.specs.Prelude.{◌≡◌, ◌+◌, ◌*◌, ◌<◌, ◌≤◌, ◌++◌, length, drop, replicate};
+ghost use Rattle.std.specs.Prelude.{◌≡◌, ◌+◌, ◌*◌, ◌≤◌, ◌++◌, length, drop, replicate};
 ghost use Rattle.words.specs.Word.{u32_at, word};
 ghost use Rattle.words.specs.Bytes.{with_u32, with_word};
 ghost use Rattle.words.specs.Wrap.{wrapped, complement};
-
-// A byte in 32 bits.
-fn wide(x: u8) -> u32
-    ensures { (result ≡ x) × (result < 256) }
-{
-    x as u32
-}
 
 // The word whose bytes start at i.
 pub fn get_u32(b: &[u8], i: usize) -> u32
     requires { i + 4 ≤ length b.now }
     ensures { result ≡ u32_at b.now i }
 {
-    wide(b[i]) + 256 * wide(b[i + 1]) + 65536 * wide(b[i + 2]) + 16777216 * wide(b[i + 3])
+    u32::from_le_bytes([b[i], b[i + 1], b[i + 2], b[i + 3]])
 }
 
 // Word k.
@@ -34,10 +27,7 @@ pub fn put_u32(b: &mut [u8], i: usize, w: u32)
     requires { i + 4 ≤ length b.old }
     ensures { b.new ≡ with_u32 b.old i w }
 {
-    b[i] = (w % 256) as u8;
-    b[i + 1] = (w / 256 % 256) as u8;
-    b[i + 2] = (w / 65536 % 256) as u8;
-    b[i + 3] = (w / 16777216 % 256) as u8;
+    b[i..i + 4].copy_from_slice(&w.to_le_bytes());
 }
 
 // Word k set to w.
@@ -54,10 +44,8 @@ pub fn sum_words(b: &[u8], n: usize) -> u32
     ensures { result ≡ wrapped (word b.now) n }
 {
     let mut sum: u32 = 0;
-    let mut k = 0;
-    while k < n {
-        sum = std::num::wrapping_add_u32(sum, word_at(b, k));
-        k += 1;
+    for k in 0..n {
+        sum = sum.wrapping_add(word_at(b, k));
     }
     sum
 }
@@ -66,7 +54,7 @@ pub fn sum_words(b: &[u8], n: usize) -> u32
 pub fn complement_of(sum: u32) -> u32
     ensures { result ≡ complement sum }
 {
-    std::num::wrapping_sub_u32(0, sum)
+    0u32.wrapping_sub(sum)
 }
 
 // The first n bytes set to zero.
@@ -74,9 +62,5 @@ pub fn put_zeros(b: &mut [u8], n: usize)
     requires { n ≤ length b.old }
     ensures { b.new ≡ replicate n 0 ++ drop n b.old }
 {
-    let mut i = 0;
-    while i < n {
-        b[i] = 0;
-        i += 1;
-    }
+    b[..n].fill(0);
 }

@@ -1,12 +1,9 @@
--- `words::put_u32` meets its contract: a store keeps the length, so the next one is within it. Assumes nothing.
-use Rattle.std.proofs.Common.{arith, length-set}
+-- `words::put_u32` meets its contract: the word's four bytes are put in as a part. Assumes nothing.
+use Rattle.std.proofs.Common.{◌≡◌, ◌+◌, ◌-◌, ◌∙◌, arith}
+use Rattle.words.proofs.WithWord.{with_part}
 use Rattle.words.proofs.put_u32.Goals as goal
 
-pub bounds-b-i-2 : goal.bounds-b-i-2
-bounds-b-i-2 c = simp length-set (omega arith)
-
-pub bounds-b-i-3 : goal.bounds-b-i-3
-bounds-b-i-3 c = simp length-set (omega arith)
-
-pub bounds-b-i-4 : goal.bounds-b-i-4
-bounds-b-i-4 c = simp length-set (omega arith)
+pub returns : goal.returns
+returns c =
+    let e : c.args.i + 4 - c.args.i ≡ 4 = omega arith in
+    rw (e, c.copy_from_slice.ensures.after ∙ c.to_le_bytes.ensures) (with_part c.args.b.now c.args.i c.args.w c.requires)
