@@ -1,7 +1,7 @@
 -- What the code reads off columns and records is what the definitions say of the plan. Assumes nothing.
 use Rattle.std.specs.Prelude.{Option, is_some}
 use mathlib.Core.Path.{◌≡◌, refl, sym, ◌∙◌, ap, fun_ext}
-use mathlib.Core.Bool.{Bool, ◌&&◌}
+use mathlib.Core.Bool.{Bool, ◌&&◌, not}
 use mathlib.Core.List.{List}
 use Prim.Native.Nat.{ℕ, suc, ◌+◌, ◌-◌, ◌≤◌, ◌<◌}
 use native.Mathlib.Numerals.{add-one}
@@ -64,9 +64,9 @@ accepted_alike S S' deadline n a =
     (all_ext _ _ n (λ i h. ap is_some (task_alike S S' n i h a (deadline i))))
     ∙ rw (a.capacity, a.period, a.above) refl
 
--- what the code's test of an answer says of the answer
-pub test_is : {f a : Option ℕ} {r b : Bool} → f ≡ a → r ≡ is_some f → r ≡ b → is_some a ≡ b
-test_is e q t = ap is_some (sym e) ∙ sym q ∙ t
+-- what the code's test for no answer says of the answer
+pub test_is : {f a : Option ℕ} {r b : Bool} → f ≡ a → is_some f ≡ not r → r ≡ b → is_some a ≡ not b
+test_is e q t = ap is_some (sym e) ∙ q ∙ ap not t
 
 -- a guest of a plan is accepted where it is fitted and all its tasks are met
 pub accepted_is : (p : Plan) (k : ℕ)

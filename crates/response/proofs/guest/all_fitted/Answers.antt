@@ -16,16 +16,16 @@ response_at-requires c =
       s.1 _ c.loop-k-test.true,
     )
 
-pub returns-then-not-is_at : goal.returns-then-not-is_at
+pub returns-then-is_none : goal.returns-then-is_none
 unfolding fitted_at
-returns-then-not-is_at c =
+returns-then-is_none c =
     all_fails _ _ _ c.loop-k-test.true
-    (test_is c.response_at.ensures c.is_at.ensures (c.if-not-is_at.true))
+    (test_is c.response_at.ensures c.is_none.ensures (c.if-is_none.true))
 
 pub loop-k-preserved : goal.loop-k-preserved
 unfolding fitted_at
 loop-k-preserved c =
-    let fits = test_is c.response_at.ensures c.is_at.ensures (c.if-not-is_at.false) in
+    let fits = test_is c.response_at.ensures c.is_none.ensures (c.if-is_none.false) in
     (search rules, all_next _ _ c.loop-k.invariant.1 fits)
 
 pub returns : goal.returns

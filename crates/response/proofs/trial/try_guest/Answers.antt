@@ -9,10 +9,10 @@ use Rattle.response.proofs.MetLaws.{met_all, met_not}
 use Rattle.response.proofs.TrialLaws.{trial_is}
 use Rattle.response.proofs.trial.try_guest.Goals as goal
 
-pub returns-then-not-is_at : goal.returns-then-not-is_at
+pub returns-then-is_none : goal.returns-then-is_none
 unfolding trial_by
-returns-then-not-is_at c =
-    trial_is _ _ _ (test_is c.requires.f_value c.is_at.ensures (c.if-not-is_at.true)) refl
+returns-then-is_none c =
+    trial_is _ _ _ (test_is c.requires.f_value c.is_none.ensures (c.if-is_none.true)) refl
 
 pub first_unmet-met-requires : goal.first_unmet-met-requires
 first_unmet-met-requires c =
@@ -21,18 +21,18 @@ first_unmet-met-requires c =
       above_in = (c.requires.above_in.0, omega arith);
       by_index =
           guest_ready (guests_take _ _ _ _) _ _ _ c.args.every.now _ _ _ range
-          (test_is c.requires.f_value c.is_at.ensures (c.if-not-is_at.false));
+          (test_is c.requires.f_value c.is_none.ensures (c.if-is_none.false));
       each_short = (range.gaps, range.tasks);
     }
 
 pub returns-then-tasks-met : goal.returns-then-tasks-met
 unfolding trial_by
 returns-then-tasks-met c =
-    trial_is _ _ _ (test_is c.requires.f_value c.is_at.ensures (c.if-not-is_at.false))
+    trial_is _ _ _ (test_is c.requires.f_value c.is_none.ensures (c.if-is_none.false))
     (met_all _ _ _ _ c.first_unmet-met.ensures c.if-tasks-met.true)
 
 pub returns : goal.returns
 unfolding trial_by
 returns c =
-    trial_is _ _ _ (test_is c.requires.f_value c.is_at.ensures (c.if-not-is_at.false))
+    trial_is _ _ _ (test_is c.requires.f_value c.is_none.ensures (c.if-is_none.false))
     (met_not _ _ _ _ c.first_unmet-met.ensures (omega (arith, c.if-tasks-met.false)))
