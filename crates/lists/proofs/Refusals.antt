@@ -2,9 +2,10 @@
 use mathlib.Core.Path.{◌≡◌, refl}
 use mathlib.Core.Bool.{Bool, true, false}
 use mathlib.Core.List.{List, [], ◌∷◌, ◌++◌}
-use Prim.Native.Nat.{ℕ, ◌<◌}
+use Prim.Native.Nat.{ℕ, zero, suc, ◌<◌}
 use native.Mathlib.Omega.{arith}
-use Rattle.lists.specs.Refusals.{Test, unless, refusal, ◌or_refuse◌}
+use Rattle.std.specs.Prelude.{Ok, Err}
+use Rattle.lists.specs.Refusals.{Test, unless, refusal, ◌or_refuse◌, unless_number}
 
 -- where no tests are left the number is 0
 pub none_left : refusal [] ≡ 0
@@ -45,3 +46,13 @@ tests_first (t ∷ ts) ys h = first_by t.passes t.number (tests_first ts ys) h
     first_by : (b : Bool) (n : ℕ) {x y : ℕ} → (0 < x → y ≡ x) → 0 < unless b n x → unless b n y ≡ unless b n x
     first_by true n go h = go h
     first_by false n go h = refl
+
+-- An outcome that is no number: the number is 0, and it is what was asked for.
+pub ok_number : {A : Type 0} (n : ℕ) {v w : A} → Ok w ≡ unless_number n v → (n ≡ 0) × (w ≡ v)
+ok_number zero e = (refl, cc)
+ok_number (suc n) e = absurd cc
+
+-- An outcome that is a number: it is the one that refuses.
+pub err_number : {A : Type 0} (n : ℕ) (v : A) {m : ℕ} → Err m ≡ unless_number n v → (m ≡ n) × (0 < n)
+err_number zero v e = absurd cc
+err_number (suc n) v e = (cc, omega arith)

@@ -12,7 +12,8 @@ use lib.Dec.{ltb}
 use borrow.Author.Tests.{lt-ltb}
 use Rattle.lists.specs.Refusals.{Test, refusal, ◌or_refuse◌}
 use Rattle.plan.specs.declared.Refusal.{Refusal}
-use Rattle.plan.specs.First.{refused, fine, or_else, first_refused, refused_by}
+use Rattle.plan.specs.First.{refused, fine, or_else, first_refused, refused_by, refused_or, unless_refused}
+use Rattle.std.specs.Prelude.{Ok, Err}
 use Rattle.lists.proofs.All.{and_true}
 use Rattle.lists.proofs.Refusals.{none_left, go_on, stop}
 
@@ -192,3 +193,38 @@ pub refused_told : {A B : Type 0} (f : A → B) (refuse : ℕ → ℕ → A) (n 
 unfolding refused_by
 refused_told f refuse zero k v u e = e
 refused_told f refuse (suc n) k v u e = refl
+
+-- an outcome that a refusal ends
+module _ {A : Type 0} where
+  ok_by : (n k : ℕ) {v w : A} → Ok w ≡ refused_or n k v → (n ≡ 0) × (w ≡ v)
+  ok_by zero k e = (refl, cc)
+  ok_by (suc n) k e = absurd cc
+
+  err_by : (n k : ℕ) (v : A) {s : Refusal} → Err s ≡ refused_or n k v → (s ≡ refused n k) × (0 < n)
+  err_by zero k v e = absurd cc
+  err_by (suc n) k v e = (cc, omega arith)
+
+  by_ok : (n k : ℕ) (v : A) → n ≤ 0 → Ok v ≡ refused_or n k v
+  by_ok zero k v h = refl
+  by_ok (suc n) k v h = absurd (omega arith)
+
+  by_err : (n k : ℕ) (v : A) → 0 < n → Err (refused n k) ≡ refused_or n k v
+  by_err zero k v h = absurd (omega arith)
+  by_err (suc n) k v h = refl
+
+  module _ (r : Refusal) where
+    -- an outcome that is no refusal: the number is 0, and it is what was asked for
+    pub ok_says : {v w : A} → Ok w ≡ unless_refused r v → (r.number ≡ 0) × (w ≡ v)
+    ok_says = ok_by r.number r.place
+
+    -- an outcome that is a refusal: it is the one that ends it
+    pub err_says : (v : A) {s : Refusal} → Err s ≡ unless_refused r v → (s ≡ r) × (0 < r.number)
+    err_says = err_by r.number r.place
+
+    -- number 0 leaves what was asked for
+    pub ok_unless : (v : A) → r.number ≤ 0 → Ok v ≡ unless_refused r v
+    ok_unless = by_ok r.number r.place
+
+    -- a number above 0 refuses
+    pub err_unless : (v : A) {s : Refusal} → s ≡ r → 0 < s.number → Err s ≡ unless_refused r v
+    err_unless v {s} e h = rw e (by_err r.number r.place v (rw e at h))

@@ -16,9 +16,11 @@ use Rattle.plan.specs.Ranges.{most_guests, within, guest_ok, tasks_ok}
 use Rattle.plan.specs.Filled.{Filled}
 use Rattle.plan.specs.First.{refused, fine, or_else, first_refused, refused_by, refuse_or}
 use Rattle.plan.specs.Order.{new_id, number_of, guest_number, counted_by, plan_refusal, records_then}
+use Rattle.std.specs.Prelude.{Ok}
+use Rattle.plan.specs.Promises.{Checks}
 use Rattle.lists.proofs.All.{and_left, and_right, and_true, and_false_left, and_false_right, all_turn, all_ext}
 use Rattle.lists.proofs.Refusals.{none_left, go_on, stop, passed}
-use Rattle.plan.proofs.First.{none_refused, first_fine, after_zero, no_number}
+use Rattle.plan.proofs.First.{none_refused, first_fine, after_zero, no_number, ok_says}
 use Rattle.plan.proofs.RangesLaws.{within_says, GuestIn, guest_says_lem}
 
 -- the number of one guest, by what its tests come to
@@ -118,6 +120,10 @@ plan_in p e =
       guests = λ k h. (number_none p.guests k (numbers_none p e k h)).0;
       new = λ k h. (number_none p.guests k (numbers_none p e k h)).1;
     }
+
+-- records that the check lets pass are in order
+pub check_order : (p : Plan) → Checks p (Ok tt) → PlanIn p
+check_order p e = plan_in p (ok_says (plan_refusal p) e).0
 
 -- records of 1 to 8 guests that no number refuses are not refused
 pub numbers_fine : (p : Plan) → 1 ≤ p.count → p.count ≤ most_guests

@@ -1,20 +1,28 @@
 -- How a start comes to its refusal, and what plans without a Deferrable guest say. Assumes nothing.
-use mathlib.Core.Path.{◌≡◌, sym, ap, ◌∙◌}
+use mathlib.Core.Path.{◌≡◌, refl, sym, ap, ◌∙◌}
 use mathlib.Core.Bool.{true, false, not}
 use mathlib.Core.List.{[], ◌∷◌}
-use Prim.Native.Nat.{ℕ, ◌<◌}
+use Prim.Native.Nat.{ℕ, ◌<◌, ◌≤◌}
 use native.Mathlib.Omega.{arith}
+use lib.Dec.{eqb}
+use Rattle.std.specs.Prelude.{Err}
+use Rattle.lists.specs.All.{all_to}
+use Rattle.lists.specs.Places.{nth}
+use Rattle.plan.specs.declared.Columns.{Columns}
+use Rattle.plan.specs.Filled.{ColumnsOf}
+use Rattle.plan.specs.Promises.{Checks}
+use Rattle.plan.specs.Ranges.{most_guests}
 use Rattle.lists.specs.Refusals.{refusal, ◌or_refuse◌}
 use Rattle.plan.specs.declared.Plan.{Plan}
 use Rattle.plan.specs.declared.Refusal.{Refusal}
 use Rattle.plan.specs.Records.{guest_at}
 use Rattle.plan.specs.Server.{is_deferrable, is_periodic}
-use Rattle.plan.specs.First.{refused, fine}
+use Rattle.plan.specs.First.{refused, fine, unless_refused}
 use Rattle.plan.specs.Order.{plan_refusal, records_then}
 use Rattle.plan.specs.Periodic.{all_periodic, start_refusal}
-use Rattle.lists.proofs.All.{all_by, all_at}
+use Rattle.lists.proofs.All.{all_by, all_at, all_ext}
 use Rattle.lists.proofs.Refusals.{none_left, go_on, stop, passed}
-use Rattle.plan.proofs.First.{refused_here, or_after}
+use Rattle.plan.proofs.First.{refused_here, or_after, err_says, err_unless}
 use Rattle.plan.proofs.Order.{plan_in, numbers_none, numbers_fine, records_none}
 
 module _ (p : Plan) where
@@ -58,6 +66,19 @@ module _ (p : Plan) where
     unfolding start_refusal
     starts_periodic =
         (passed (all_periodic p) 23 [] (omega arith) (records_none p (all_periodic p or_refuse 23 ∷ []) e).1).0
+
+  -- The check's refusal is the start's.
+  pub start_refused : {r : Refusal} → Checks p (Err r) → Err r ≡ unless_refused (start_refusal p) (tt {0})
+  start_refused e =
+      let s = err_says (plan_refusal p) tt e in
+      err_unless (start_refusal p) tt (s.0 ∙ records_refused s.1) (rw s.0 s.1)
+
+  -- The test off the column is the plan's.
+  pub periodic_tested :
+      {c : Columns} → p.count ≤ most_guests → ColumnsOf p.guests most_guests c
+      → all_to (λ k. eqb (nth c.deferrable k) 0) p.count ≡ all_periodic p
+  unfolding all_periodic
+  periodic_tested m f = all_ext _ _ p.count (λ k h. rw (f.deferrable.holds k (omega arith)) refl)
 
   -- In a plan of Periodic guests each is Periodic.
   pub periodic_at : all_periodic p ≡ true → (k : ℕ) → k < p.count → is_periodic (guest_at p.guests k) ≡ true

@@ -2,32 +2,26 @@
 ghost use Rattle.plan.specs.Ranges.{most_guests};
 ghost use Rattle.plan.specs.Filled.{ColumnsOf};
 
-use crate::{Columns, Plan};
+use crate::{AsPlan, Columns};
 
 // The ids, capacities, periods, numbers of tasks and servers of all eight places.
-pub fn columns_of(plan: Plan) -> Columns
-    ensures { ColumnsOf plan.guests most_guests result }
+pub fn columns_of<P: AsPlan>(plan: &P) -> Columns
+    ensures { ColumnsOf (P.plan plan.now).guests most_guests result }
 {
-    let guests = plan.guests;
-    let mut ids = [0u32; 16];
-    let mut capacities = [0u32; 16];
-    let mut periods = [0u32; 16];
-    let mut tasks = [0u32; 16];
-    let mut deferrable = [0u32; 16];
-    let mut k: usize = 0;
-    while k < 8 {
-        ids[k] = guests[k].id;
-        capacities[k] = guests[k].capacity;
-        periods[k] = guests[k].period;
-        tasks[k] = guests[k].tasks;
-        deferrable[k] = guests[k].deferrable;
-        k += 1;
+    let mut columns = Columns {
+        ids: [0; 16],
+        capacities: [0; 16],
+        periods: [0; 16],
+        tasks: [0; 16],
+        deferrable: [0; 16],
+    };
+    for k in 0..8 {
+        let g = plan.guest(k);
+        columns.ids[k] = g.id;
+        columns.capacities[k] = g.capacity;
+        columns.periods[k] = g.period;
+        columns.tasks[k] = g.tasks;
+        columns.deferrable[k] = g.deferrable;
     }
-    Columns {
-        ids,
-        capacities,
-        periods,
-        tasks,
-        deferrable,
-    }
+    columns
 }

@@ -3,25 +3,24 @@ ghost use Rattle.std.specs.Prelude.{◌≡◌, ◌≤◌, eqb};
 ghost use Rattle.lists.specs.Places.{nth};
 ghost use Rattle.lists.specs.Search.{first_from};
 ghost use Rattle.plan.specs.Place.{has_number};
-ghost use Rattle.plan.specs.LookUp.{Lent, LooksUp};
+ghost use Rattle.plan.specs.Filled.{ColumnsOf};
+ghost use Rattle.plan.specs.LookUp.{LooksUp};
 ghost use Rattle.plan.specs.Ranges.{most_guests};
-ghost use Rattle.plan.specs.declared.Plan.{Plan};
 
-use crate::{LookedUp, Refusal};
+use crate::checking::check;
+use crate::{AsPlan, Columns, Refusal};
 
-// The first place of the first n whose id is `id`, or n where there is none.
+// The first place of the first n whose id is `id`, or n where there is none: the specs' `first_from` counts so.
 pub fn place_of(ids: &[u32; 16], n: usize, id: u32) -> usize
     requires { n ≤ 16 }
     ensures { result ≡ first_from (λ k. eqb (nth ids.now k) id) n 0 }
 {
-    let mut k: usize = 0;
-    while k < n {
+    for k in 0..n {
         if ids[k] == id {
             return k;
         }
-        k += 1;
     }
-    k
+    n
 }
 
 // Whether a guest with so many tasks has one of that number, from 1.
@@ -31,25 +30,18 @@ pub fn has_task(tasks: u32, number: u32) -> bool
     (1 <= number) & (number <= tasks)
 }
 
-// The way in of each call that names a guest: the refusal of its records, then 7, else the guest's place.
-pub fn look_up(records: Refusal, ids: &[u32; 16], count: u32, id: u32) -> LookedUp
-    requires { records.number ≤ 0 → count ≤ most_guests }
-    ensures { (p : Plan) → Lent p records ids.now count → LooksUp p id result }
+// The way in of each call that names a guest: the refusal of the plan's records, then 7, else the guest's place.
+pub fn look_up<P: AsPlan>(plan: &P, columns: &Columns, id: u32) -> Result<usize, Refusal>
+    ensures { ColumnsOf (P.plan plan.now).guests most_guests columns.now → LooksUp (P.plan plan.now) id result }
 {
-    if 0 < records.number {
-        return LookedUp {
-            refusal: records,
-            place: 0,
-        };
-    }
-    let n = count as usize;
-    let place = place_of(ids, n, id);
-    let mut number: u32 = 0;
+    check(plan)?;
+    let n = plan.count() as usize;
+    let place = place_of(&columns.ids, n, id);
     if n <= place {
-        number = 7;
+        return Err(Refusal {
+            number: 7,
+            place: 0,
+        });
     }
-    LookedUp {
-        refusal: Refusal { number, place: 0 },
-        place,
-    }
+    Ok(place)
 }

@@ -1,42 +1,44 @@
 // The number that one guest of a plan is refused by.
 ghost use Rattle.std.specs.Prelude.{◌≡◌, ◌<◌};
 ghost use Rattle.lists.specs.Places.{nth};
+ghost use Rattle.lists.specs.Refusals.{unless_number};
 ghost use Rattle.plan.specs.Order.{new_id, number_of};
 
 use crate::Guest;
 use crate::ranges::{head_ok, tasks_ok};
 
 // Whether the id at place k stands at no earlier place.
+#[tactic(auto, unfolding(lists::specs::All::all_to, crate::specs::Order::new_id))]
 pub fn new_id(ids: &[u32; 16], k: usize) -> bool
     requires { k < 16 }
     ensures { result ≡ new_id (nth ids.now) k }
 {
-    let id = ids[k];
     let mut ok = true;
-    let mut j: usize = 0;
-    while j < k {
-        ok = ok & !(ids[j] == id);
-        j += 1;
+    for j in 0..k {
+        ok &= ids[j] != ids[k];
     }
     ok
 }
 
-// The number that a guest is refused by, 0 for none; `new` says that its id stands at no earlier place.
-pub fn guest_number(g: Guest, new: bool) -> u32
-    ensures { result ≡ number_of g new }
+// Whether a guest passes, or the number that refuses it; `new` says that its id stands at no earlier place.
+pub fn guest_passes(g: &Guest, new: bool) -> Result<(), u32>
+    ensures { result ≡ unless_number (number_of g.now new) tt }
 {
-    let run = g.run;
-    let every = g.every;
-    let deadline = g.deadline;
-    let tasks = g.tasks;
-    if !head_ok(g.id, g.capacity, g.period, tasks) {
-        return 4;
+    if !head_ok(g.id, g.capacity, g.period, g.tasks) {
+        return Err(4);
     }
     if !new {
-        return 4;
+        return Err(4);
     }
-    if !tasks_ok(g.marks, g.period, &run, &every, &deadline, tasks as usize) {
-        return 6;
+    if !tasks_ok(
+        g.marks,
+        g.period,
+        &g.run,
+        &g.every,
+        &g.deadline,
+        g.tasks as usize,
+    ) {
+        return Err(6);
     }
-    0
+    Ok(())
 }

@@ -4,17 +4,20 @@
 ghost use Rattle.std.specs.Prelude.{◌≡◌};
 ghost use Rattle.plan.specs.Records.{blank, blank_plan};
 ghost use Rattle.plan.specs.Charge.{charged_run};
-ghost use Rattle.plan.specs.Promises.{Checks};
 
+mod checking;
 mod column;
 mod find;
+mod given;
 mod guests;
 mod marks;
 mod ranges;
 
+pub use checking::{check, start_check};
 pub use column::columns_of;
 pub use find::{has_task, look_up, place_of};
-pub use guests::{guest_number, new_id};
+pub use given::AsPlan;
+pub use guests::{guest_passes, new_id};
 pub use marks::{is_marked, live_marks};
 pub use ranges::{LONGEST, count_ok, head_ok, tasks_ok};
 
@@ -61,13 +64,6 @@ pub struct Columns {
     pub deferrable: [u32; 16],
 }
 
-// A guest that was looked up by its id: the refusal, or where it has number 0 the guest's place.
-#[derive(Clone, Copy)]
-pub struct LookedUp {
-    pub refusal: Refusal,
-    pub place: usize,
-}
-
 // A record of zeros.
 pub fn blank_guest() -> Guest
     ensures { result ≡ blank }
@@ -102,35 +98,4 @@ pub fn charged_run(run: u32, charge: u16) -> u64
     ensures { result ≡ charged_run run charge }
 {
     (run as u64) + 2 * (charge as u64)
-}
-
-// The records' refusal: 1, then 4 and 6 guest by guest.
-pub fn check(plan: Plan) -> Refusal
-    ensures { Checks plan result }
-{
-    let n = plan.count;
-    if !count_ok(n) {
-        return Refusal {
-            number: 1,
-            place: 0,
-        };
-    }
-    let c = columns_of(plan);
-    let ids = c.ids;
-    let many = n as usize;
-    let mut k: usize = 0;
-    while k < many {
-        let number = guest_number(plan.guests[k], new_id(&ids, k));
-        if 0 < number {
-            return Refusal {
-                number,
-                place: k as u32,
-            };
-        }
-        k += 1;
-    }
-    Refusal {
-        number: 0,
-        place: 0,
-    }
 }

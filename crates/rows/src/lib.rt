@@ -7,9 +7,9 @@ ghost use Rattle.rows.specs.Put.{ColumnPut};
 
 use plan::{Guest, Plan};
 
-mod checking;
+mod rows;
 
-pub use checking::{check_in, columns_in, start_refusal};
+pub use rows::Rows;
 
 // The low half of a word is this many numbers.
 const HALF: u32 = 65536;
