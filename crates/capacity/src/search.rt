@@ -53,7 +53,7 @@ fn fits(
     if 0 < best {
         return true;
     }
-    is_at(guest_response(capacities, periods, jitters, k, c, period))
+    guest_response(capacities, periods, jitters, k, c, period).is_some()
 }
 
 // What is left after a try for task i: no capacity meets it from an unfit one on, nor up to a fitted one at which it is
@@ -87,7 +87,7 @@ fn narrowed(
         return Span { lo, hi: c, best };
     }
     let late = gaps_of(marks, period - c, i + 1);
-    if is_at(task_response(
+    if task_response(
         capacities,
         periods,
         jitters,
@@ -99,7 +99,9 @@ fn narrowed(
         &late,
         i,
         deadline[i],
-    )) {
+    )
+    .is_some()
+    {
         return Span { lo, hi: c, best: c };
     }
     Span {

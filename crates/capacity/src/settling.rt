@@ -51,7 +51,7 @@ fn settled(
         period marks (nth run.now) (nth every.now) (nth deadline.now) tasks)
         period 1 }
 {
-    if !is_at(guest_response(capacities, periods, jitters, k, 1, period)) {
+    if guest_response(capacities, periods, jitters, k, 1, period).is_none() {
         return None;
     }
     let mut c: u32 = 1;

@@ -16,4 +16,4 @@ returns-then-best-gt0 c =
 
 pub returns : goal.returns
 unfolding fits_at
-returns c = c.is_at.ensures ∙ ap is_some c.guest_response.ensures
+returns c = c.is_some.ensures ∙ ap is_some c.guest_response.ensures

@@ -1,11 +1,11 @@
 -- `capacity::search::narrowed` meets its contract: what the two tests say is one of the three turns of the search.
 -- Assumes nothing.
-use mathlib.Core.Path.{sym, ◌∙◌}
+use Rattle.std.specs.Prelude.{is_some}
+use mathlib.Core.Path.{sym, ap, ◌∙◌}
 use native.Mathlib.Omega.{arith}
 use Rattle.lists.specs.Places.{nth}
 use Rattle.response.specs.Columns.{guests_take}
 use Rattle.capacity.specs.Search.{fits_at}
-use Rattle.response.proofs.ColumnsLaws.{test_is}
 use Rattle.response.proofs.GuestLaws.{take_grows}
 use Rattle.response.proofs.ReadyLaws.{filled_gaps}
 use Rattle.capacity.proofs.SearchLaws.{halving, meets_tried}
@@ -58,15 +58,15 @@ task_response-requires c =
       );
     }
 
-pub returns-then-is_at : goal.returns-then-is_at
-returns-then-is_at c =
+pub returns-then-is_some : goal.returns-then-is_some
+returns-then-is_some c =
     let a = c.args in
     let good = halving (guests_take _ _ _ _) (take_grows _ _ _ _) _ a.marks _ _ _ a.i (c.requires.period_le_longest.1.runs a.i (omega arith)) in
     let fits = sym c.fits.ensures ∙ c.if-not-fits.false in (
       turn_here _ _ good _ a.lo a.hi _ _ c.requires.above_in.1.0 c.next_try-c.ensures
           (meets_tried (guests_take _ _ _ _) _ _ _ a.run.now a.every.now (nth a.deadline.now) _ a.i fits
           c.gaps_of-late.ensures (omega arith)
-          (test_is c.task_response.ensures c.is_at.ensures c.if-is_at.true)),
+          (ap is_some (sym c.task_response.ensures) ∙ sym c.is_some.ensures ∙ c.if-is_some.true)),
       λ b. (omega arith, fits),
     )
 
@@ -79,7 +79,7 @@ returns c =
         fits,
         meets_tried (guests_take _ _ _ _) _ _ _ a.run.now a.every.now (nth a.deadline.now) _ a.i fits
             c.gaps_of-late.ensures (omega arith)
-            (test_is c.task_response.ensures c.is_at.ensures c.if-is_at.false),
+            (ap is_some (sym c.task_response.ensures) ∙ sym c.is_some.ensures ∙ c.if-is_some.false),
       ),
       c.requires.known,
     )

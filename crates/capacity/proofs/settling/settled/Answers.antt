@@ -17,11 +17,11 @@ guest_response-requires c =
     let s = c.requires in
     (s.above_in.0, record { some = omega arith; within = s.le_period.0.0; short = s.le_period.0.1 })
 
-pub returns-then-not-is_at : goal.returns-then-not-is_at
+pub returns-then-is_none : goal.returns-then-is_none
 unfolding fits_at
-returns-then-not-is_at c =
+returns-then-is_none c =
     none_works (guests_take _ _ _ _) (take_grows _ _ _ _) _ _ _ _ _ _
-    (test_is c.guest_response.ensures c.is_at.ensures (c.if-not-is_at.true))
+    (test_is c.guest_response.ensures c.is_none.ensures (c.if-is_none.true))
 
 pub loop-i-init : goal.loop-i-init
 unfolding fits_at
@@ -29,7 +29,7 @@ loop-i-init c =
     let s = c.requires in (
       omega arith,
       settled_none _ _ _ s.le_period.0.0
-          (test_is c.guest_response.ensures c.is_at.ensures (c.if-not-is_at.false)),
+          (test_is c.guest_response.ensures c.is_none.ensures (c.if-is_none.false)),
     )
 
 pub overflow_sub-period : goal.overflow_sub-period
