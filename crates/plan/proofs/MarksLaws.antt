@@ -19,12 +19,10 @@ unfolding marked
 unmarked i = rw (zero-div (2 ^ i)) refl
 
 -- without marks no task is asked for a multiple
-pub starts_unmarked : (marks period : ℕ) (every : ℕ → ℕ) (n : ℕ) → marks < 1
+pub starts_unmarked : (marks period : ℕ) (every : ℕ → ℕ) (n : ℕ) → marks ≡ 0
     → true ≡ all_to (λ i. start_ok (marked marks i) period (every i)) n
 unfolding start_ok
-starts_unmarked marks period every n h =
-    let e : marks ≡ 0 = omega arith in
-    sym (all_by _ n (λ i l. rw (e, unmarked i) refl))
+starts_unmarked marks period every n e = sym (all_by _ n (λ i l. rw (e, unmarked i) refl))
 
 -- a power of two is a multiple of twice a smaller one
 split : (d i : ℕ) → 2 ^ (suc d + i) ≡ 2 ^ d * 2 * 2 ^ i
@@ -58,9 +56,9 @@ moved_up_lem n h =
     rw e (mod-eq_of_lt (omega (arith, l)))
 
 -- 0 has no marks
-pub marks_none : (marks n : ℕ) → marks < 1 → 0 ≡ marks_of marks n
+pub marks_none : (marks n : ℕ) → marks ≡ 0 → 0 ≡ marks_of marks n
 unfolding marks_of
-marks_none marks n h = let e : marks ≡ 0 = omega arith in rw e (sym (zero-mod (2 ^ n)))
+marks_none marks n e = rw e (sym (zero-mod (2 ^ n)))
 
 -- no mark is past the first n tasks
 pub marks_below : (marks n : ℕ) → marks_of marks n < 2 ^ n

@@ -86,16 +86,16 @@ pub fn blank_guest() -> Guest
 pub fn blank_plan() -> Plan
     ensures { result ≡ blank_plan }
 {
-    let g = blank_guest();
     Plan {
         count: 0,
-        guests: [g; 8],
+        guests: [blank_guest(); 8],
     }
 }
 
 // The charged run of a task: its run, and the charge for the switch into it and for the switch out of it.
+#[tactic(auto, unfolding(crate::specs::Charge::charged_run))]
 pub fn charged_run(run: u32, charge: u16) -> u64
     ensures { result ≡ charged_run run charge }
 {
-    (run as u64) + 2 * (charge as u64)
+    u64::from(run) + 2 * u64::from(charge)
 }

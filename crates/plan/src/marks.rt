@@ -4,6 +4,7 @@ ghost use Rattle.plan.specs.Ranges.{most_tasks};
 ghost use Rattle.plan.specs.Marks.{marked, marks_of};
 
 // Whether bit i of the marks is set.
+#[tactic(auto, unfolding(crate::specs::Marks::marked))]
 pub fn is_marked(marks: u16, i: usize) -> bool
     requires { i < most_tasks }
     ensures { result ≡ marked marks i }
@@ -16,9 +17,8 @@ pub fn live_marks(marks: u16, n: usize) -> u32
     requires { n ≤ most_tasks }
     ensures { result ≡ marks_of marks n }
 {
-    if marks < 1 {
+    if marks == 0 {
         return 0;
     }
-    let one: u32 = 1;
-    (marks as u32) % (one << n)
+    u32::from(marks) % (1 << n)
 }

@@ -24,6 +24,7 @@ pub fn count_ok(count: u32) -> bool
 }
 
 // Whether a guest's id, capacity, period and number of tasks are in their ranges, which is refusal 4's test.
+#[tactic(auto, unfolding(crate::specs::Ranges::head_ok))]
 pub fn head_ok(id: u32, capacity: u32, period: u32, tasks: u32) -> bool
     ensures { result ≡ head_ok id capacity period tasks }
 {
@@ -34,6 +35,7 @@ pub fn head_ok(id: u32, capacity: u32, period: u32, tasks: u32) -> bool
 }
 
 // Whether a task's run, period and deadline are in their ranges, which is refusal 6's test.
+#[tactic(auto, unfolding(crate::specs::Ranges::task_ok))]
 fn task_ok(run: u32, every: u32, deadline: u32) -> bool
     ensures { result ≡ task_ok run every deadline }
 {
@@ -43,21 +45,21 @@ fn task_ok(run: u32, every: u32, deadline: u32) -> bool
 }
 
 // Whether each of the first n tasks is in its ranges.
+#[tactic(auto, unfolding(lists::specs::All::all_to))]
 fn ranges_ok(run: &[u32; 16], every: &[u32; 16], deadline: &[u32; 16], n: usize) -> bool
     requires { n ≤ most_tasks }
     ensures { result
         ≡ all_to (λ i. task_ok (nth run.now i) (nth every.now i) (nth deadline.now i)) n }
 {
     let mut ok = true;
-    let mut i: usize = 0;
-    while i < n {
-        ok = ok & task_ok(run[i], every[i], deadline[i]);
-        i += 1;
+    for i in 0..n {
+        ok &= task_ok(run[i], every[i], deadline[i]);
     }
     ok
 }
 
 // Whether the period of a task, where it is bound, is a multiple of its guest's.
+#[tactic(auto, unfolding(crate::specs::Ranges::start_ok))]
 fn start_ok(bound: bool, period: u32, every: u32) -> bool
     requires { 1 ≤ period }
     ensures { result ≡ start_ok bound period every }
@@ -66,18 +68,17 @@ fn start_ok(bound: bool, period: u32, every: u32) -> bool
 }
 
 // Whether each of the first n tasks that is bound has a multiple of its guest's period. Without marks no task is asked.
+#[tactic(auto, unfolding(lists::specs::All::all_to))]
 fn starts_ok(marks: u16, period: u32, every: &[u32; 16], n: usize) -> bool
     requires { (n ≤ most_tasks) × (1 ≤ period) }
     ensures { result ≡ all_to (λ i. start_ok (marked marks i) period (nth every.now i)) n }
 {
-    if marks < 1 {
+    if marks == 0 {
         return true;
     }
     let mut ok = true;
-    let mut i: usize = 0;
-    while i < n {
-        ok = ok & start_ok(is_marked(marks, i), period, every[i]);
-        i += 1;
+    for i in 0..n {
+        ok &= start_ok(is_marked(marks, i), period, every[i]);
     }
     ok
 }

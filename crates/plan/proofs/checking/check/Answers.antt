@@ -1,8 +1,8 @@
 -- `plan::check` meets its promise: the count first; then the guests in order, of which those that are left have the
 -- same first refusal. Assumes nothing.
-use Rattle.std.proofs.Common.{◌≡◌, ◌<◌, ◌-◌, arith, sym, ap, ◌∙◌}
+use Rattle.std.proofs.Common.{◌≡◌, ◌<◌, ◌-◌, ℕ, arith, sym, ap, ◌∙◌}
 use Rattle.lists.proofs.Refusals.{ok_number, err_number}
-use Rattle.plan.specs.Ranges.{most_guests, within}
+use Rattle.plan.specs.Ranges.{most_guests}
 use Rattle.plan.specs.Order.{guest_number, number_of}
 use Rattle.plan.proofs.First.{first_here, first_next, first_end, ok_unless, err_unless}
 use Rattle.plan.proofs.RangesLaws.{within_says}
@@ -18,34 +18,29 @@ pub loop-k-init : goal.loop-k-init
 loop-k-init g c =
     let p = g.P.AsPlan.plan c.args.plan.now in
     let w = within_says 1 most_guests p.count (rw c.count-count.ensures at (sym c.count_ok.ensures ∙ c.if-not-count_ok.false)) in
-    let e : p.count - 0 ≡ p.count = omega arith in
-    rw e (counted p w.0 w.1)
+    let all : p.count - 0 ≡ p.count = omega arith in
+    record { few = w.1; left = rw all (counted p w.0 w.1) }
 
 pub returns-in-Err : goal.returns-in-Err
 returns-in-Err g c =
     let p = g.P.AsPlan.plan c.args.plan.now in
-    let k = c.loop-k.k in
-    let w = within_says 1 most_guests p.count (rw c.count-count.ensures at (sym c.count_ok.ensures ∙ c.if-not-count_ok.false)) in
-    let below : k < p.count = omega (arith, c.count-count.ensures) in
+    let below : c.loop-k.k < p.count = omega (arith, c.count-count.ensures) in
     let e = err_number _ _ (sym c.in-Err.is ∙ c.guest_passes.ensures) in
-    let n = number_is p.guests _ k (omega (arith, w.1)) c.columns_of-columns.ensures.ids c.new_id-new.ensures
+    let number = number_is p.guests _ c.loop-k.k (omega arith) c.columns_of-columns.ensures.ids c.new_id-new.ensures
     (e.0 ∙ ap (λ x. number_of x c.new_id-new.result) c.guest.ensures) in
-    err_unless _ _ (first_here (guest_number p.guests) p.count k _ below n (omega (arith, e)) ∙ c.loop-k.invariant) (omega (arith, e))
+    err_unless _ _ (first_here _ p.count _ _ below number (omega (arith, e)) ∙ c.loop-k.invariant.left) (omega (arith, e))
 
 pub loop-k-preserved : goal.loop-k-preserved
 loop-k-preserved g c =
     let p = g.P.AsPlan.plan c.args.plan.now in
-    let k = c.loop-k.k in
-    let w = within_says 1 most_guests p.count (rw c.count-count.ensures at (sym c.count_ok.ensures ∙ c.if-not-count_ok.false)) in
-    let below : k < p.count = omega (arith, c.count-count.ensures) in
+    let below : c.loop-k.k < p.count = omega (arith, c.count-count.ensures) in
     let e = ok_number _ (sym c.in_default.is ∙ c.guest_passes.ensures) in
-    let n = number_is p.guests _ k (omega (arith, w.1)) c.columns_of-columns.ensures.ids c.new_id-new.ensures
+    let number = number_is p.guests _ c.loop-k.k (omega arith) c.columns_of-columns.ensures.ids c.new_id-new.ensures
     (sym e.0 ∙ ap (λ x. number_of x c.new_id-new.result) c.guest.ensures) in
-    first_next (guest_number p.guests) p.count k _ below n (omega arith) ∙ c.loop-k.invariant
+    record { few = c.loop-k.invariant.few; left = first_next _ p.count _ _ below number (omega arith) ∙ c.loop-k.invariant.left }
 
 pub returns : goal.returns
 returns g c =
     let p = g.P.AsPlan.plan c.args.plan.now in
-    let e = first_end (guest_number p.guests) p.count c.loop-k.k (omega (arith, c.count-count.ensures)) ∙ c.loop-k.invariant in
-    let none = ap (λ r. r.number) e in
+    let none = ap (λ r. r.number) (first_end _ p.count _ (omega (arith, c.count-count.ensures)) ∙ c.loop-k.invariant.left) in
     ok_unless _ _ (omega arith)

@@ -8,4 +8,7 @@ use Rattle.plan.proofs.checking.check.Given as goal
 
 abbrev pub invariant-loop-k : goal.invariant-loop-k
 invariant-loop-k g l =
-    let p = g.P.AsPlan.plan l.plan in first_refused (guest_number p.guests) (p.count - l.k) l.k ≡ plan_refusal p
+    let p = g.P.AsPlan.plan l.plan in record {
+      few : p.count ≤ most_guests;
+      left : first_refused (guest_number p.guests) (p.count - l.k) l.k ≡ plan_refusal p;
+    }
