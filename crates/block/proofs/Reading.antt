@@ -1,109 +1,46 @@
 -- How the code comes to a block's number, and what a block that passes says. Assumes nothing.
 use mathlib.Core.Path.{◌≡◌, refl, sym, ◌∙◌}
-use mathlib.Core.Bool.{Bool, true, false, ◌&&◌, ◌||◌}
+use mathlib.Core.Bool.{Bool, true, false, ◌&&◌}
 use mathlib.Core.List.{List, []}
-use Prim.Native.Nat.{ℕ, ◌+◌, ◌-◌, ◌*◌, ◌%◌, ◌^◌, ◌≤◌, ◌<◌}
-use native.Mathlib.Decide.{dec_lt}
-use native.Mathlib.Nat.{one-le-pow}
+use Prim.Native.Nat.{ℕ, ◌+◌, ◌-◌, ◌^◌, ◌≤◌, ◌<◌}
 use native.Mathlib.Omega.{arith}
-use lib.Dec.{leb, ltb, eqb}
-use borrow.Author.Tests.{ltb-true, leb-true, eq-eqb, eqb-true, ne_eqb, lt-ltb, le-ltb, le-leb, lt-leb}
-use Rattle.plan.specs.Ranges.{most_tasks, guest_ok, task_ok, start_ok, tasks_ok}
-use Rattle.plan.specs.Marks.{marked}
-use Rattle.lists.specs.Choice.{pick}
+use lib.Dec.{ltb, eqb}
+use borrow.Author.Tests.{ltb-true, leb-true, eq-eqb, eqb-true, ne_eqb, lt-ltb, le-leb}
+use Rattle.plan.specs.Ranges.{most_tasks, guest_ok, tasks_ok}
 use Rattle.lists.specs.Places.{nth}
 use Rattle.words.specs.Word.{word}
-use Rattle.block.specs.Reading.{kind_in, task_count, marks_in, server_half, server_in, column, guest_of, sums_to_zero, kind_ok, zero_between, markable, last_server, marks_ok, zeros_ok, block_number}
+use Rattle.block.specs.Reading.{kind_in, task_count, marks_in, server_half, column, guest_of, sums_to_zero, kind_ok, zero_between, marks_ok, zeros_ok, block_number}
 use Rattle.lists.specs.Exactly.{◌exactly_when◌}
-use Rattle.lists.specs.All.{all_to}
-use Rattle.block.specs.Layout.{plain_kind, extended_kind, deferrable_server, period_word, marks_server_word, run_word, every_word, deadline_word, low_half, high_half}
-use Rattle.plan.proofs.MarksLaws.{moved_up_lem}
+use Rattle.block.specs.Layout.{extended_kind, deferrable_server, period_word, marks_server_word}
 use Rattle.plan.proofs.RangesLaws.{head_says}
 use Rattle.lists.proofs.All.{and_left, and_right, and_true, all_by, all_at}
-use Rattle.lists.proofs.Table.{table_at}
-use Rattle.lists.proofs.Refusals.{none_left, go_on, stop, passed}
+use Rattle.lists.proofs.Table.{table_at, table_length}
+use Rattle.std.proofs.lemmas.List.{ext_get_or}
+use Rattle.std.proofs.Common.{◌≢◌, length, suc, zero, ⊎_elim, eq-or-lt_of_le}
+use Rattle.std.proofs.lemmas.List.FromFn.{get_or-range_with_len, length-range_with_len}
+use Rattle.std.specs.List.{range_with_len, AllWithin, HoldsAt}
+use Rattle.std.specs.Bool.{MatchBool}
+use Rattle.std.specs.Array.{IsFromFnResultFrom}
+use denote.Param.Members.{Mut, Called}
+use Rattle.lists.proofs.Refusals.{none_left, go_on, passed}
 
--- The number that a block is refused by, from the tests that led to it.
-module _ (b : List ℕ) (p new : Bool) where
-  -- The words do not sum to zero.
-  pub two : sums_to_zero b ≡ false → 2 ≡ block_number b p new
-  unfolding block_number
-  two e = sym (stop 2 _ e)
-
-  module _ (s : sums_to_zero b ≡ true) where
-    -- The kind is another, or the place does not pass.
-    pub three : (kind_ok b && p) ≡ false → 3 ≡ block_number b p new
-    unfolding block_number
-    three e = sym (go_on 2 _ s ∙ stop 3 _ e)
-
-    module _ (k : (kind_ok b && p) ≡ true) where
-      -- The head is out of range, or the id is not new.
-      pub four : (guest_ok (guest_of b) && new) ≡ false → 4 ≡ block_number b p new
-      unfolding block_number
-      four e = sym (go_on 2 _ s ∙ go_on 3 _ k ∙ stop 4 _ e)
-
-      module _ (h : (guest_ok (guest_of b) && new) ≡ true) where
-        -- A byte that must be zero is not.
-        pub five : zeros_ok b ≡ false → 5 ≡ block_number b p new
-        unfolding block_number
-        five e = sym (go_on 2 _ s ∙ go_on 3 _ k ∙ go_on 4 _ h ∙ stop 5 _ e)
-
-        module _ (z : zeros_ok b ≡ true) where
-          -- A task is out of range.
-          pub six : tasks_ok (guest_of b) ≡ false → 6 ≡ block_number b p new
-          unfolding block_number
-          six e = sym (go_on 2 _ s ∙ go_on 3 _ k ∙ go_on 4 _ h ∙ go_on 5 _ z ∙ stop 6 _ e)
-
-          -- Nothing is refused.
-          pub none : tasks_ok (guest_of b) ≡ true → 0 ≡ block_number b p new
-          unfolding block_number
-          none e = sym (go_on 2 _ s ∙ go_on 3 _ k ∙ go_on 4 _ h ∙ go_on 5 _ z ∙ go_on 6 _ e ∙ none_left)
+-- A block that passes every test is refused by no number.
+pub none : (b : List ℕ) (p new : Bool) → sums_to_zero b ≡ true → (kind_ok b && p) ≡ true
+    → (guest_ok (guest_of b) && new) ≡ true → zeros_ok b ≡ true → tasks_ok (guest_of b) ≡ true
+    → 0 ≡ block_number b p new
+unfolding block_number
+none b p new s k h z t = sym (go_on 2 _ s ∙ go_on 3 _ k ∙ go_on 4 _ h ∙ go_on 5 _ z ∙ go_on 6 _ t ∙ none_left)
 
 -- Where the head passes there are at most 16 tasks.
+pub few_tasks : (b : List ℕ) → guest_ok (guest_of b) ≡ true → task_count b ≤ most_tasks
+few_tasks b e = (head_says _ _ _ _ e).few
+
 pub few_in_block : (b : List ℕ) (new : Bool) → (guest_ok (guest_of b) && new) ≡ true → task_count b ≤ most_tasks
-few_in_block b new e = (head_says _ _ _ _ (and_left (guest_ok (guest_of b)) new e)).few
+few_in_block b new e = few_tasks b (and_left (guest_ok (guest_of b)) new e)
 
 -- Where the head passes the period is at least 1.
-pub some_in_block : (b : List ℕ) (new : Bool) → (guest_ok (guest_of b) && new) ≡ true → 1 ≤ word b period_word
-some_in_block b new e =
-    let h = head_says _ _ _ _ (and_left (guest_ok (guest_of b)) new e) in omega (arith, h.some, h.fits)
-
--- Kind 1 passes.
-pub kind_one : (b : List ℕ) (kind : ℕ) → kind ≡ kind_in b → kind ≡ plain_kind → true ≡ kind_ok b
-kind_one b kind p e = rw (eq-eqb (kind_in b) plain_kind (sym p ∙ e)) refl
-
--- The test of another kind.
-pub kind_other : (b : List ℕ) (kind marks server : ℕ) → kind ≡ kind_in b → marks ≡ marks_in b → server ≡ server_in b
-    → (kind ≡ plain_kind → ⊥)
-    → (eqb kind extended_kind && (leb 1 marks || eqb server deferrable_server)) ≡ kind_ok b
-kind_other b kind marks server p q r n = rw (p, q, r, ne_eqb (kind_in b) plain_kind (λ e. n (p ∙ e))) refl
-
--- Zero passes the test of marks and server.
-pub no_marks : (b : List ℕ) (w : ℕ) → w ≡ word b marks_server_word → w < 1 → true ≡ marks_ok b
-unfolding marks_ok
-no_marks b w p l =
-    let s : 1 ≤ 2 ^ markable b = one-le-pow (markable b) 2 (omega arith) in
-    sym
-    (and_true (lt-ltb (marks_in b) (2 ^ markable b) (omega (arith, p, l, s)))
-    (le-leb (server_half b) (last_server b) (omega (arith, p, l))))
-
--- The test of a word that is not zero, with a power of two that is made by a shift.
-marks_by : (two : Bool) (w n : ℕ) → n ≤ most_tasks → 1 ≤ w
-    → (two && ltb (low_half w) (1 * 2 ^ n % 4294967296) && leb (high_half w) deferrable_server)
-    ≡ (ltb (low_half w) (2 ^ pick two n 0) && leb (high_half w) (pick two deferrable_server 0))
-marks_by true w n h l = rw (moved_up_lem n h) refl
-marks_by false w n h l =
-    elim (dec_lt (low_half w) 1) [
-      | yes m ↦ rw (lt-ltb (low_half w) 1 m, lt-leb (high_half w) 0 (omega arith)) refl
-      | no m ↦ rw (le-ltb (low_half w) 1 (omega arith)) refl
-    ]
-
-pub marks_are : (b : List ℕ) (w kind n : ℕ) → w ≡ word b marks_server_word → kind ≡ kind_in b → n ≡ task_count b
-    → n ≤ most_tasks → 1 ≤ w
-    → (eqb kind extended_kind && ltb (low_half w) (1 * 2 ^ n % 4294967296) && leb (high_half w) deferrable_server)
-    ≡ marks_ok b
-unfolding marks_ok
-marks_are b w kind n p q s h l = marks_by (eqb kind extended_kind) w n h l ∙ rw (p, q, s) refl
+pub some_period : (b : List ℕ) → guest_ok (guest_of b) ≡ true → 1 ≤ word b period_word
+some_period b e = let h = head_says _ _ _ _ e in omega (arith, h.some, h.fits)
 
 -- In kind 2 the tasks alone can have marks, and the server is one of two.
 pub marks_of_two : (b : List ℕ) → kind_in b ≡ extended_kind
@@ -131,15 +68,6 @@ marks_of_other b n =
       λ e.
           and_true (lt-ltb (marks_in b) 1 (omega (arith, e))) (le-leb (server_half b) 0 (omega (arith, e))),
     )
-
--- The tasks' test on numbers and columns that are the block's.
-pub tasks_are : (b : List ℕ) (m p : ℕ) (r e d : List ℕ) (n : ℕ)
-    → m ≡ marks_in b → p ≡ word b period_word → r ≡ column b run_word → e ≡ column b every_word → d ≡ column b deadline_word
-    → n ≡ task_count b
-    → (all_to (λ i. task_ok (nth r i) (nth e i) (nth d i)) n && all_to (λ i. start_ok (marked m i) p (nth e i)) n)
-    ≡ tasks_ok (guest_of b)
-unfolding tasks_ok
-tasks_are b m p r e d n h1 h2 h3 h4 h5 h6 = rw (h1, h2, h3, h4, h5, h6) refl
 
 -- A block that no number refuses passes every test.
 pub record BlockIn (b : List ℕ) (p new : Bool) : Type 0 where
@@ -186,3 +114,46 @@ zeros_pass b from to h = all_by _ (to - from) (λ k l. eq-eqb _ _ (h (from + k) 
 pub column_at : (b : List ℕ) (at : ℕ → ℕ) (i : ℕ) → i < most_tasks → nth (column b at) i ≡ word b (at i)
 unfolding column
 column_at b at i h = table_at (λ k. word b (at k)) 0 most_tasks i h
+
+-- A list of numbers that are each the word asked for is the column.
+pub column_by : (b : List ℕ) (at : ℕ → ℕ) (x : List ℕ) → length x ≡ most_tasks
+    → ((i : ℕ) → i < most_tasks → nth x i ≡ word b (at i)) → x ≡ column b at
+unfolding column
+column_by b at x l h =
+    ext_get_or 0 x _ (l ∙ sym (table_length (λ k. word b (at k)) most_tasks))
+    (λ i m. h i (omega arith) ∙ sym (table_at (λ k. word b (at k)) 0 most_tasks i (omega arith)))
+
+-- Whether all words of a range are found zero says whether they pass.
+pub zeros_by : (b : List ℕ) (from to : ℕ) (ok : Bool) → from ≤ to
+    → MatchBool ok (AllWithin (λ k. word b k ≡ 0) (range_with_len from (to - from)) 0 (length (range_with_len from (to - from))))
+    ((k : ℕ) × (k < length (range_with_len from (to - from))) × HoldsAt (λ k. word b k ≢ 0) (range_with_len from (to - from)) k)
+    → ok ≡ zero_between b from to
+zeros_by b from to true l h =
+    sym
+    (zeros_pass b from to
+    (λ k a z. let q : from + (k - from) ≡ k = omega arith in
+    rw (get_or-range_with_len from (to - from) (k - from) 0 (omega arith) ∙ q) at
+    (h (k - from) 0 (omega arith) (omega (arith, length-range_with_len from (to - from))))))
+zeros_by b from to false l h = go (zero_between b from to) refl
+  where
+    k : ℕ
+    k = h.0
+
+    below : k < to - from
+    below = omega (arith, h.1, length-range_with_len from (to - from))
+
+    go : (z : Bool) → zero_between b from to ≡ z → false ≡ z
+    go false e = refl
+    go true e = absurd (rw (get_or-range_with_len from (to - from) k 0 below) at (h.2 0)
+        (zero_at b from to (from + k) (omega arith) (omega (arith, below)) e))
+
+-- What a closure that keeps what it holds gives at each index.
+pub each_by : {F : Type 0} (g : Mut F (ℕ × Unit {0}) ℕ) (f : F) (ys : List ℕ) (v : ℕ → ℕ)
+    → ((i y : ℕ) (q : F) → Called g f (i, tt) y q → (q ≡ f) × (y ≡ v i))
+    → (i n : ℕ) → IsFromFnResultFrom g f ys i n → (k : ℕ) → i ≤ k → k < i + n → nth ys k ≡ v k
+each_by g f ys v h i zero a k l u = absurd (omega arith)
+each_by g f ys v h i (suc n) a k l u =
+    let s = h i a.1 a.0 a.3 in
+    ⊎_elim (λ e. rw (← e) (a.2.1 0 ∙ s.1))
+    (λ m. each_by g f ys v h (i + 1) n (rw s.0 at a.4) k (omega arith) (omega arith))
+    (eq-or-lt_of_le {n = i} {m = k} l)

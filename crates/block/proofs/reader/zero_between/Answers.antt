@@ -1,28 +1,12 @@
--- `block::reader::zero_between` meets its contract: a turn tests one word more. Assumes nothing.
-use mathlib.Core.Path.{◌≡◌, ap}
-use Prim.Native.Nat.{ℕ, ◌+◌, ◌-◌}
-use native.Mathlib.Omega.{arith}
-use lib.Dec.{eqb}
-use borrow.Author.Rules.{rules}
+-- `block::reader::zero_between` meets its contract: all words of the range are zero. Assumes nothing.
+use Rattle.std.proofs.Common.{◌≡◌, ◌≢◌, refl, rules}
+use Rattle.std.proofs.lemmas.Iterator.{cases_from_all, YieldsList-from_range}
 use Rattle.words.specs.Word.{word}
-use Rattle.block.specs.Reading.{zero_between}
-use Rattle.lists.specs.All.{all_to}
-use Rattle.lists.proofs.All.{all_turn}
+use Rattle.block.proofs.Reading.{zeros_by}
 use Rattle.block.proofs.reader.zero_between.Goals as goal
 
-pub loop-k-init : goal.loop-k-init
-unfolding all_to
-loop-k-init c = search rules
-
-pub loop-k-preserved : goal.loop-k-preserved
-loop-k-preserved c =
-    let l = c.loop-k in
-    let a = c.args in
-    let w = ap (λ (w : ℕ). eqb w 0) c.word_at.ensures in
-    (search rules, all_turn (λ i. eqb (word a.b.now (a.from + i)) 0) _ _ _ l.invariant.1 w)
-
 pub returns : goal.returns
-unfolding zero_between
 returns c =
-    let a = c.args in
-    let e : c.loop-k.k ≡ a.to - a.from = omega arith in rw (← e) c.loop-k.invariant.1
+    zeros_by _ _ _ _ c.requires.0
+    (cases_from_all _ _ c.all.result (λ k. word c.args.b.now k ≡ 0) (λ k. word c.args.b.now k ≢ 0) c.all.ensures.ran
+    (YieldsList-from_range c.args.from c.args.to _ (search rules) refl) (λ x q k. search rules) (λ x q k. search rules))
