@@ -6,9 +6,10 @@ ghost use Rattle.plan.specs.Ranges.{longest};
 ghost use Rattle.margins.specs.Margin.{margin_of, widest};
 
 // The largest size of a margin.
-const WIDEST: i64 = 999999;
+const WIDEST: u64 = 999999;
 
-// The deadline less the age: both are at most 1,000,000, so the difference is exact.
+// The deadline less the age: both are at most 1,000,000, so the casts and the difference are exact.
+#[tactic(auto, unfolding(crate::specs::Margin::margin_of))]
 pub fn margin_of(deadline: u32, age: u32) -> i32
     requires { (deadline ≤ longest) × (age ≤ longest) }
     ensures { result ≡ margin_of deadline age }
@@ -20,8 +21,7 @@ pub fn margin_of(deadline: u32, age: u32) -> i32
 pub fn within(sum: i64, jobs: u32) -> bool
     ensures { result ≡ leb (nat_abs sum) (widest * jobs) }
 {
-    let most = WIDEST * (jobs as i64);
-    (0 - most <= sum) & (sum <= most)
+    sum.unsigned_abs() <= WIDEST * u64::from(jobs)
 }
 
 // A margin added to a sum of the margins of so many jobs: it fits, with room to spare.
@@ -29,5 +29,5 @@ pub fn plus(sum: i64, margin: i32) -> i64
     requires { nat_abs sum < 2 ^ 62 }
     ensures { result ≡ sum +ℤ margin }
 {
-    sum + (margin as i64)
+    sum + i64::from(margin)
 }
