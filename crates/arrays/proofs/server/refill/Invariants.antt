@@ -1,11 +1,8 @@
 -- The loop's invariant: the guests passed are refilled, and no other.
-use Rattle.std.proofs.Common.{◌≡◌, ◌-◌, ◌≤◌}
+use Rattle.std.proofs.Common.{◌≡◌}
 use Rattle.lists.specs.Places.{up_to}
 use Rattle.arrays.specs.Parts.{filled}
 use Rattle.arrays.proofs.server.refill.Given as goal
 
 abbrev pub invariant-loop-k : goal.invariant-loop-k
-invariant-loop-k l = (l.k ≤ l.n) × (l.left ≡ up_to (filled l.position l.capacities) l.k l.initial.left)
-
-abbrev pub decreases-loop-k : goal.decreases-loop-k
-decreases-loop-k l = l.n - l.k
+invariant-loop-k l = l.left ≡ up_to (filled l.position l.columns.capacities) l.k l.initial.left
