@@ -4,6 +4,7 @@ ghost use Rattle.steps.specs.Step.{StepsOn};
 
 use crate::stepping::step;
 use crate::{Turn, Went};
+use plan::Columns;
 
 // Steps until one finishes a job or the number is used up.
 pub fn steps(
@@ -13,14 +14,13 @@ pub fn steps(
     wait: &mut [u32; 128],
     age: &mut [u32; 128],
     usage: &mut [u64; 17],
-    capacities: &[u32; 16],
-    periods: &[u32; 16],
-    tasks: &[u32; 16],
+    columns: &Columns,
     n: usize,
     ticks: u32,
 ) -> Went
-    requires { Small n tasks.now }
-    ensures { StepsOn n capacities.now periods.now tasks.now
+    requires { Small n columns.now.tasks }
+    ensures { StepsOn n
+        columns.now.capacities columns.now.periods columns.now.tasks
         (record {
           left = left.old;
           position = position.old;
@@ -44,15 +44,14 @@ pub fn steps(
         task: 0,
         had: 0,
     };
-    let mut done: u32 = 0;
-    while done < ticks {
-        turn = step(
-            left, position, rest, wait, age, usage, capacities, periods, tasks, n,
-        );
-        done += 1;
+    for done in 0..ticks {
+        turn = step(left, position, rest, wait, age, usage, columns, n);
         if turn.had == 1 {
-            return Went { done, turn };
+            return Went {
+                done: done + 1,
+                turn,
+            };
         }
     }
-    Went { done, turn }
+    Went { done: ticks, turn }
 }

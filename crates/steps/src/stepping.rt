@@ -4,11 +4,12 @@ ghost use Rattle.steps.specs.Step.{Serves, Steps};
 
 use crate::Turn;
 use arrays::{advance, fall, grow, holder, refill, tally, worker};
+use plan::Columns;
 
 // The first guest with capacity left has the tick, inside it the first task with run left: each loses one.
-fn serve(left: &mut [u32; 8], rest: &mut [u32; 128], tasks: &[u32; 16], n: usize) -> Turn
-    requires { Small n tasks.now }
-    ensures { Serves n tasks.now left.old rest.old left.new rest.new result }
+fn serve(left: &mut [u32; 8], rest: &mut [u32; 128], columns: &Columns, n: usize) -> Turn
+    requires { Small n columns.now.tasks }
+    ensures { Serves n columns.now.tasks left.old rest.old left.new rest.new result }
 {
     let k = holder(left, n);
     if n <= k {
@@ -18,8 +19,8 @@ fn serve(left: &mut [u32; 8], rest: &mut [u32; 128], tasks: &[u32; 16], n: usize
             had: 0,
         };
     }
-    left[k] = left[k] - 1;
-    let many = tasks[k] as usize;
+    left[k] -= 1;
+    let many = columns.tasks[k] as usize;
     let t = worker(rest, k, many);
     if many <= t {
         return Turn {
@@ -47,14 +48,12 @@ pub fn step(
     wait: &mut [u32; 128],
     age: &mut [u32; 128],
     usage: &mut [u64; 17],
-    capacities: &[u32; 16],
-    periods: &[u32; 16],
-    tasks: &[u32; 16],
+    columns: &Columns,
     n: usize,
 ) -> Turn
-    requires { Small n tasks.now }
+    requires { Small n columns.now.tasks }
     ensures { Steps n
-        capacities.now periods.now tasks.now
+        columns.now.capacities columns.now.periods columns.now.tasks
         (record {
           left = left.old;
           position = position.old;
@@ -73,11 +72,11 @@ pub fn step(
         })
         result }
 {
-    refill(left, position, capacities, n);
+    refill(left, position, columns, n);
     grow(age, rest, n);
     fall(wait, n);
-    advance(position, periods, n);
-    let turn = serve(left, rest, tasks, n);
+    advance(position, columns, n);
+    let turn = serve(left, rest, columns, n);
     tally(usage, n, turn.guest, turn.had);
     turn
 }

@@ -1,15 +1,11 @@
 -- The loop's invariant: the ticks done are steps one after the other, and the last finished no job.
-use mathlib.Core.Path.{◌≡◌}
-use Prim.Native.Nat.{◌≤◌, ◌-◌}
+use Rattle.std.proofs.Common.{◌≢◌}
 use Rattle.steps.specs.Step.{StepsTo}
 use Rattle.steps.proofs.running.steps.Given as goal
 
 abbrev pub invariant-loop-done : goal.invariant-loop-done
 invariant-loop-done l =
-    (l.done ≤ l.ticks)
-    × ((l.turn.had ≡ 1 → ⊥)
-    × StepsTo l.n l.capacities l.periods l.tasks (record { left = l.initial.left; position = l.initial.position; rest = l.initial.rest; wait = l.initial.wait; age = l.initial.age; usage = l.initial.usage }) l.done
-    (record { left = l.left; position = l.position; rest = l.rest; wait = l.wait; age = l.age; usage = l.usage }) l.turn)
-
-abbrev pub decreases-loop-done : goal.decreases-loop-done
-decreases-loop-done l = l.ticks - l.done
+    (l.turn.had ≢ 1)
+    × StepsTo l.n l.columns.capacities l.columns.periods l.columns.tasks
+    (record { left = l.initial.left; position = l.initial.position; rest = l.initial.rest; wait = l.initial.wait; age = l.initial.age; usage = l.initial.usage }) l.done
+    (record { left = l.left; position = l.position; rest = l.rest; wait = l.wait; age = l.age; usage = l.usage }) l.turn
