@@ -1,7 +1,6 @@
 -- The guest's recurrence x := C + above x climbs to the least solution, since its right side grows. Assumes nothing.
 use Rattle.std.specs.Prelude.{Some, None}
 use mathlib.Core.Path.{◌≡◌}
-use mathlib.Core.List.{List}
 use Prim.Native.Nat.{ℕ, ◌+◌, ◌≤◌, ◌<◌}
 use native.Mathlib.Omega.{arith}
 use Rattle.lists.specs.Places.{nth}
@@ -9,21 +8,22 @@ use Rattle.rounding.specs.Asked.{asked}
 use Rattle.equation.specs.Guest.{guest_side, guest_under}
 use Rattle.equation.specs.Standing.{Rising}
 use Rattle.plan.specs.Ranges.{longest}
-use Rattle.response.specs.Columns.{guests_take}
+use Rattle.response.specs.declared.servers.Servers.{Servers}
+use Rattle.response.specs.Columns.{above_of, guests_take}
 use Rattle.rounding.proofs.Asked.{asked_mono}
 use Rattle.equation.proofs.Solve.{solve_at, solve_none, Solved, solve_answers}
 use Rattle.equation.proofs.Rise.{Grows, rise_turn, rise_under}
 
 -- what the guests above take grows with the window
-pub take_grows : (capacities periods jitters : List ℕ) (n : ℕ) → Grows (guests_take capacities periods jitters n)
+pub take_grows : (s : Servers) (n : ℕ) → Grows (above_of s n)
 unfolding guests_take
-take_grows capacities periods jitters n a b h = asked_mono (nth capacities) (nth periods) (nth jitters) n h
+take_grows s n a b h = asked_mono (nth s.capacities) (nth s.periods) (nth s.jitters) n h
 
 -- what the kept quotients of the guests above ask is what those take
-pub take_is : (capacities periods jitters : List ℕ) (n v sum : ℕ) → sum ≡ asked (nth capacities) (nth periods) (nth jitters) n v
-    → sum ≡ guests_take capacities periods jitters n v
+pub take_is : (s : Servers) (n v sum : ℕ) → sum ≡ asked (nth s.capacities) (nth s.periods) (nth s.jitters) n v
+    → sum ≡ above_of s n v
 unfolding guests_take
-take_is capacities periods jitters n v sum e = e
+take_is s n v sum e = e
 
 -- no number that the recurrence climbs through is past a solution
 pub from_under : (above : ℕ → ℕ) (capacity most x : ℕ) → Rising (guest_side above capacity) x → most < x

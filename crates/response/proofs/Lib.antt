@@ -4,7 +4,7 @@ pub mod GuestLaws
 pub mod TaskLaws
 pub mod MetLaws
 pub mod GapsLaws
-pub mod JittersLaws
+pub mod ServersLaws
 pub mod ColumnsLaws
 pub mod ReadyLaws
 pub mod SeatLaws

@@ -9,52 +9,48 @@ use Rattle.lists.specs.All.{all_to}
 use Rattle.lists.specs.Places.{nth}
 use Rattle.equation.specs.Guest.{guest_under}
 use Rattle.equation.specs.System.{gap_for}
-use Rattle.plan.specs.Charge.{charged}
-use Rattle.plan.specs.Filled.{Filled, ColumnsOf}
+use Rattle.plan.specs.Filled.{Filled}
 use Rattle.plan.specs.Marks.{is_bound}
 use Rattle.plan.specs.Ranges.{most_guests, longest}
 use Rattle.plan.specs.Records.{guest_at, run_of}
-use Rattle.plan.specs.declared.Columns.{Columns}
 use Rattle.plan.specs.declared.Guest.{Guest}
 use Rattle.plan.specs.declared.Plan.{Plan}
-use Rattle.response.specs.Columns.{guests_take, fitted_at, column_system, fitted_in}
-use Rattle.response.specs.Ready.{Ready, ServerIn, EachShort, AboveIn, TasksIn, EachSome, ColumnsIn, InRange, Seated}
+use Rattle.response.specs.declared.servers.Servers.{Servers}
+use Rattle.response.specs.declared.tasks.Tasks.{Tasks}
+use Rattle.response.specs.Columns.{ServersOf, TasksOf, above_of, fitted_of, fitted_at, column_system, fitted_in}
+use Rattle.response.specs.Ready.{Ready, ServerIn, EachShort, AboveIn, TasksIn, ColumnsIn, InRange, Seated}
 use Rattle.lists.proofs.All.{all_at}
 use Rattle.equation.proofs.System.{gap_for_most}
 use Rattle.plan.proofs.Charge.{charged_least}
 use Rattle.plan.proofs.Order.{PlanIn}
-use Rattle.response.proofs.JittersLaws.{JittersOf, jitter_most}
+use Rattle.response.proofs.ServersLaws.{jitter_most}
 
 -- a fitted capacity in its ranges is ready for the tasks' recurrences
-pub guest_ready : (above : ℕ → ℕ) (capacity period : ℕ) (run every late deadline : List ℕ) (n : ℕ)
-    → InRange capacity period run every late deadline n
-    → fitted_in (column_system above capacity period run every late) ≡ true → (i : ℕ) → i < n
-    → Ready (column_system above capacity period run every late) i
-guest_ready above capacity period run every late deadline n s fits i h = record {
+pub guest_ready : (above : ℕ → ℕ) (capacity period : ℕ) (t : Tasks) (late : List ℕ)
+    → InRange capacity period t late
+    → fitted_in (column_system above capacity period t.run t.every late) ≡ true → (i : ℕ) → i < t.count
+    → Ready (column_system above capacity period t.run t.every late) i
+guest_ready above capacity period t late s fits i h = record {
   some = s.server.some;
   within = s.server.within;
   fits = fits;
   runs = s.tasks.runs i h;
 }
 
--- the charged runs of records in their ranges are runs
-pub filled_runs : (g : Guest) → TasksIn g → {run : List ℕ} → Filled run (charged g) g.tasks → EachSome run g.tasks
-filled_runs g s f i h = omega (arith, f.holds i h, s.some i h, charged_least (run_of g i) g.charge)
-
--- the columns of records in their ranges are in theirs
-pub filled_columns : (g : Guest) → TasksIn g → {run : List ℕ} → Filled run (charged g) g.tasks
-    → ColumnsIn run g.every g.deadline g.tasks
-filled_columns g s f = record {
-  few = s.few;
-  runs = filled_runs g s f;
-  asks = s.asks;
-  periods = s.periods;
-  deadlines = s.deadlines;
-}
+-- the columns of a record in its ranges are in theirs
+pub filled_columns : (g : Guest) → TasksIn g → {t : Tasks} → TasksOf g t → ColumnsIn t t.count
+filled_columns g s {t} o =
+    rw o.count
+    record {
+      few = s.few;
+      runs = λ i h. omega (arith, o.runs.holds i h, s.some i h, charged_least (run_of g i) g.charge);
+      asks = rw o.every s.asks;
+      periods = rw o.every s.periods;
+      deadlines = rw o.deadline s.deadlines;
+    }
 
 -- fewer of them are too
-pub columns_fewer : {run every deadline : List ℕ} {n m : ℕ} → ColumnsIn run every deadline n → m ≤ n
-    → ColumnsIn run every deadline m
+pub columns_fewer : {t : Tasks} {n m : ℕ} → ColumnsIn t n → m ≤ n → ColumnsIn t m
 columns_fewer s h = record {
   few = omega (arith, s.few);
   runs = λ i l. s.runs i (omega arith);
@@ -69,47 +65,45 @@ pub filled_gaps : (is_bound : ℕ → Bool) (capacity period n : ℕ) → period
 filled_gaps is_bound capacity period n short f i h =
     omega (arith, f.holds i h, gap_for_most (is_bound i) (period - capacity))
 
-module _ (g : Guest) (capacities periods jitters : List ℕ) (k : ℕ) (s : Seated g capacities periods jitters k) where
+module _ (g : Guest) (s : Servers) (k : ℕ) (q : Seated g s k) where
   -- the guest's capacity and period are in their ranges
   pub seated_server : ServerIn g.capacity g.period
-  seated_server = rw (← s.capacity, ← s.period) (s.ranged k (omega arith))
+  seated_server = rw (← q.capacity, ← q.period) (q.ranged k (omega arith))
 
   -- it can be tried
-  pub seated_range : {run late : List ℕ} → Filled run (charged g) g.tasks
-      → Filled late (λ i. gap_for (is_bound g i) (g.period - g.capacity)) g.tasks
-      → InRange g.capacity g.period run g.every late g.deadline g.tasks
-  seated_range f l = record {
+  pub seated_range : {t : Tasks} {late : List ℕ} → TasksOf g t
+      → Filled late (λ i. gap_for (is_bound g i) (g.period - g.capacity)) t.count
+      → InRange g.capacity g.period t late
+  seated_range {t} o l = record {
     server = seated_server;
-    tasks = filled_columns g s.tasks f;
-    gaps = filled_gaps (is_bound g) g.capacity g.period g.tasks seated_server.short l;
+    tasks = filled_columns g q.tasks o;
+    gaps = filled_gaps (is_bound g) g.capacity g.period t.count seated_server.short l;
   }
 
   -- the guest and those above are in their ranges
-  pub seated_all : AboveIn periods jitters (k + 1)
-  seated_all = (omega (arith, s.place), (λ j h. (s.ranged j h).short, s.late))
+  pub seated_all : AboveIn s (k + 1)
+  seated_all = (omega (arith, q.place), (λ j h. (q.ranged j h).short, q.late))
 
   -- those above are
-  pub seated_above : AboveIn periods jitters k
+  pub seated_above : AboveIn s k
   seated_above = (
-    omega (arith, s.place),
-    (λ j h. (s.ranged j (omega arith)).short, λ j h. s.late j (omega arith)),
+    omega (arith, q.place),
+    (λ j h. (q.ranged j (omega arith)).short, λ j h. q.late j (omega arith)),
   )
 
   -- the guest is fitted where it and all above are
-  pub seated_fits : all_to (fitted_at capacities periods jitters) (k + 1) ≡ true
-      → is_some (guest_under (guests_take capacities periods jitters k) g.capacity g.period) ≡ true
+  pub seated_fits : all_to (fitted_of s) (k + 1) ≡ true
+      → is_some (guest_under (above_of s k) g.capacity g.period) ≡ true
   unfolding fitted_at
   seated_fits a =
-      let above = guests_take capacities periods jitters k in
-      ap (λ (c : ℕ). is_some (guest_under above c g.period)) (sym s.capacity)
-      ∙ ap (λ (t : ℕ). is_some (guest_under above (nth capacities k) t)) (sym s.period)
-      ∙ all_at (fitted_at capacities periods jitters) (k + 1) k (omega arith) a
+      ap (λ (c : ℕ). is_some (guest_under (above_of s k) c g.period)) (sym q.capacity)
+      ∙ ap (λ (t : ℕ). is_some (guest_under (above_of s k) (nth s.capacities k) t)) (sym q.period)
+      ∙ all_at (fitted_of s) (k + 1) k (omega arith) a
 
--- each guest of records in order is seated in their columns
-pub seated_at : (p : Plan) (c : Columns) → ColumnsOf p.guests most_guests c → {jitters : List ℕ}
-    → JittersOf c jitters → PlanIn p → (k : ℕ) → k < p.count
-    → Seated (guest_at p.guests k) c.capacities c.periods jitters k
-seated_at p c f late o k h =
+-- each guest of records in order is seated among their servers
+pub seated_at : (p : Plan) {s : Servers} → ServersOf p.guests most_guests s → PlanIn p → (k : ℕ) → k < p.count
+    → Seated (guest_at p.guests k) s k
+seated_at p f o k h =
     let here : k < 8 = omega (arith, o.few) in
     let g = o.guests k h in
     record {
@@ -125,8 +119,7 @@ seated_at p c f late o k h =
       late = λ j l. (
           let b : j < 8 = omega arith in
           let g = (o.guests j (omega arith)).head in
-          let most = jitter_most c.deferrable c.capacities c.periods j in
-          omega (arith, late.holds j b, most, f.periods.holds j b, g.short));
+          omega (arith, f.jitters.holds j b, jitter_most (guest_at p.guests j), g.short));
       capacity = f.capacities.holds k here;
       period = f.periods.holds k here;
       tasks = record {

@@ -19,12 +19,12 @@ pub record Begins (S : System) (i w : ℕ) (edge : List ℕ) (sum : ℕ) : Type 
   pub stands : Stands S i w
   pub behind : Behind S.run S.every S.gap (nth edge) i w sum
 
--- The search found the least window of at most t ticks, or 0 for none; the edges are those of the window.
-pub record FindsWindow (S : System) (i t : ℕ) (edge : List ℕ) (sum r : ℕ) : Type 0 where
-  pub is : r ≡ ticks_of (solve (right S i) t)
+-- The search found the least window of at most t ticks, if there is one; the edges are those of the window.
+pub record FindsWindow (S : System) (i t : ℕ) (edge : List ℕ) (sum : ℕ) (r : Option ℕ) : Type 0 where
+  pub is : r ≡ solve (right S i) t
   pub long : length edge ≡ 16
-  pub stands : 1 ≤ r → Stands S i r
-  pub kept : 1 ≤ r → Kept S.run S.every S.gap (nth edge) i r sum
+  pub stands : (w : ℕ) → r ≡ Some w → Stands S i w
+  pub kept : (w : ℕ) → r ≡ Some w → Kept S.run S.every S.gap (nth edge) i w sum
 
 -- The tasks from `from` up to r are met, and r is the first that is not, or n.
 pub record MetTo (S : System) (deadline : ℕ → ℕ) (from n r : ℕ) : Type 0 where

@@ -8,6 +8,7 @@ ghost use Rattle.plan.specs.Ranges.{most_tasks};
 use plan::is_marked;
 
 // What a task meets of a gap: nothing where it is bound.
+#[tactic(auto, unfolding(equation::specs::System::gap_for))]
 fn gap_for(bound: bool, gap: u32) -> u32
     ensures { result ≡ gap_for bound gap }
 {
@@ -23,10 +24,8 @@ pub fn gaps_of(marks: u16, gap: u32, n: usize) -> [u32; 16]
     if marks < 1 {
         return r;
     }
-    let mut i: usize = 0;
-    while i < n {
+    for i in 0..n {
         r[i] = gap_for(is_marked(marks, i), gap);
-        i += 1;
     }
     r
 }

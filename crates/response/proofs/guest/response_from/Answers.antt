@@ -4,7 +4,7 @@ use mathlib.Core.Path.{◌≡◌}
 use Prim.Native.Nat.{ℕ, ◌+◌}
 use native.Mathlib.Omega.{arith}
 use lib.ListN.{length-replicate}
-use Rattle.response.specs.Columns.{guests_take}
+use Rattle.response.specs.Columns.{above_of}
 use Rattle.rounding.proofs.Edges.{none_behind, zeros, kept_behind, kept_most}
 use Rattle.response.proofs.GuestLaws.{take_grows, take_is, from_under, guest_turn, guest_found, guest_none}
 use Rattle.response.proofs.guest.response_from.Goals as goal
@@ -12,11 +12,11 @@ use Rattle.response.proofs.guest.response_from.Goals as goal
 pub returns-then-most-from : goal.returns-then-most-from
 returns-then-most-from c = from_under _ _ _ _ c.requires.rising c.if-most-from.true
 
-pub loop-edge-init : goal.loop-edge-init
-loop-edge-init c =
+pub loop-capacities-init : goal.loop-capacities-init
+loop-capacities-init c =
     let s = c.requires in (
       record {
-        grows = take_grows _ _ _ _;
+        grows = take_grows _ _;
         short = s.above_in.1.1.1;
         low = s.above_in.1.1.0;
         high = omega arith;
@@ -27,45 +27,33 @@ loop-edge-init c =
 
 pub moved_on-sum-requires : goal.moved_on-sum-requires
 moved_on-sum-requires c =
-    let i = c.loop-edge.invariant.0 in
+    let i = c.loop-capacities.invariant.0 in
     let above = c.requires.above_in.0 in
     record {
       n_bound = (above.0, (λ j h. omega (arith, i.high, i.short, above.1.1 j h), λ j h. omega (arith, above.1.0 j h)));
-      edge_len = c.loop-edge.invariant.1;
+      edge_len = c.loop-capacities.invariant.1;
     }
 
 pub overflow_add-next : goal.overflow_add-next
 overflow_add-next c = omega (arith, kept_most c.moved_on-sum.ensures.1, c.requires.above_in.0.0)
 
-pub returns-then-next-wide : goal.returns-then-next-wide
-returns-then-next-wide c =
-    guest_found {y = c.wide.result + c.moved_on-sum.result} c.loop-edge.invariant.0 (omega (
-      arith,
-      take_is c.args.capacities.now c.args.periods.now c.args.jitters.now c.args.n c.loop-edge.x
-          c.moved_on-sum.result c.moved_on-sum.ensures.1.is,
-      c.wide.ensures.0,
-    )) (omega arith)
+pub returns-then-next-from : goal.returns-then-next-from
+returns-then-next-from c =
+    guest_found {y = c.args.capacity + c.moved_on-sum.result} c.loop-capacities.invariant.0
+    (omega (arith, take_is c.args.servers.now c.args.n c.loop-capacities.x c.moved_on-sum.result c.moved_on-sum.ensures.1.is))
+    (omega arith)
 
-pub returns-then-wide-next : goal.returns-then-wide-next
-returns-then-wide-next c =
-    guest_none {y = c.wide.result + c.moved_on-sum.result} c.loop-edge.invariant.0 (omega (
-      arith,
-      take_is c.args.capacities.now c.args.periods.now c.args.jitters.now c.args.n c.loop-edge.x
-          c.moved_on-sum.result c.moved_on-sum.ensures.1.is,
-      c.wide.ensures.0,
-    )) (omega arith)
+pub returns-then-from-next : goal.returns-then-from-next
+returns-then-from-next c =
+    guest_none {y = c.args.capacity + c.moved_on-sum.result} c.loop-capacities.invariant.0
+    (omega (arith, take_is c.args.servers.now c.args.n c.loop-capacities.x c.moved_on-sum.result c.moved_on-sum.ensures.1.is))
+    (omega arith)
 
-pub loop-edge-preserved : goal.loop-edge-preserved
-loop-edge-preserved c =
-    let e : c.wide.result + c.moved_on-sum.result
-    ≡ c.args.capacity
-    + guests_take c.args.capacities.now c.args.periods.now c.args.jitters.now c.args.n c.loop-edge.x =
-    (omega (
-      arith,
-      take_is c.args.capacities.now c.args.periods.now c.args.jitters.now c.args.n c.loop-edge.x
-          c.moved_on-sum.result c.moved_on-sum.ensures.1.is,
-      c.wide.ensures.0,
-    )) in (
-      guest_turn c.loop-edge.invariant.0 e (omega arith) (omega arith),
+pub loop-capacities-preserved : goal.loop-capacities-preserved
+loop-capacities-preserved c =
+    let e : c.from.result + c.moved_on-sum.result
+    ≡ c.args.capacity + above_of c.args.servers.now c.args.n c.loop-capacities.x =
+    omega (arith, take_is c.args.servers.now c.args.n c.loop-capacities.x c.moved_on-sum.result c.moved_on-sum.ensures.1.is) in (
+      guest_turn c.loop-capacities.invariant.0 e (omega arith) (omega arith),
       (c.moved_on-sum.ensures.0, kept_behind c.moved_on-sum.ensures.1 _ (omega arith)),
     )

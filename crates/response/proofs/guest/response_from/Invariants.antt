@@ -5,14 +5,14 @@ use Prim.Native.Nat.{◌-◌}
 use lib.ListN.{length}
 use Rattle.lists.specs.Places.{nth}
 use Rattle.rounding.specs.Edges.{Behind}
-use Rattle.response.specs.Columns.{guests_take}
+use Rattle.response.specs.Columns.{above_of}
 use Rattle.response.proofs.GuestLaws.{GuestInv}
 use Rattle.response.proofs.guest.response_from.Given as goal
 
-abbrev pub invariant-loop-edge : goal.invariant-loop-edge
-invariant-loop-edge l =
-    GuestInv (guests_take l.capacities l.periods l.jitters l.n) l.capacity l.most l.x
-    × ((length l.edge ≡ 16) × Behind (nth l.capacities) (nth l.periods) (nth l.jitters) (nth l.edge) l.n l.x l.sum)
+abbrev pub invariant-loop-capacities : goal.invariant-loop-capacities
+invariant-loop-capacities l =
+    GuestInv (above_of l.servers l.n) l.capacity l.most l.x
+    × ((length l.edge ≡ 16) × Behind (nth l.servers.capacities) (nth l.servers.periods) (nth l.servers.jitters) (nth l.edge) l.n l.x l.sum)
 
-abbrev pub decreases-loop-edge : goal.decreases-loop-edge
-decreases-loop-edge l = l.most - l.x
+abbrev pub decreases-loop-capacities : goal.decreases-loop-capacities
+decreases-loop-capacities l = l.most - l.x

@@ -1,34 +1,20 @@
 -- `response::task::task_response` meets its contract: a search with no edges, from 1 on. Assumes nothing.
+use mathlib.Core.Path.{◌∙◌}
 use native.Mathlib.Omega.{arith}
-use Rattle.response.specs.Columns.{guests_take, column_system}
+use Rattle.response.specs.Columns.{system_at}
 use Rattle.response.proofs.GuestLaws.{take_grows}
 use Rattle.response.proofs.MetLaws.{begins_fresh, finds_none, finds_at, finds_within}
 use Rattle.response.proofs.task.task_response.Goals as goal
 
-pub window_from-w-requires : goal.window_from-w-requires
-window_from-w-requires c =
-    record {
-      above_in = c.requires.above_in;
-      ready = c.requires.ready;
-      most_le_longest = c.requires.most_le_longest;
-      begins = begins_fresh (column_system (guests_take c.args.capacities.now c.args.periods.now c.args.jitters.now c.args.n)
-          c.args.capacity c.args.period c.args.run.now c.args.every.now c.args.late.now) (take_grows _ _ _ _) c.args.i c.requires.ready;
-    }
+pub window_from-requires-clause-begins : goal.window_from-requires-clause-begins
+window_from-requires-clause-begins c =
+    begins_fresh (system_at _ _ _ _ c.args.tasks.now _) (take_grows c.args.servers.now c.args.n) _ c.requires.ready
 
-pub returns-then-w-lt1 : goal.returns-then-w-lt1
-returns-then-w-lt1 c =
-    finds_none (column_system (guests_take c.args.capacities.now c.args.periods.now c.args.jitters.now c.args.n)
-    c.args.capacity c.args.period c.args.run.now c.args.every.now c.args.late.now) c.args.i c.args.most c.window_from-w.ensures c.if-w-lt1.true
+pub returns-in_err-w : goal.returns-in_err-w
+returns-in_err-w c = c.from_residual.ensures ∙ finds_none (system_at _ _ _ _ c.args.tasks.now _) c.args.i c.args.most c.in_err-w.ensures
 
 pub overflow_add-result : goal.overflow_add-result
-overflow_add-result c =
-    omega (
-      arith,
-      finds_within (column_system (guests_take c.args.capacities.now c.args.periods.now c.args.jitters.now c.args.n)
-          c.args.capacity c.args.period c.args.run.now c.args.every.now c.args.late.now) c.args.i c.args.most c.window_from-w.ensures (omega arith),
-    )
+overflow_add-result c = omega (arith, finds_within (system_at _ _ _ _ c.args.tasks.now _) c.args.i c.args.most c.in_ok-w.ensures)
 
 pub returns : goal.returns
-returns c =
-    finds_at (column_system (guests_take c.args.capacities.now c.args.periods.now c.args.jitters.now c.args.n)
-    c.args.capacity c.args.period c.args.run.now c.args.every.now c.args.late.now) c.args.i c.args.most c.window_from-w.ensures (omega arith)
+returns c = finds_at (system_at _ _ _ _ c.args.tasks.now _) c.args.i c.args.most c.in_ok-w.ensures

@@ -3,7 +3,7 @@
 use Prim.Native.Nat.{◌-◌}
 use native.Mathlib.Omega.{arith}
 use Rattle.lists.specs.Places.{nth}
-use Rattle.response.specs.Columns.{guests_take, column_system}
+use Rattle.response.specs.Columns.{system_at}
 use Rattle.rounding.proofs.Edges.{kept_behind, kept_most}
 use Rattle.equation.proofs.Standing.{stands_under}
 use Rattle.response.proofs.GuestLaws.{take_grows}
@@ -12,15 +12,13 @@ use Rattle.response.proofs.task.window_from.Goals as goal
 
 pub returns-then-most-gap : goal.returns-then-most-gap
 returns-then-most-gap c =
-    finds_late (column_system (guests_take c.args.capacities.now c.args.periods.now c.args.jitters.now c.args.n)
-    c.args.capacity c.args.period c.args.run.now c.args.every.now c.args.late.now) c.args.i (c.args.most - nth c.args.late.now c.args.i) _ _ 1
+    finds_late (system_at _ _ _ _ c.args.tasks.now c.args.late.now) c.args.i (c.args.most - nth c.args.late.now c.args.i) _ _ 1
     c.requires.begins.long (omega arith) (λ z h e. h)
 
 pub returns-then-room-from : goal.returns-then-room-from
 returns-then-room-from c =
-    let S = column_system (guests_take c.args.capacities.now c.args.periods.now c.args.jitters.now c.args.n)
-    c.args.capacity c.args.period c.args.run.now c.args.every.now c.args.late.now in
-    let x = regular S (take_grows _ _ _ _) c.args.i c.requires.ready in
+    let S = system_at c.args.servers.now c.args.n c.args.capacity c.args.period c.args.tasks.now c.args.late.now in
+    let x = regular S (take_grows c.args.servers.now c.args.n) c.args.i c.requires.ready in
     let b = c.requires.begins in
     finds_late S c.args.i (c.args.most - nth c.args.late.now c.args.i) _ _ c.args.from
     b.long (omega arith) (stands_under S c.args.i x.0 x.1 c.args.from b.stands)
@@ -41,14 +39,12 @@ moved_on-asks-requires c =
     }
 
 pub overflow_add-load : goal.overflow_add-load
-overflow_add-load c =
-    omega (arith, kept_most c.moved_on-asks.ensures.1, c.wide-own.ensures.1, c.requires.above_in.1)
+overflow_add-load c = omega (arith, kept_most c.moved_on-asks.ensures.1, c.requires.above_in.1)
 
-pub loop-n-init : goal.loop-n-init
-loop-n-init c =
-    let S = column_system (guests_take c.args.capacities.now c.args.periods.now c.args.jitters.now c.args.n)
-    c.args.capacity c.args.period c.args.run.now c.args.every.now c.args.late.now in
-    let x = regular S (take_grows _ _ _ _) c.args.i c.requires.ready in
+pub loop-next-init : goal.loop-next-init
+loop-next-init c =
+    let S = system_at c.args.servers.now c.args.n c.args.capacity c.args.period c.args.tasks.now c.args.late.now in
+    let x = regular S (take_grows c.args.servers.now c.args.n) c.args.i c.requires.ready in
     record {
       x = x.0;
       sure = x.1;
@@ -57,29 +53,27 @@ loop-n-init c =
       high = omega arith;
       stands = c.requires.begins.stands;
       kept = c.moved_on-asks.ensures.1;
-      is =
-          load_is S c.args.i c.args.from _ _ c.wide-own.ensures.0
-          c.moved_on-asks.ensures.1.is;
+      is = load_is S c.args.i c.args.from _ _ c.from-own.ensures c.moved_on-asks.ensures.1.is;
     }
 
-pub window_of-next-requires : goal.window_of-next-requires
-window_of-next-requires c =
+pub window_of-requires : goal.window_of-requires
+window_of-requires c =
     let ready = c.requires.ready in
-    let i = c.loop-n.invariant in
+    let i = c.loop-next.invariant in
     record {
       above_in = (c.requires.above_in.0, ((ready.some, ready.within), (search_some i, i.short)));
       rising = search_on i;
     }
 
-pub returns-then-next-lt1 : goal.returns-then-next-lt1
-returns-then-next-lt1 c =
-    search_none c.loop-n.invariant _ c.window_of-next.ensures c.if-next-lt1.true _
+pub returns-in_err-next : goal.returns-in_err-next
+returns-in_err-next c =
+    rw c.from_residual.ensures (search_none c.loop-next.invariant c.in_err-next.ensures _)
 
-pub moved_on-asks-requires-in-loop-n : goal.moved_on-asks-requires-in-loop-n
-moved_on-asks-requires-in-loop-n c =
-    let i = c.loop-n.invariant in
+pub moved_on-asks-requires-in-loop-next : goal.moved_on-asks-requires-in-loop-next
+moved_on-asks-requires-in-loop-next c =
+    let i = c.loop-next.invariant in
     let short = c.requires.most_le_longest in
-    let on = search_later i _ c.window_of-next.ensures (omega arith) in
+    let on = search_later i _ c.in_ok-next.ensures in
     record {
       n_bound = (
         omega (arith, c.requires.above_in.1),
@@ -89,21 +83,22 @@ moved_on-asks-requires-in-loop-n c =
     }
 
 pub overflow_add-more : goal.overflow_add-more
-overflow_add-more c =
-    omega (arith, kept_most c.moved_on-asks-in-loop-n.ensures.1, c.wide-own.ensures.1, c.requires.above_in.1)
+overflow_add-more c = omega (arith, kept_most c.moved_on-asks-in-loop-next.ensures.1, c.requires.above_in.1)
 
 pub returns-then-more-load : goal.returns-then-more-load
 returns-then-more-load c =
-    search_found c.loop-n.invariant _ c.window_of-next.ensures (omega arith) _ _ _
-    c.moved_on-asks-in-loop-n.ensures.0 c.moved_on-asks-in-loop-n.ensures.1 (load_is (column_system (guests_take c.args.capacities.now c.args.periods.now c.args.jitters.now c.args.n)
-    c.args.capacity c.args.period c.args.run.now c.args.every.now c.args.late.now) c.args.i _ _ _ c.wide-own.ensures.0 c.moved_on-asks-in-loop-n.ensures.1.is) (omega arith)
+    search_found c.loop-next.invariant _ c.in_ok-next.ensures _ _ _
+    c.moved_on-asks-in-loop-next.ensures.0 c.moved_on-asks-in-loop-next.ensures.1
+    (load_is (system_at c.args.servers.now c.args.n _ _ c.args.tasks.now c.args.late.now) c.args.i _ _ _ c.from-own.ensures
+    c.moved_on-asks-in-loop-next.ensures.1.is)
+    (omega arith)
 
-pub loop-n-smaller : goal.loop-n-smaller
-loop-n-smaller c =
-    omega (arith, search_room c.loop-n.invariant _ c.window_of-next.ensures (omega arith))
+pub loop-next-smaller : goal.loop-next-smaller
+loop-next-smaller c = omega (arith, search_room c.loop-next.invariant _ c.in_ok-next.ensures)
 
-pub loop-n-preserved : goal.loop-n-preserved
-loop-n-preserved c =
-    search_turn c.loop-n.invariant _ c.window_of-next.ensures (omega arith) _ _ _
-    c.moved_on-asks-in-loop-n.ensures.0 c.moved_on-asks-in-loop-n.ensures.1 (load_is (column_system (guests_take c.args.capacities.now c.args.periods.now c.args.jitters.now c.args.n)
-    c.args.capacity c.args.period c.args.run.now c.args.every.now c.args.late.now) c.args.i _ _ _ c.wide-own.ensures.0 c.moved_on-asks-in-loop-n.ensures.1.is)
+pub loop-next-preserved : goal.loop-next-preserved
+loop-next-preserved c =
+    search_turn c.loop-next.invariant _ c.in_ok-next.ensures _ _ _
+    c.moved_on-asks-in-loop-next.ensures.0 c.moved_on-asks-in-loop-next.ensures.1
+    (load_is (system_at c.args.servers.now c.args.n _ _ c.args.tasks.now c.args.late.now) c.args.i _ _ _ c.from-own.ensures
+    c.moved_on-asks-in-loop-next.ensures.1.is)

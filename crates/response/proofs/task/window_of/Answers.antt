@@ -1,65 +1,49 @@
 -- `response::task::window_of` meets its contract: what is left of the load climbs in its last server period. Assumes
 -- nothing.
--- what the code works out is where the last server period starts and what is left for it
-use mathlib.Core.Path.{refl, ◌∙◌}
+use mathlib.Core.Path.{refl, ap, ◌∙◌}
+use Prim.Native.Nat.{ℕ, ◌*◌}
 use native.Mathlib.Omega.{arith}
-use Rattle.response.specs.Columns.{guests_take}
-use Rattle.response.proofs.TaskLaws.{load_parts, window_late, window_large, begun_rises, window_is, window_within}
+use Rattle.response.specs.Columns.{above_of}
+use Rattle.response.proofs.TaskLaws.{window_past, window_large, begun_rises, window_missing, window_is, window_within}
 use Rattle.response.proofs.task.window_of.Goals as goal
 
-pub returns-then-wide-load : goal.returns-then-wide-load
-returns-then-wide-load c =
-    let a = c.args in
-    window_large (guests_take a.capacities.now a.periods.now a.jitters.now a.n) a.capacity a.period
-    a.load a.room c.requires.above_in.1.0.0 c.requires.above_in.1.1.0 c.requires.above_in.1.0.1 (omega arith)
+pub returns-then-from-load : goal.returns-then-from-load
+returns-then-from-load c =
+    window_large (above_of c.args.servers.now c.args.n) _ c.args.period c.args.load c.args.room c.requires.above_in.1.0.0 c.requires.above_in.1.1.0
+    c.requires.above_in.1.0.1 (omega arith)
 
-pub returns-then-wide-start : goal.returns-then-wide-start
-returns-then-wide-start c =
-    let a = c.args in
-    window_late (guests_take a.capacities.now a.periods.now a.jitters.now a.n) a.capacity a.period
-    a.load a.room c.requires.above_in.1.0.0 c.requires.above_in.1.1.0 (omega (
-      arith,
-      (load_parts (guests_take a.capacities.now a.periods.now a.jitters.now a.n) a.capacity a.period
-          a.load a.room c.requires.above_in.1.0.0 c.requires.above_in.1.1.0 c.whole_of-m.ensures.0 c.times-start.ensures
-          refl).0,
-    ))
+pub returns-then-from-start : goal.returns-then-from-start
+returns-then-from-start c =
+    window_past (above_of c.args.servers.now c.args.n) _ c.args.period c.args.load c.args.room c.requires.above_in.1.0.0 c.requires.above_in.1.1.0
+    c.whole_of-m.ensures.0 (ap (λ (n : ℕ). n * c.from-3.result) c.from-2.ensures ∙ ap (λ (n : ℕ). c.whole_of-m.result * n) c.from-3.ensures) refl (omega arith)
 
 pub response_from-requires : goal.response_from-requires
 response_from-requires c =
-    let a = c.args in
-    let here = load_parts (guests_take a.capacities.now a.periods.now a.jitters.now a.n) a.capacity a.period
-    a.load a.room c.requires.above_in.1.0.0 c.requires.above_in.1.1.0 c.whole_of-m.ensures.0 c.times-start.ensures
-    refl in
     let begins =
-    begun_rises (guests_take a.capacities.now a.periods.now a.jitters.now a.n) a.capacity a.period
-    a.load a.room c.requires.above_in.1.0.0 c.requires.above_in.1.1.0 here.0 here.1 a.w c.begun.result c.requires.rising
-    c.begun.ensures in
+    begun_rises (above_of c.args.servers.now c.args.n) _ c.args.period c.args.load c.args.room c.requires.above_in.1.0.0 c.requires.above_in.1.1.0
+    c.whole_of-m.ensures.0 (ap (λ (n : ℕ). n * c.from-3.result) c.from-2.ensures ∙ ap (λ (n : ℕ). c.whole_of-m.result * n) c.from-3.ensures) refl
+    c.args.w c.begun.result c.requires.rising c.begun.ensures in
     record {
       above_in = (c.requires.above_in.0, (omega (arith, c.whole_of-m.ensures.1), (begins.0, omega (arith, c.requires.above_in.1.1.1))));
       rising = begins.1;
     }
 
-pub window_at-requires : goal.window_at-requires
-window_at-requires c =
-    let a = c.args in
-    let here = load_parts (guests_take a.capacities.now a.periods.now a.jitters.now a.n) a.capacity a.period
-    a.load a.room c.requires.above_in.1.0.0 c.requires.above_in.1.1.0 c.whole_of-m.ensures.0 c.times-start.ensures
-    refl in
+pub returns-in_err-part : goal.returns-in_err-part
+returns-in_err-part c =
+    c.from_residual.ensures
+    ∙ window_missing (above_of c.args.servers.now c.args.n) _ c.args.period c.args.load c.args.room c.requires.above_in.1.0.0 c.requires.above_in.1.1.0
+    c.whole_of-m.ensures.0 (ap (λ (n : ℕ). n * c.from-3.result) c.from-2.ensures ∙ ap (λ (n : ℕ). c.whole_of-m.result * n) c.from-3.ensures) refl c.in_err-part.ensures
+
+pub overflow_add-result : goal.overflow_add-result
+overflow_add-result c =
     omega (
       arith,
       c.requires.above_in.1.1.1,
-      window_within (guests_take a.capacities.now a.periods.now a.jitters.now a.n) a.capacity
-          a.period a.load a.room c.requires.above_in.1.0.0 c.requires.above_in.1.1.0 here.0 here.1
-          c.response_from.result (omega arith) c.response_from.ensures,
+      window_within (above_of c.args.servers.now c.args.n) _ c.args.period c.args.load c.args.room c.requires.above_in.1.0.0 c.requires.above_in.1.1.0
+          c.whole_of-m.ensures.0 (ap (λ (n : ℕ). n * c.from-3.result) c.from-2.ensures ∙ ap (λ (n : ℕ). c.whole_of-m.result * n) c.from-3.ensures) refl _ (omega arith) c.in_ok-part.ensures,
     )
 
 pub returns : goal.returns
 returns c =
-    let a = c.args in
-    let here = load_parts (guests_take a.capacities.now a.periods.now a.jitters.now a.n) a.capacity a.period
-    a.load a.room c.requires.above_in.1.0.0 c.requires.above_in.1.1.0 c.whole_of-m.ensures.0 c.times-start.ensures
-    refl in
-    c.window_at.ensures
-    ∙ window_is (guests_take a.capacities.now a.periods.now a.jitters.now a.n) a.capacity a.period
-    a.load a.room c.requires.above_in.1.0.0 c.requires.above_in.1.1.0 here.0 here.1 c.response_from.result
-    c.response_from.ensures
+    window_is (above_of c.args.servers.now c.args.n) _ c.args.period c.args.load c.args.room c.requires.above_in.1.0.0 c.requires.above_in.1.1.0
+    c.whole_of-m.ensures.0 (ap (λ (n : ℕ). n * c.from-3.result) c.from-2.ensures ∙ ap (λ (n : ℕ). c.whole_of-m.result * n) c.from-3.ensures) refl _ c.in_ok-part.ensures

@@ -1,24 +1,19 @@
--- The column of the guests' jitters. Assumes nothing.
-use mathlib.Core.Path.{◌≡◌, refl}
+-- The servers of a plan, off its columns. Assumes nothing.
+use mathlib.Core.Path.{◌≡◌, refl, ◌∙◌}
 use mathlib.Core.Bool.{Bool, true, false}
 use mathlib.Core.List.{List}
 use Prim.Native.Nat.{ℕ, ◌-◌, ◌≤◌, ◌<◌}
 use native.Mathlib.Omega.{arith}
 use borrow.Author.Tests.{ne_eqb}
 use Rattle.lists.specs.Choice.{pick}
-use Rattle.lists.specs.Places.{nth}
 use Rattle.plan.specs.Filled.{Filled, ColumnsOf}
 use Rattle.plan.specs.Ranges.{most_guests}
 use Rattle.plan.specs.Records.{guest_at}
-use Rattle.plan.specs.Server.{says_deferrable}
+use Rattle.plan.specs.Server.{says_deferrable, is_deferrable}
 use Rattle.plan.specs.declared.Columns.{Columns}
 use Rattle.plan.specs.declared.Guest.{Guest}
-use Rattle.response.specs.Columns.{jitter_at}
+use Rattle.response.specs.Columns.{ServersOf, jitter_at}
 use Rattle.response.specs.Interference.{jitter}
-
--- a column of the jitters of a plan's eight places, off the plan's columns
-abbrev pub JittersOf : Columns → List ℕ → Type 0
-JittersOf c jitters = Filled jitters (jitter_at c.deferrable c.capacities c.periods) most_guests
 
 -- a jitter off the columns of a plan is that of its guest
 pub jitter_off : (gs : List Guest) (c : Columns) → ColumnsOf gs most_guests c → (k : ℕ) → k < most_guests
@@ -40,8 +35,16 @@ pick_most true x = omega arith
 pick_most false x = omega arith
 
 -- no jitter is more than the period
-pub jitter_most : (deferrable capacities periods : List ℕ) (k : ℕ)
-    → jitter_at deferrable capacities periods k ≤ nth periods k
-unfolding jitter_at
-jitter_most deferrable capacities periods k =
-    omega (arith, pick_most (says_deferrable (nth deferrable k)) (nth periods k - nth capacities k))
+pub jitter_most : (g : Guest) → jitter g ≤ g.period
+unfolding jitter
+jitter_most g = omega (arith, pick_most (is_deferrable g) (g.period - g.capacity))
+
+-- the jitters off the columns of a plan are those of its servers
+pub servers_are : (c : Columns) {jitters : List ℕ} → Filled jitters (jitter_at c.deferrable c.capacities c.periods) most_guests
+    → (gs : List Guest) → ColumnsOf gs most_guests c
+    → ServersOf gs most_guests (record { capacities = c.capacities; periods = c.periods; jitters = jitters })
+servers_are c l gs f = record {
+  capacities = f.capacities;
+  periods = f.periods;
+  jitters = record { long = l.long; holds = λ k h. l.holds k h ∙ jitter_off gs c f k h };
+}
