@@ -1,4 +1,4 @@
 -- Laws, each file named after the definitions that it is about.
 pub mod Words
-pub mod Put
 pub mod Same
+pub mod Put
