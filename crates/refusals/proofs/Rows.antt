@@ -20,7 +20,7 @@ use Rattle.plan.proofs.Charge.{charged_most}
 use Rattle.plan.proofs.RangesLaws.{task_says_lem}
 
 -- A bound of 0 is a test for 0.
-leb_zero : (x : ℕ) → leb x 0 ≡ eqb x 0
+pub leb_zero : (x : ℕ) → leb x 0 ≡ eqb x 0
 leb_zero zero = refl
 leb_zero (suc x) = lt-leb (suc x) 0 (omega arith) ∙ sym (ne_eqb (suc x) 0 (λ e. omega arith))
 

@@ -1,6 +1,6 @@
 -- A release over lent arrays: its refusals, and the place that it is for.
 -- Inner: no promise of an entry names this.
-use Rattle.std.specs.Prelude.{◌≡◌, List, [], ◌∷◌, ℕ, ◌-◌, ◌<◌, eqb}
+use Rattle.std.specs.Prelude.{◌≡◌, List, [], ◌∷◌, ℕ, ◌-◌, ◌<◌, eqb, Result, Ok, Err}
 use Rattle.lists.specs.Places.{nth}
 use Rattle.lists.specs.Refusals.{refusal, ◌or_refuse◌}
 use Rattle.plan.specs.declared.Guest.{Guest}
@@ -32,9 +32,9 @@ take_number g k task position rest wait =
     ∷ [])
 
 -- the outcome of the refusals of a release that is for guest g, at place k
-pub record AimsAt (g : Guest) (k task position : ℕ) (rest wait : List ℕ) (r : Aim) : Type 0 where
-  pub refuses : r.number ≡ take_number g k task position rest wait
-  pub takes : r.number ≡ 0 → Taking g k (task - 1) r
+abbrev pub AimsAt : Guest → (k task position : ℕ) (rest wait : List ℕ) → Result Aim ℕ → Type 0
+AimsAt g k task position rest wait (Ok a) = (take_number g k task position rest wait ≡ 0) × Taking g k (task - 1) a
+AimsAt g k task position rest wait (Err n) = (take_number g k task position rest wait ≡ n) × (0 < n)
 
 -- all refusals of a release: 14, 7, 8, 17, 9, 10
 unfoldable pub aim_number : Plan → (left position rest wait age : List ℕ) (id task : ℕ) → ℕ
@@ -49,7 +49,12 @@ aim_number p left position rest wait age id task =
     ∷ eqb (nth rest (place_at k (task - 1))) 0 or_refuse 10
     ∷ [])
 
+-- a release that nothing refuses has the place that it is for
+pub record Aimed (p : Plan) (left position rest wait age : List ℕ) (id task : ℕ) (a : Aim) : Type 0 where
+  pub taken : aim_number p left position rest wait age id task ≡ 0
+  pub takes : Taking (guest_at p.guests (place_of p id)) (place_of p id) (task - 1) a
+
 -- the outcome of all refusals of a release
-pub record Aims (p : Plan) (left position rest wait age : List ℕ) (id task : ℕ) (r : Aim) : Type 0 where
-  pub refuses : r.number ≡ aim_number p left position rest wait age id task
-  pub takes : r.number ≡ 0 → Taking (guest_at p.guests (place_of p id)) (place_of p id) (task - 1) r
+abbrev pub Aims : Plan → (left position rest wait age : List ℕ) (id task : ℕ) → Result Aim ℕ → Type 0
+Aims p left position rest wait age id task (Ok a) = Aimed p left position rest wait age id task a
+Aims p left position rest wait age id task (Err n) = (aim_number p left position rest wait age id task ≡ n) × (0 < n)

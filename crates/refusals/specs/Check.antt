@@ -1,15 +1,15 @@
 -- The check of a state over lent arrays, guest by guest, and the columns that it reads on its way.
 -- Inner: no promise of an entry names this.
-use Rattle.std.specs.Prelude.{◌≡◌, Bool, true, ◌&&◌, List, ℕ, ltb}
+use Rattle.std.specs.Prelude.{◌≡◌, Bool, true, false, ◌&&◌, List, ℕ, ltb, Option, Some, None}
 use Rattle.lists.specs.Choice.{pick}
 use Rattle.lists.specs.Places.{nth}
 use Rattle.lists.specs.All.{all_to}
+use Rattle.plan.specs.declared.Columns.{Columns}
 use Rattle.plan.specs.declared.Plan.{Plan}
 use Rattle.plan.specs.Records.{guest_at}
 use Rattle.plan.specs.Ranges.{most_guests, within}
 use Rattle.plan.specs.Order.{new_id}
 use Rattle.plan.specs.Filled.{ColumnsOf}
-use Rattle.refusals.specs.declared.Checked.{Checked}
 use Rattle.refusals.specs.Rows.{guest_is_ok, row_is_blank}
 
 -- guest k of the plan: its id is new, and it is in its ranges
@@ -29,7 +29,12 @@ passes p left position rest wait age =
     && (all_to (goes p left position rest wait age) p.count
     && all_to (past_ok p.count left position rest wait age) most_guests)
 
+-- a check that passes gives the columns of the plan's guests
+pub record Passed (p : Plan) (left position rest wait age : List ℕ) (c : Columns) : Type 0 where
+  pub okay : passes p left position rest wait age ≡ true
+  pub columns : ColumnsOf p.guests p.count c
+
 -- the outcome of the check
-pub record Examined (p : Plan) (left position rest wait age : List ℕ) (r : Checked) : Type 0 where
-  pub okay : r.ok ≡ passes p left position rest wait age
-  pub columns : passes p left position rest wait age ≡ true → ColumnsOf p.guests p.count r.columns
+abbrev pub Examined : Plan → (left position rest wait age : List ℕ) → Option Columns → Type 0
+Examined p left position rest wait age None = passes p left position rest wait age ≡ false
+Examined p left position rest wait age (Some c) = Passed p left position rest wait age c

@@ -6,21 +6,21 @@ mod ranges;
 mod validating;
 
 pub use aiming::aim_by_id;
-use plan::Columns;
 pub use validating::examine;
 
-// Whether a state is in its ranges, and the columns that the check read on its way.
+// A state's numbers, lent to be looked at: two of each guest and three of each of its 16 places.
 #[derive(Clone, Copy)]
-pub struct Checked {
-    pub ok: bool,
-    pub columns: Columns,
+pub struct Lent<'a> {
+    pub left: &'a [u32; 8],
+    pub position: &'a [u32; 8],
+    pub rest: &'a [u32; 128],
+    pub wait: &'a [u32; 128],
+    pub age: &'a [u32; 128],
 }
 
-// The number that a release is refused by, or 0, and then the place that it is for, with the run and the wait that it
-// sets there.
+// The place that a release is for, with the run and the wait that it sets there.
 #[derive(Clone, Copy)]
 pub struct Aim {
-    pub number: u32,
     pub at: usize,
     pub run: u32,
     pub every: u32,

@@ -8,6 +8,7 @@ ghost use Rattle.plan.specs.Charge.{charged_run};
 ghost use Rattle.arrays.specs.Ranges.{job_ok, no_job};
 ghost use Rattle.refusals.specs.Rows.{job_in, guest_is_ok, row_is_blank};
 
+use crate::Lent;
 use plan::{Guest, LONGEST};
 
 // A task's bound, or 0 at a place past the tasks: a select and no branch, so that the loop below takes several places
@@ -27,6 +28,7 @@ fn run_bound(used: bool, run: u32, charge: u16) -> u32
 }
 
 // The three numbers of a task, or of a place past the tasks.
+#[tactic(auto, using(crate::proofs::Rows::leb_zero))]
 fn job_ok(used: bool, run: u32, charge: u16, every: u32, rest: u32, wait: u32, age: u32) -> bool
     requires { used ≡ true → run ≤ longest }
     ensures { result ≡ pick used (job_ok (charged_run run charge) every rest wait age) (no_job rest wait age) }
@@ -37,89 +39,65 @@ fn job_ok(used: bool, run: u32, charge: u16, every: u32, rest: u32, wait: u32, a
 }
 
 // The 16 places of guest k, which has `many` tasks. No early way out: a state in its ranges is tested whole anyway.
-fn jobs_ok(
-    rest: &[u32; 128],
-    wait: &[u32; 128],
-    age: &[u32; 128],
-    run: &[u32; 16],
-    every: &[u32; 16],
-    charge: u16,
-    k: usize,
-    many: usize,
-) -> bool
-    requires { (k < 8) × ((t : ℕ) → t < many → nth run.now t ≤ longest) }
+#[tactic(auto, unfolding(lists::specs::All::all_to))]
+fn jobs_ok(lent: &Lent, g: &Guest, k: usize) -> bool
+    requires { (k < 8) × ((t : ℕ) → t < g.now.tasks → nth g.now.run t ≤ longest) }
     ensures { result
         ≡ all_to
-        (job_in rest.now wait.now age.now run.now every.now
-        charge k many)
+        (job_in lent.now.rest.now lent.now.wait.now lent.now.age.now g.now.run
+        g.now.every g.now.charge k g.now.tasks)
         most_tasks }
 {
+    let many = g.tasks as usize;
     let base = k * 16;
     let mut ok = true;
-    let mut t: usize = 0;
-    while t < 16 {
+    for t in 0..16 {
         let at = base + t;
-        ok = ok
-            & job_ok(
-                t < many,
-                run[t],
-                charge,
-                every[t],
-                rest[at],
-                wait[at],
-                age[at],
-            );
-        t += 1;
+        ok &= job_ok(
+            t < many,
+            g.run[t],
+            g.charge,
+            g.every[t],
+            lent.rest[at],
+            lent.wait[at],
+            lent.age[at],
+        );
     }
     ok
 }
 
 // Guest g at place k: its record, that it is Periodic, its two numbers and those of its 16 places.
-pub fn guest_ok(
-    g: Guest,
-    k: usize,
-    left: u32,
-    position: u32,
-    rest: &[u32; 128],
-    wait: &[u32; 128],
-    age: &[u32; 128],
-) -> bool
+#[tactic(auto, unfolding(crate::specs::Rows::guest_is_ok, plan::specs::Ranges::tasks_ok), using(crate::proofs::Rows::runs_small, plan::proofs::RangesLaws::head_says))]
+pub fn guest_ok(g: &Guest, k: usize, lent: &Lent) -> bool
     requires { k < 8 }
-    ensures { result ≡ guest_is_ok g k left position rest.now wait.now age.now }
+    ensures { result
+        ≡ guest_is_ok g.now k (nth lent.now.left.now k) (nth lent.now.position.now k)
+        lent.now.rest.now lent.now.wait.now lent.now.age.now }
 {
-    let many = g.tasks as usize;
-    let run = g.run;
-    let every = g.every;
-    let deadline = g.deadline;
     if !plan::head_ok(g.id, g.capacity, g.period, g.tasks) {
         return false;
     }
-    if !plan::tasks_ok(g.marks, g.period, &run, &every, &deadline, many) {
+    let many = g.tasks as usize;
+    if !plan::tasks_ok(g.marks, g.period, &g.run, &g.every, &g.deadline, many) {
         return false;
     }
-    let server = (g.deferrable == 0) & ((left <= g.capacity) & (position < g.period));
-    server & jobs_ok(rest, wait, age, &run, &every, g.charge, k, many)
+    let server = (g.deferrable == 0) & ((lent.left[k] <= g.capacity) & (lent.position[k] < g.period));
+    server & jobs_ok(lent, g, k)
 }
 
-// The 16 places of a row past the guests, and its two numbers.
-pub fn blank_ok(
-    k: usize,
-    left: u32,
-    position: u32,
-    rest: &[u32; 128],
-    wait: &[u32; 128],
-    age: &[u32; 128],
-) -> bool
+// The 16 places of row k, past the guests, and its two numbers.
+#[tactic(auto, unfolding(lists::specs::All::all_to))]
+pub fn blank_ok(k: usize, lent: &Lent) -> bool
     requires { k < 8 }
-    ensures { result ≡ row_is_blank k left position rest.now wait.now age.now }
+    ensures { result
+        ≡ row_is_blank k (nth lent.now.left.now k) (nth lent.now.position.now k)
+        lent.now.rest.now lent.now.wait.now lent.now.age.now }
 {
     let base = k * 16;
     let mut ok = true;
-    let mut t: usize = 0;
-    while t < 16 {
+    for t in 0..16 {
         let at = base + t;
-        ok = ok & ((rest[at] == 0) & (wait[at] == 0) & (age[at] == 0));
-        t += 1;
+        ok &= (lent.rest[at] == 0) & (lent.wait[at] == 0) & (lent.age[at] == 0);
     }
-    ((left == 0) & (position == 0)) & ok
+    ((lent.left[k] == 0) & (lent.position[k] == 0)) & ok
 }

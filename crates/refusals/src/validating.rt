@@ -1,122 +1,81 @@
 // Refusal 14: the plan's own check and all places, in one pass over the records, which are lent as rows.
-ghost use Rattle.std.specs.Prelude.{◌≡◌, false, ◌≤◌};
+ghost use Rattle.std.specs.Prelude.{◌≡◌, ◌≤◌};
 ghost use Rattle.lists.specs.All.{all_to};
 ghost use Rattle.plan.specs.Ranges.{most_guests};
 ghost use Rattle.plan.specs.Filled.{ColumnsOf};
 ghost use Rattle.rows.specs.Words.{plan_of};
 ghost use Rattle.refusals.specs.Check.{goes, past_ok, Examined};
 
-use crate::Checked;
+use crate::Lent;
 use crate::ranges::{blank_ok, guest_ok};
 use plan::Columns;
 use rows::guest_of;
 
 // Whether the plan's guests are in their ranges, place by place, and their columns.
+#[tactic(auto, using(crate::proofs::Check::goes_turn, rows::proofs::Words::guest_is, plan::proofs::Filled::columns_read))]
 fn guests_ok(
     count: u32,
     rows: &[[u32; 54]; 8],
-    left: &[u32; 8],
-    position: &[u32; 8],
-    rest: &[u32; 128],
-    wait: &[u32; 128],
-    age: &[u32; 128],
-) -> Checked
-    requires { count ≤ 8 }
-    ensures { (result.ok
-        ≡ all_to
-        (goes (plan_of count rows.now) left.now position.now rest.now
-        wait.now age.now)
-        count)
-        × ColumnsOf (plan_of count rows.now).guests count result.columns }
-{
-    let n = count as usize;
-    let mut found = Checked {
-        ok: true,
-        columns: Columns {
-            ids: [0; 16],
-            capacities: [0; 16],
-            periods: [0; 16],
-            tasks: [0; 16],
-            deferrable: [0; 16],
-        },
-    };
-    let mut k: usize = 0;
-    while k < n {
-        let g = guest_of(&rows[k]);
-        found.columns.ids[k] = g.id;
-        found.columns.capacities[k] = g.capacity;
-        found.columns.periods[k] = g.period;
-        found.columns.tasks[k] = g.tasks;
-        found.columns.deferrable[k] = g.deferrable;
-        let new_id = plan::new_id(&found.columns.ids, k);
-        found.ok = found.ok & (new_id & guest_ok(g, k, left[k], position[k], rest, wait, age));
-        k += 1;
-    }
-    found
-}
-
-// Whether the rows past the n guests are blank.
-fn blanks_ok(
-    n: usize,
-    left: &[u32; 8],
-    position: &[u32; 8],
-    rest: &[u32; 128],
-    wait: &[u32; 128],
-    age: &[u32; 128],
+    lent: &Lent,
+    columns: &mut Columns,
 ) -> bool
-    requires { n ≤ 8 }
-    ensures { result
+    requires { count ≤ 8 }
+    ensures okay { result
         ≡ all_to
-        (past_ok n left.now position.now rest.now wait.now
-        age.now)
-        most_guests }
+        (goes (plan_of count rows.now) lent.now.left.now lent.now.position.now
+        lent.now.rest.now lent.now.wait.now lent.now.age.now)
+        count }
+    ensures columns { ColumnsOf (plan_of count rows.now).guests count columns.new }
 {
     let mut ok = true;
-    let mut k = n;
-    while k < 8 {
-        ok = ok & blank_ok(k, left[k], position[k], rest, wait, age);
-        k += 1;
+    for k in 0..count as usize {
+        let g = guest_of(&rows[k]);
+        columns.ids[k] = g.id;
+        columns.capacities[k] = g.capacity;
+        columns.periods[k] = g.period;
+        columns.tasks[k] = g.tasks;
+        columns.deferrable[k] = g.deferrable;
+        ok &= plan::new_id(&columns.ids, k) & guest_ok(&g, k, lent);
     }
     ok
 }
 
-// A check that did not pass.
-fn nothing() -> Checked
-    ensures { result.ok ≡ false }
+// Whether the rows past the n guests are blank.
+#[tactic(auto, using(crate::proofs::Check::past_none, crate::proofs::Check::past_turn))]
+fn blanks_ok(n: usize, lent: &Lent) -> bool
+    requires { n ≤ 8 }
+    ensures { result
+        ≡ all_to
+        (past_ok n lent.now.left.now lent.now.position.now lent.now.rest.now
+        lent.now.wait.now lent.now.age.now)
+        most_guests }
 {
-    Checked {
-        ok: false,
-        columns: Columns {
-            ids: [0; 16],
-            capacities: [0; 16],
-            periods: [0; 16],
-            tasks: [0; 16],
-            deferrable: [0; 16],
-        },
+    let mut ok = true;
+    for k in n..8 {
+        ok &= blank_ok(k, lent);
     }
+    ok
 }
 
-// Whether the state is in its ranges, and the columns of a plan that is.
-pub fn examine(
-    count: u32,
-    rows: &[[u32; 54]; 8],
-    left: &[u32; 8],
-    position: &[u32; 8],
-    rest: &[u32; 128],
-    wait: &[u32; 128],
-    age: &[u32; 128],
-) -> Checked
-    ensures { Examined (plan_of count rows.now) left.now position.now rest.now
-        wait.now age.now result }
+// The columns of a plan whose state is in its ranges.
+#[tactic(auto, unfolding(crate::specs::Check::passes))]
+pub fn examine(count: u32, rows: &[[u32; 54]; 8], lent: &Lent) -> Option<Columns>
+    ensures { Examined (plan_of count rows.now) lent.now.left.now lent.now.position.now
+        lent.now.rest.now lent.now.wait.now lent.now.age.now result }
 {
-    let n = count as usize;
-    if n < 1 {
-        return nothing();
+    if !plan::count_ok(count) {
+        return None;
     }
-    if 8 < n {
-        return nothing();
+    let mut columns = Columns {
+        ids: [0; 16],
+        capacities: [0; 16],
+        periods: [0; 16],
+        tasks: [0; 16],
+        deferrable: [0; 16],
+    };
+    let guests = guests_ok(count, rows, lent, &mut columns);
+    if !(guests & blanks_ok(count as usize, lent)) {
+        return None;
     }
-    let mut found = guests_ok(count, rows, left, position, rest, wait, age);
-    found.ok = found.ok & blanks_ok(n, left, position, rest, wait, age);
-    found
+    Some(columns)
 }

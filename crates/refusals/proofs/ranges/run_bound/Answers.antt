@@ -1,7 +1,7 @@
 -- A task's run is at most 1,000,000 and a charge at most 65,535, so the charged run fits.
-use native.Mathlib.Omega.{arith}
+use Rattle.std.proofs.Common.{arith}
 use borrow.Author.Rules.{rules}
-use Rattle.refusals.proofs.Rows.{charged_small, bound_is}
+use Rattle.refusals.proofs.Rows.{charged_small}
 use Rattle.refusals.proofs.ranges.run_bound.Goals as goal
 
 pub overflow_cast-charged_run : goal.overflow_cast-charged_run
@@ -12,8 +12,3 @@ overflow_cast-charged_run c =
           (search rules) c.bound.ensures,
       c.charged_run.ensures,
     )
-
-pub returns : goal.returns
-returns c =
-    bound_is c.args.used c.args.run c.args.charge
-    c.bound.ensures c.charged_run.ensures c.bound-2.ensures

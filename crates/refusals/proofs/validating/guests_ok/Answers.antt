@@ -1,28 +1,23 @@
--- The loop's invariant: `ok` says whether the guests passed go, and the columns hold their numbers.
-use mathlib.Core.Path.{sym, ◌∙◌}
-use native.Mathlib.Omega.{arith}
-use borrow.Author.Rules.{rules}
-use Rattle.refusals.specs.Check.{goes}
+-- A turn reads one guest's record, so its numbers are put into the columns, and its id is looked for there.
+use Rattle.std.proofs.Common.{sym, ◌∙◌, arith, rules}
+use Rattle.lists.proofs.All.{all_none}
+use Rattle.plan.proofs.Filled.{columns_read}
 use Rattle.rows.specs.Words.{plan_of}
 use Rattle.rows.proofs.Words.{guest_is}
-use Rattle.lists.proofs.All.{all_none, all_end}
-use Rattle.plan.proofs.Filled.{columns_none, columns_done}
-use Rattle.plan.proofs.Filled.{columns_read}
-use Rattle.refusals.proofs.Check.{goes_turn}
+use Rattle.refusals.proofs.Check.{columns_begin, goes_turn}
 use Rattle.refusals.proofs.validating.guests_ok.Goals as goal
 
 pub loop-k-init : goal.loop-k-init
-loop-k-init c = (search rules, (sym (all_none _), columns_none _))
+loop-k-init c = record { okay = sym (all_none _); columns = columns_begin _ _ (search rules) (search rules) (search rules) (search rules) (search rules) }
 
 pub loop-k-preserved : goal.loop-k-preserved
 loop-k-preserved c =
     let a = c.args in
-    let k = c.loop-k.k in
-    let e = c.guest_of-g.ensures ∙ guest_is a.count a.rows.now k (omega arith) in
-    let f = columns_read {gs = (plan_of a.count a.rows.now).guests} k (omega arith) c.guest_of-g.result e c.loop-k.invariant.1.1 in
-    (search rules, (goes_turn (plan_of a.count a.rows.now) a.left.now a.position.now a.rest.now a.wait.now a.age.now k f.ids c.loop-k.invariant.1.0 c.new_id-new_id.ensures (rw (← e) c.guest_ok.ensures), f))
-
-pub returns : goal.returns
-returns c =
-    let a = c.args in
-    (all_end (goes (plan_of a.count a.rows.now) a.left.now a.position.now a.rest.now a.wait.now a.age.now) _ _ c.loop-k.invariant.1.0 (search rules) (search rules), columns_done _ _ (search rules) c.loop-k.invariant.1.1)
+    let s = a.lent.now in
+    let p = plan_of a.count a.rows.now in
+    let e = c.guest_of-g.ensures ∙ guest_is a.count a.rows.now c.loop-k.k (omega arith) in
+    let f = columns_read {gs = p.guests} c.loop-k.k (omega arith) c.guest_of-g.result e c.loop-k.invariant.columns in
+    record {
+      okay = goes_turn p s.left.now s.position.now s.rest.now s.wait.now s.age.now c.loop-k.k f.ids c.loop-k.invariant.okay c.new_id.ensures (rw (← e) c.guest_ok.ensures);
+      columns = f;
+    }

@@ -1,16 +1,13 @@
--- The loop's invariant: `found.ok` says whether the guests passed go, and its columns hold their numbers.
-use mathlib.Core.Path.{◌≡◌}
-use Prim.Native.Nat.{◌≤◌, ◌-◌}
+-- The loop's invariant: `ok` says whether the guests passed go, and the columns hold their numbers.
+use Rattle.std.proofs.Common.{◌≡◌}
 use Rattle.lists.specs.All.{all_to}
-use Rattle.refusals.specs.Check.{goes}
 use Rattle.plan.specs.Filled.{ColumnsOf}
 use Rattle.rows.specs.Words.{plan_of}
+use Rattle.refusals.specs.Check.{goes}
 use Rattle.refusals.proofs.validating.guests_ok.Given as goal
 
 abbrev pub invariant-loop-k : goal.invariant-loop-k
-invariant-loop-k l =
-    (l.k ≤ l.n) × ((l.found.ok ≡ all_to (goes (plan_of l.count l.rows) l.left l.position l.rest l.wait l.age) l.k)
-    × ColumnsOf (plan_of l.count l.rows).guests l.k l.found.columns)
-
-abbrev pub decreases-loop-k : goal.decreases-loop-k
-decreases-loop-k l = l.n - l.k
+invariant-loop-k l = record {
+  okay : l.ok ≡ all_to (goes (plan_of l.count l.rows) l.lent.left.now l.lent.position.now l.lent.rest.now l.lent.wait.now l.lent.age.now) l.k;
+  columns : ColumnsOf (plan_of l.count l.rows).guests l.k l.columns;
+}
