@@ -1,30 +1,27 @@
 -- How a release's tests come to its refusals and to what it sets. Assumes nothing.
-use mathlib.Core.Path.{◌≡◌, refl, sym, ◌∙◌}
-use mathlib.Core.Bool.{true, false}
-use mathlib.Core.List.{List, [], ◌∷◌}
+use mathlib.Core.Path.{◌≡◌, refl, ◌∙◌}
+use mathlib.Core.Bool.{true}
+use mathlib.Core.List.{List}
 use Rattle.std.specs.Prelude.{Result, Ok, Err}
 use Prim.Native.Nat.{ℕ, ◌^◌, ◌-◌, ◌≤◌, ◌<◌}
 use native.Mathlib.Omega.{arith}
-use lib.Dec.{leb, eqb}
-use borrow.Author.Tests.{lt-ltb, le-ltb, le-leb, lt-leb, eq-eqb, ne_eqb}
+use lib.Dec.{eqb}
+use borrow.Author.Tests.{lt-ltb}
 use Rattle.lists.specs.Places.{nth}
 use Rattle.lists.specs.Search.{first_from}
-use Rattle.lists.specs.Refusals.{refusal, ◌or_refuse◌}
 use Rattle.plan.specs.declared.Guest.{Guest}
 use Rattle.plan.specs.declared.Plan.{Plan}
 use Rattle.plan.specs.declared.Columns.{Columns}
 use Rattle.plan.specs.Records.{guest_at, run_of}
-use Rattle.plan.specs.Ranges.{within, guest_ok, tasks_ok}
+use Rattle.plan.specs.Ranges.{guest_ok, tasks_ok}
 use Rattle.plan.specs.Charge.{charged}
-use Rattle.plan.specs.Marks.{may_start}
 use Rattle.plan.specs.Place.{place_of, has_guest, has_task}
 use Rattle.plan.specs.Filled.{ColumnsOf}
 use Rattle.arrays.specs.Place.{place_at}
 use Rattle.refusals.specs.declared.Aim.{Aim}
 use Rattle.refusals.specs.Check.{passes}
-use Rattle.refusals.specs.Aims.{Taking, take_number, AimsAt, aim_number, Aims}
-use Rattle.lists.proofs.All.{and_true, and_false_left, and_false_right}
-use Rattle.lists.proofs.Refusals.{none_left, go_on, stop}
+use Rattle.refusals.specs.Aims.{take_number, AimsAt, aim_number, Aims}
+use Rattle.lists.proofs.Refusals.{go_on}
 use Rattle.lists.proofs.Search.{first_ext}
 use Rattle.plan.proofs.Charge.{charged_most}
 use Rattle.plan.proofs.RangesLaws.{head_says}

@@ -1,13 +1,13 @@
 -- How one pass over the records comes to the check and to the columns, and what a check that passed says. Assumes
 -- nothing.
-use mathlib.Core.Path.{◌≡◌, refl, sym, ◌∙◌}
-use mathlib.Core.Bool.{Bool, true, false, false≢true, ◌&&◌}
+use mathlib.Core.Path.{◌≡◌, refl, sym}
+use mathlib.Core.Bool.{Bool, true, ◌&&◌}
 use mathlib.Core.List.{List}
 use Prim.Native.Nat.{ℕ, ◌+◌, ◌≤◌, ◌<◌}
 use native.Mathlib.Omega.{arith}
 use lib.Dec.{leb}
 use lib.ListN.{length}
-use borrow.Author.Tests.{lt-ltb, le-ltb, le-leb, lt-leb, leb-true}
+use borrow.Author.Tests.{lt-ltb, le-ltb, leb-true}
 use Rattle.lists.specs.Places.{nth}
 use Rattle.lists.specs.All.{all_to}
 use Rattle.plan.specs.declared.Columns.{Columns}
@@ -19,7 +19,7 @@ use Rattle.plan.specs.Order.{new_id}
 use Rattle.plan.specs.Filled.{Filled, ColumnsOf}
 use Rattle.refusals.specs.Rows.{guest_is_ok, row_is_blank}
 use Rattle.refusals.specs.Check.{goes, past_ok, passes}
-use Rattle.lists.proofs.All.{and_left, and_right, and_false_left, and_false_right, all_turn, all_by, all_at, all_ext}
+use Rattle.lists.proofs.All.{and_left, and_right, all_turn, all_by, all_at, all_ext}
 
 -- The ids in the column are the records'.
 new_is : (p : Plan) (ids : List ℕ) (k : ℕ) → Filled ids (λ j. (guest_at p.guests j).id) (k + 1) → new_id (nth ids) k ≡ new_id (λ j. (guest_at p.guests j).id) k

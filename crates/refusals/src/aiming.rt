@@ -3,13 +3,11 @@ ghost use Rattle.std.specs.Prelude.{◌≡◌, true, not, ◌||◌, ◌<◌, eqb
 ghost use Rattle.lists.specs.Places.{nth};
 ghost use Rattle.plan.specs.Ranges.{most_tasks, guest_ok, tasks_ok};
 ghost use Rattle.plan.specs.Marks.{marked};
-ghost use Rattle.rows.specs.Words.{plan_of};
 ghost use Rattle.refusals.specs.Aims.{AimsAt, Aims};
 
 use crate::validating::examine;
 use crate::{Aim, Lent};
-use plan::Guest;
-use rows::guest_of;
+use plan::{AsPlan, Guest};
 
 // Whether task t of a guest with these marks may be released where the guest stands.
 fn may_start(marks: u16, position: u32, t: usize) -> bool
@@ -20,7 +18,7 @@ fn may_start(marks: u16, position: u32, t: usize) -> bool
 }
 
 // The release of a task of guest g, which stands at place k: 8, 17, 9, 10, or what the task of that number gets.
-#[tactic(auto, unfolding(lists::specs::Refusals::refusal, lists::specs::Refusals::unless, plan::specs::Marks::may_start), using(plan::proofs::RangesLaws::head_says, crate::proofs::Aims::charged_fits))]
+#[tactic(auto, using(plan::proofs::RangesLaws::head_says, crate::proofs::Aims::charged_fits), unfolding(lists::specs::Refusals::refusal, lists::specs::Refusals::unless, plan::specs::Marks::may_start))]
 fn aim_at(g: &Guest, k: usize, task: u32, lent: &Lent) -> Result<Aim, u32>
     requires { (k < 8) × ((guest_ok g.now ≡ true) × (tasks_ok g.now ≡ true)) }
     ensures { AimsAt g.now k task (nth lent.now.position.now k) lent.now.rest.now
@@ -48,24 +46,18 @@ fn aim_at(g: &Guest, k: usize, task: u32, lent: &Lent) -> Result<Aim, u32>
 }
 
 // The release of a task of a guest by its id: 14, 7, 8, 17, 9, 10, or what the task of that number gets.
-#[tactic(auto, unfolding(lists::specs::Refusals::refusal, lists::specs::Refusals::unless, crate::specs::Aims::aim_number, plan::specs::Place::has_guest, plan::specs::Place::has_task), using(crate::proofs::Check::few_guests, crate::proofs::Check::records_in_lem, crate::proofs::Aims::place_in, rows::proofs::Words::guest_is))]
-pub fn aim_by_id(
-    count: u32,
-    rows: &[[u32; 54]; 8],
-    lent: &Lent,
-    guest: u32,
-    task: u32,
-) -> Result<Aim, u32>
-    ensures { Aims (plan_of count rows.now) lent.now.left.now lent.now.position.now
+#[tactic(auto, using(crate::proofs::Check::few_guests, crate::proofs::Aims::place_in), unfolding(lists::specs::Refusals::refusal, lists::specs::Refusals::unless, crate::specs::Aims::aim_number, plan::specs::Place::has_guest))]
+pub fn aim_by_id<P: AsPlan>(plan: &P, lent: &Lent, guest: u32, task: u32) -> Result<Aim, u32>
+    ensures { Aims (P.plan plan.now) lent.now.left.now lent.now.position.now
         lent.now.rest.now lent.now.wait.now lent.now.age.now guest task result }
 {
-    let Some(columns) = examine(count, rows, lent) else {
+    let Some(columns) = examine(plan, lent) else {
         return Err(14);
     };
-    let n = count as usize;
+    let n = plan.count() as usize;
     let k = plan::place_of(&columns.ids, n, guest);
     if n <= k {
         return Err(7);
     }
-    aim_at(&guest_of(&rows[k]), k, task, lent)
+    aim_at(&plan.guest(k), k, task, lent)
 }

@@ -67,7 +67,7 @@ fn jobs_ok(lent: &Lent, g: &Guest, k: usize) -> bool
 }
 
 // Guest g at place k: its record, that it is Periodic, its two numbers and those of its 16 places.
-#[tactic(auto, unfolding(crate::specs::Rows::guest_is_ok, plan::specs::Ranges::tasks_ok), using(crate::proofs::Rows::runs_small, plan::proofs::RangesLaws::head_says))]
+#[tactic(auto, using(crate::proofs::Rows::runs_small, plan::proofs::RangesLaws::head_says), unfolding(crate::specs::Rows::guest_is_ok, plan::specs::Ranges::tasks_ok))]
 pub fn guest_ok(g: &Guest, k: usize, lent: &Lent) -> bool
     requires { k < 8 }
     ensures { result
@@ -81,7 +81,8 @@ pub fn guest_ok(g: &Guest, k: usize, lent: &Lent) -> bool
     if !plan::tasks_ok(g.marks, g.period, &g.run, &g.every, &g.deadline, many) {
         return false;
     }
-    let server = (g.deferrable == 0) & ((lent.left[k] <= g.capacity) & (lent.position[k] < g.period));
+    let numbers = (lent.left[k] <= g.capacity) & (lent.position[k] < g.period);
+    let server = (g.deferrable == 0) & numbers;
     server & jobs_ok(lent, g, k)
 }
 

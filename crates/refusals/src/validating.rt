@@ -1,35 +1,27 @@
-// Refusal 14: the plan's own check and all places, in one pass over the records, which are lent as rows.
+// Refusal 14: the plan's own check and all places, in one pass over the records.
 ghost use Rattle.std.specs.Prelude.{◌≡◌, ◌≤◌};
 ghost use Rattle.lists.specs.All.{all_to};
 ghost use Rattle.plan.specs.Ranges.{most_guests};
 ghost use Rattle.plan.specs.Filled.{ColumnsOf};
-ghost use Rattle.rows.specs.Words.{plan_of};
 ghost use Rattle.refusals.specs.Check.{goes, past_ok, Examined};
 
 use crate::Lent;
 use crate::ranges::{blank_ok, guest_ok};
-use plan::Columns;
-use rows::guest_of;
+use plan::{AsPlan, Columns};
 
 // Whether the plan's guests are in their ranges, place by place, and their columns.
-#[tactic(auto, using(crate::proofs::Check::goes_turn, rows::proofs::Words::guest_is, plan::proofs::Filled::columns_read))]
-fn guests_ok(
-    count: u32,
-    rows: &[[u32; 54]; 8],
-    lent: &Lent,
-    columns: &mut Columns,
-) -> bool
-    requires { count ≤ 8 }
+fn guests_ok<P: AsPlan>(plan: &P, n: usize, lent: &Lent, columns: &mut Columns) -> bool
+    requires { n ≤ most_guests }
     ensures okay { result
         ≡ all_to
-        (goes (plan_of count rows.now) lent.now.left.now lent.now.position.now
+        (goes (P.plan plan.now) lent.now.left.now lent.now.position.now
         lent.now.rest.now lent.now.wait.now lent.now.age.now)
-        count }
-    ensures columns { ColumnsOf (plan_of count rows.now).guests count columns.new }
+        n }
+    ensures columns { ColumnsOf (P.plan plan.now).guests n columns.new }
 {
     let mut ok = true;
-    for k in 0..count as usize {
-        let g = guest_of(&rows[k]);
+    for k in 0..n {
+        let g = plan.guest(k);
         columns.ids[k] = g.id;
         columns.capacities[k] = g.capacity;
         columns.periods[k] = g.period;
@@ -59,10 +51,11 @@ fn blanks_ok(n: usize, lent: &Lent) -> bool
 
 // The columns of a plan whose state is in its ranges.
 #[tactic(auto, unfolding(crate::specs::Check::passes))]
-pub fn examine(count: u32, rows: &[[u32; 54]; 8], lent: &Lent) -> Option<Columns>
-    ensures { Examined (plan_of count rows.now) lent.now.left.now lent.now.position.now
+pub fn examine<P: AsPlan>(plan: &P, lent: &Lent) -> Option<Columns>
+    ensures { Examined (P.plan plan.now) lent.now.left.now lent.now.position.now
         lent.now.rest.now lent.now.wait.now lent.now.age.now result }
 {
+    let count = plan.count();
     if !plan::count_ok(count) {
         return None;
     }
@@ -73,8 +66,8 @@ pub fn examine(count: u32, rows: &[[u32; 54]; 8], lent: &Lent) -> Option<Columns
         tasks: [0; 16],
         deferrable: [0; 16],
     };
-    let guests = guests_ok(count, rows, lent, &mut columns);
-    if !(guests & blanks_ok(count as usize, lent)) {
+    let n = count as usize;
+    if !(guests_ok(plan, n, lent, &mut columns) & blanks_ok(n, lent)) {
         return None;
     }
     Some(columns)

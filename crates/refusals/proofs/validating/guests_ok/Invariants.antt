@@ -2,12 +2,11 @@
 use Rattle.std.proofs.Common.{◌≡◌}
 use Rattle.lists.specs.All.{all_to}
 use Rattle.plan.specs.Filled.{ColumnsOf}
-use Rattle.rows.specs.Words.{plan_of}
 use Rattle.refusals.specs.Check.{goes}
 use Rattle.refusals.proofs.validating.guests_ok.Given as goal
 
 abbrev pub invariant-loop-k : goal.invariant-loop-k
-invariant-loop-k l = record {
-  okay : l.ok ≡ all_to (goes (plan_of l.count l.rows) l.lent.left.now l.lent.position.now l.lent.rest.now l.lent.wait.now l.lent.age.now) l.k;
-  columns : ColumnsOf (plan_of l.count l.rows).guests l.k l.columns;
+invariant-loop-k g l = record {
+  okay : l.ok ≡ all_to (goes (g.P.AsPlan.plan l.plan) l.lent.left.now l.lent.position.now l.lent.rest.now l.lent.wait.now l.lent.age.now) l.k;
+  columns : ColumnsOf (g.P.AsPlan.plan l.plan).guests l.k l.columns;
 }
