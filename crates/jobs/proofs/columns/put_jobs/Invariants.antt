@@ -1,17 +1,23 @@
 -- `jobs::columns::put_jobs` meets its contract: a turn puts the row of one guest and its barred tasks, and the rows
 -- before it stand. Assumes nothing.
-use Prim.Native.Nat.{◌≤◌, ◌-◌}
+use Rattle.std.proofs.Common.{◌≡◌, ℕ, ◌<◌}
+use Rattle.lists.specs.Places.{nth}
+use Rattle.plan.specs.Records.{guest_at, every_of}
+use Rattle.plan.specs.Charge.{charged}
+use Rattle.arrays.specs.Place.{place_at}
 use Rattle.jobs.specs.Barred.{BarredTo}
-use Rattle.rows.specs.Words.{plan_of}
+use Rattle.jobs.specs.Rows.{Long}
 use Rattle.plan.proofs.Order.{PlanIn}
-use Rattle.jobs.proofs.Rows.{RowsTo}
 use Rattle.jobs.proofs.columns.put_jobs.Given as goal
 
 abbrev pub invariant-loop-k : goal.invariant-loop-k
-invariant-loop-k l =
-    (l.k ≤ l.n)
-    × (PlanIn (plan_of l.count l.rows)
-    × (RowsTo (plan_of l.count l.rows) l.k l.runs l.periods × BarredTo (plan_of l.count l.rows) l.position l.k l.barred l.clear))
-
-abbrev pub decreases-loop-k : goal.decreases-loop-k
-decreases-loop-k l = l.n - l.k
+invariant-loop-k g l =
+    let p = g.P.AsPlan.plan l.plan in record {
+      in_order : PlanIn p;
+      long : Long l.runs l.periods;
+      run : (k t : ℕ) → k < l.k → t < (guest_at p.guests k).tasks
+          → nth l.runs (place_at k t) ≡ charged (guest_at p.guests k) t;
+      period : (k t : ℕ) → k < l.k → t < (guest_at p.guests k).tasks
+          → nth l.periods (place_at k t) ≡ every_of (guest_at p.guests k) t;
+      bars : BarredTo p l.position l.k l.barred l.clear;
+    }
