@@ -1,23 +1,22 @@
 -- What the way in leaves to the calls that name a guest: a refusal, or records in order with the guest at its place.
 -- Assumes nothing.
-use Rattle.std.proofs.Common.{◌≡◌, ℕ, ◌≤◌, ◌<◌, List, [], ◌∷◌, true, Ok, Err, refl, sym, ap, ◌∙◌, arith, eqb}
+use Rattle.std.proofs.Common.{◌≡◌, ℕ, ◌≤◌, ◌<◌, List, [], ◌∷◌, true, Ok, Err, refl, ap, ◌∙◌, arith, eqb}
 use borrow.Author.Tests.{le-ltb, lt-ltb, ltb-true}
 use Rattle.lists.specs.Places.{nth}
 use Rattle.lists.specs.Search.{first_from}
 use Rattle.lists.specs.Refusals.{Test, refusal, ◌or_refuse◌}
-use Rattle.plan.specs.declared.Columns.{Columns}
 use Rattle.plan.specs.declared.Plan.{Plan}
 use Rattle.plan.specs.declared.Refusal.{Refusal}
-use Rattle.plan.specs.First.{refused, fine, or_else, refused_by, refuse_or, unless_refused}
+use Rattle.plan.specs.First.{refused, or_else, refused_by, refuse_or}
 use Rattle.plan.specs.Order.{plan_refusal, records_then}
 use Rattle.plan.specs.Place.{place_of, has_guest}
 use Rattle.plan.specs.Ranges.{most_guests}
 use Rattle.plan.specs.Records.{guest_at}
-use Rattle.plan.specs.Filled.{Filled, ColumnsOf}
+use Rattle.plan.specs.Filled.{Filled}
 use Rattle.plan.specs.Promises.{Checks}
 use Rattle.plan.specs.LookUp.{LooksUp}
 use Rattle.lists.proofs.Refusals.{none_left, go_on, stop, passed}
-use Rattle.plan.proofs.First.{refused_here, number_refuses, test_passes, ok_says, err_says, ok_unless, err_unless}
+use Rattle.plan.proofs.First.{refused_here, number_refuses, test_passes, ok_says, err_says, err_unless}
 use Rattle.plan.proofs.Place.{place_is}
 use Rattle.plan.proofs.Order.{PlanIn, plan_in, check_order, records_first, records_none, records_pass}
 

@@ -11,6 +11,7 @@ use crate::checking::check;
 use crate::{AsPlan, Columns, Refusal};
 
 // The first place of the first n whose id is `id`, or n where there is none: the specs' `first_from` counts so.
+#[tactic(auto, unfolding(lists::specs::Search::first_from), using(lists::proofs::Search::first_skip))]
 pub fn place_of(ids: &[u32; 16], n: usize, id: u32) -> usize
     requires { n ≤ 16 }
     ensures { result ≡ first_from (λ k. eqb (nth ids.now k) id) n 0 }
@@ -31,6 +32,7 @@ pub fn has_task(tasks: u32, number: u32) -> bool
 }
 
 // The way in of each call that names a guest: the refusal of the plan's records, then 7, else the guest's place.
+#[tactic(auto, using(crate::proofs::Order::check_order, crate::proofs::LookUp::looked_refused))]
 pub fn look_up<P: AsPlan>(plan: &P, columns: &Columns, id: u32) -> Result<usize, Refusal>
     ensures { ColumnsOf (P.plan plan.now).guests most_guests columns.now → LooksUp (P.plan plan.now) id result }
 {

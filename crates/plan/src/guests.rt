@@ -21,6 +21,7 @@ pub fn new_id(ids: &[u32; 16], k: usize) -> bool
 }
 
 // Whether a guest passes, or the number that refuses it; `new` says that its id stands at no earlier place.
+#[tactic(auto, unfolding(crate::specs::Order::number_of, crate::specs::Ranges::tasks_ok, crate::specs::Ranges::head_ok, lists::specs::Refusals::refusal, lists::specs::Refusals::unless))]
 pub fn guest_passes(g: &Guest, new: bool) -> Result<(), u32>
     ensures { result ≡ unless_number (number_of g.now new) tt }
 {

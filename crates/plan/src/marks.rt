@@ -13,6 +13,7 @@ pub fn is_marked(marks: u16, i: usize) -> bool
 }
 
 // The marks of the first n tasks alone. Without marks nothing is divided.
+#[tactic(auto, unfolding(crate::specs::Marks::marks_of), using(crate::proofs::MarksLaws::marks_none, crate::proofs::MarksLaws::moved_up_lem))]
 pub fn live_marks(marks: u16, n: usize) -> u32
     requires { n ≤ most_tasks }
     ensures { result ≡ marks_of marks n }

@@ -1,9 +1,9 @@
 -- `plan::check` meets its promise: the count first; then the guests in order, of which those that are left have the
 -- same first refusal. Assumes nothing.
-use Rattle.std.proofs.Common.{◌≡◌, ◌<◌, ◌-◌, ℕ, arith, sym, ap, ◌∙◌}
+use Rattle.std.proofs.Common.{◌≡◌, ◌<◌, ◌-◌, arith, sym, ap, ◌∙◌}
 use Rattle.lists.proofs.Refusals.{ok_number, err_number}
 use Rattle.plan.specs.Ranges.{most_guests}
-use Rattle.plan.specs.Order.{guest_number, number_of}
+use Rattle.plan.specs.Order.{number_of}
 use Rattle.plan.proofs.First.{first_here, first_next, first_end, ok_unless, err_unless}
 use Rattle.plan.proofs.RangesLaws.{within_says}
 use Rattle.plan.proofs.Order.{number_is, count_out, counted}

@@ -1,19 +1,9 @@
--- `plan::start_check` meets its contract: the records' refusal, then the one test. Assumes nothing.
+-- `plan::start_check` meets its contract: of records in order the one test. Assumes nothing.
 use Rattle.std.proofs.Common.{arith, sym, ◌∙◌}
-use Rattle.std.proofs.lemmas.Result.{err_from_is_err_and}
 use Rattle.plan.proofs.First.{ok_says, ok_unless, err_unless}
 use Rattle.plan.proofs.Order.{check_order}
-use Rattle.plan.proofs.PeriodicLaws.{start_refused, periodic_tested, deferrable_refused, starts_by}
+use Rattle.plan.proofs.PeriodicLaws.{periodic_tested, deferrable_refused, starts_by}
 use Rattle.plan.proofs.checking.start_check.Goals as goal
-
-pub returns-in_err-check : goal.returns-in_err-check
-returns-in_err-check g c =
-    let e = err_from_is_err_and c.from_residual.result c.from_residual.ensures.1 in
-    rw (e.1, e.2) (start_refused _ c.in_err-check.ensures)
-
-pub all_periodic-requires : goal.all_periodic-requires
-all_periodic-requires g c =
-    let p = g.P.AsPlan.plan c.args.plan.now in omega (arith, (check_order p c.in_ok-check.ensures).few, c.count.ensures)
 
 pub returns-then-not-all_periodic : goal.returns-then-not-all_periodic
 returns-then-not-all_periodic g c =
