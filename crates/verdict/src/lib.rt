@@ -3,66 +3,68 @@
 
 ghost use Rattle.verdict.specs.Promises.{GuestJudged, TaskJudged, Accepts};
 
-use plan::{Plan, check, columns_of, count_ok};
-use response::seat_of;
+use judge::{guest_accepted, guest_says, judge_task};
+use plan::{AsPlan, Refusal, check, columns_of, has_task};
+use response::{Seat, response_at, seat_of, servers_of};
 
-mod accepting;
 mod judge;
-mod placing;
 
-pub use placing::accept_in; // Inner: for the calls in place, as the two below.
-pub use placing::guest_verdict_in; // Inner: as above.
-pub use placing::task_verdict_in; // Inner: as above.
-
-// The verdict of a guest: a refusal's number and place; fitted with its response; unfit.
-#[derive(Clone, Copy)]
+// The verdict of a guest: fitted with its response; unfit.
+#[derive(Clone, Copy, PartialEq, Eq)]
 pub enum GuestVerdict {
-    Refused(u32, u32),
     Fitted(u32),
     Unfit,
 }
 
-// The verdict of a task: a refusal's number and place; met with its response; unmet with its response, or with none
-// up to the task's period; unjudged.
-#[derive(Clone, Copy)]
+// The verdict of a task: met with its response; unmet with its response, or with none up to the task's period; unjudged.
+#[derive(Clone, Copy, PartialEq, Eq)]
 pub enum TaskVerdict {
-    Refused(u32, u32),
     Met(u32),
     UnmetAt(u32),
     Unmet,
     Unjudged,
 }
 
-// The acceptance of a plan: a refusal's number and place; accepted; not accepted.
-#[derive(Clone, Copy)]
+// The acceptance of a plan: accepted; not accepted.
+#[derive(Clone, Copy, PartialEq, Eq)]
 pub enum Acceptance {
-    Refused(u32, u32),
     Accepted,
     NotAccepted,
 }
 
 // The verdict of the guest with an id.
-pub fn guest_verdict(plan: Plan, id: u32) -> GuestVerdict
-    ensures { GuestJudged plan id result }
+pub fn guest_verdict<P: AsPlan>(plan: &P, id: u32) -> Result<GuestVerdict, Refusal>
+    ensures { GuestJudged (P.plan plan.now) id result }
 {
-    judge::guest_at(seat_of(check(plan), columns_of(plan), plan.count, id))
+    let Seat { place, servers } = seat_of(plan, id)?;
+    Ok(guest_says(response_at(&servers, place)))
 }
 
 // The verdict of task number `task`, from 1, of the guest with an id.
-pub fn task_verdict(plan: Plan, id: u32, task: u32) -> TaskVerdict
-    ensures { TaskJudged plan id task result }
+pub fn task_verdict<P: AsPlan>(plan: &P, id: u32, task: u32) -> Result<TaskVerdict, Refusal>
+    ensures { TaskJudged (P.plan plan.now) id task result }
 {
-    let seat = seat_of(check(plan), columns_of(plan), plan.count, id);
-    let k = seat.place;
-    judge::task_at(seat, plan.guests[k], task)
+    let seat = seat_of(plan, id)?;
+    let g = plan.guest(seat.place);
+    if !has_task(g.tasks, task) {
+        return Err(Refusal {
+            number: 8,
+            place: 0,
+        });
+    }
+    Ok(judge_task(&seat.servers, seat.place, &g, (task - 1) as usize))
 }
 
 // Whether all guests are fitted and all tasks met.
-pub fn accept(plan: Plan) -> Acceptance
-    ensures { Accepts plan result }
+pub fn accept<P: AsPlan>(plan: &P) -> Result<Acceptance, Refusal>
+    ensures { Accepts (P.plan plan.now) result }
 {
-    if !count_ok(plan.count) {
-        return Acceptance::Refused(1, 0);
+    check(plan)?;
+    let servers = servers_of(&columns_of(plan));
+    for k in 0..plan.count() as usize {
+        if !guest_accepted(&servers, k, &plan.guest(k)) {
+            return Ok(Acceptance::NotAccepted);
+        }
     }
-    accepting::judged(plan)
+    Ok(Acceptance::Accepted)
 }

@@ -1,31 +1,47 @@
 -- A guest's verdict has its meaning and is the only one that has it: the search's answer is the least solution.
 -- Assumes nothing.
-use Rattle.std.specs.Prelude.{Option, Some, None}
+use Rattle.std.specs.Prelude.{Option, Some, None, Result, Ok, Err}
 use mathlib.Core.Path.{◌≡◌, refl, sym, ◌∙◌, ap}
 use mathlib.Core.Bool.{true, false≢true}
-use mathlib.Core.List.{[], ◌∷◌}
+use mathlib.Core.List.{List, [], ◌∷◌}
 use Prim.Native.Nat.{ℕ, suc, ◌≤◌, ◌<◌}
 use native.Mathlib.Omega.{arith}
 use lib.Dec.{eqb}
 use borrow.Author.Tests.{eq-eqb, lt-ltb, ltb-true}
-use Rattle.lists.specs.Refusals.{◌or_refuse◌}
-use Rattle.plan.specs.Order.{plan_refusal}
+use Rattle.lists.specs.Refusals.{Test, refusal, ◌or_refuse◌}
+use Rattle.plan.specs.First.{or_else, unless_refused}
+use Rattle.plan.specs.Order.{plan_refusal, records_then}
 use Rattle.plan.specs.Place.{place_of, has_guest}
 use Rattle.plan.specs.Records.{guest_at}
 use Rattle.plan.specs.declared.Plan.{Plan}
+use Rattle.plan.specs.declared.Refusal.{Refusal}
 use Rattle.equation.specs.Guest.{guest_under}
 use Rattle.response.specs.Guest.{guest_right, guest_response, fitted, fitted_to}
 use Rattle.verdict.specs.Verdict.{guest_says, guest_verdict}
 use Rattle.verdict.specs.declared.GuestVerdict.{GuestVerdict}
-use Rattle.verdict.specs.declared.GuestVerdict.TheVariants.{Refused, Fitted, Unfit}
+use Rattle.verdict.specs.declared.GuestVerdict.TheVariants.{Fitted, Unfit}
 use Rattle.verdict_laws.specs.Guests.{There, GuestSolves, Responds, AllFit, GuestMeans}
 use Rattle.lists.proofs.All.{all_at, all_by}
 use Rattle.lists.proofs.Search.{at_of, is_at_lem, first_before}
 use Rattle.equation.proofs.Solve.{Solved, Answers, solve_answers, solve_by}
-use Rattle.plan.proofs.Order.{plan_in, records_pass, by_records}
-use Rattle.lists.proofs.Refusals.{passed}
-use Rattle.plan.proofs.First.{test_passes, no_test}
+use Rattle.plan.proofs.Order.{plan_in, records_none}
+use Rattle.lists.proofs.Refusals.{none_left, go_on, passed}
+use Rattle.plan.proofs.First.{ok_says}
 use Rattle.verdict_laws.proofs.Ids.{id_of, found_id, id_one}
+
+-- where nothing refuses, what is asked for is answered
+pub answered : {A : Type 0} (p : Plan) (tests : List Test) (v : A) → (plan_refusal p).number ≡ 0 → refusal tests ≡ 0
+    → unless_refused (records_then p tests) v ≡ Ok v
+unfolding records_then or_else
+answered p tests v o t = rw (o, t) refl
+
+-- an answer that is no refusal is what was asked for, and nothing refused it
+pub asked_for : {A : Type 0} (p : Plan) (tests : List Test) {v a : A} → unless_refused (records_then p tests) v ≡ Ok a
+    → ((plan_refusal p).number ≡ 0) × ((refusal tests ≡ 0) × (v ≡ a))
+asked_for p tests e =
+    let s = ok_says (records_then p tests) (sym e) in
+    let o = records_none p tests s.0 in
+    (o.0, (o.1, sym s.1))
 
 -- the search finds the id at its place, since an id stands for one guest
 pub there_place : (p : Plan) (id k : ℕ) → There p id k → place_of p id ≡ k
@@ -51,16 +67,15 @@ has_there p id ok h =
     record { order = ok; place = place; named = found_id p id (place_of p id) refl place }
 
 -- the verdict is that of the response
-pub guest_verdict_is : (p : Plan) (id k : ℕ) → There p id k → guest_verdict p id ≡ guest_says (guest_response p k)
+pub guest_verdict_is : (p : Plan) (id k : ℕ) → There p id k → guest_verdict p id ≡ Ok (guest_says (guest_response p k))
 unfolding guest_verdict
 guest_verdict_is p id k t =
-    sym (no_test Refused _ ∙ test_passes Refused 7 [] _ (there_has p id k t)
-    ∙ records_pass Refused p (has_guest p id or_refuse 7 ∷ []) _ t.order)
-    ∙ ap (λ (j : ℕ). guest_says (guest_response p j)) (there_place p id k t)
+    answered p (has_guest p id or_refuse 7 ∷ []) _ t.order (go_on 7 [] (there_has p id k t) ∙ none_left)
+    ∙ ap (λ (j : ℕ). Ok (guest_says (guest_response p j))) (there_place p id k t)
 
 -- a response means the least solution, none that there is no solution
 response_means : (p : Plan) (k : ℕ) (f : Option ℕ) → Answers (guest_right p k) (guest_at p.guests k).period f
-    → GuestMeans p k (guest_says f)
+    → GuestMeans p k (Ok (guest_says f))
 response_means p k None a = λ x s. a x s.low s.high s.solves
 response_means p k (Some x) a = record {
   fits = record { low = a.low; high = a.high; solves = a.sol };
@@ -82,17 +97,17 @@ responds_one p k x y a b =
     omega arith
 
 -- two verdicts that mean the same are one
-guest_means_one : (p : Plan) (k : ℕ) (v u : GuestVerdict) → GuestMeans p k v → GuestMeans p k u → v ≡ u
-guest_means_one p k (Refused n m) u a b = absurd a
-guest_means_one p k (Fitted x) (Refused n m) a b = absurd b
-guest_means_one p k (Fitted x) (Fitted y) a b = ap Fitted (responds_one p k x y a b)
-guest_means_one p k (Fitted x) Unfit a b = absurd (b x a.fits)
-guest_means_one p k Unfit (Refused n m) a b = absurd b
-guest_means_one p k Unfit (Fitted y) a b = absurd (a y b.fits)
-guest_means_one p k Unfit Unfit a b = refl
+guest_means_one : (p : Plan) (k : ℕ) (v u : Result GuestVerdict Refusal) → GuestMeans p k v → GuestMeans p k u → v ≡ u
+guest_means_one p k (Err r) u a b = absurd a
+guest_means_one p k (Ok (Fitted x)) (Err r) a b = absurd b
+guest_means_one p k (Ok (Fitted x)) (Ok (Fitted y)) a b = ap (λ (x : ℕ). Ok (Fitted x)) (responds_one p k x y a b)
+guest_means_one p k (Ok (Fitted x)) (Ok Unfit) a b = absurd (b x a.fits)
+guest_means_one p k (Ok Unfit) (Err r) a b = absurd b
+guest_means_one p k (Ok Unfit) (Ok (Fitted y)) a b = absurd (a y b.fits)
+guest_means_one p k (Ok Unfit) (Ok Unfit) a b = refl
 
 -- no other verdict has that meaning
-pub guest_verdict_only : (p : Plan) (id k : ℕ) → There p id k → (v : GuestVerdict) → GuestMeans p k v
+pub guest_verdict_only : (p : Plan) (id k : ℕ) → There p id k → (v : Result GuestVerdict Refusal) → GuestMeans p k v
     → v ≡ guest_verdict p id
 guest_verdict_only p id k t v a = guest_means_one p k v (guest_verdict p id) a (guest_verdict_means p id k t)
 
@@ -122,11 +137,10 @@ unfolding fitted_to
 all_fitted p k a = all_by (fitted p) (suc k) (λ j l. (let x = a j (omega arith) in fits_fitted p j x.0 x.1))
 
 -- fitted x is no refusal: the guest is there, and x its response
-pub fitted_means : (p : Plan) (id x : ℕ) → guest_verdict p id ≡ Fitted x
+pub fitted_means : (p : Plan) (id x : ℕ) → guest_verdict p id ≡ Ok (Fitted x)
     → There p id (place_of p id) × Responds p (place_of p id) x
 unfolding guest_verdict
 fitted_means p id x e =
-    let r = by_records Refused {a = Fitted x} (λ n m q. (let z : ◌≡◌ {A = ℕ} 0 1 = cc in omega arith)) p
-    (has_guest p id or_refuse 7 ∷ []) _ e in
+    let r = asked_for p (has_guest p id or_refuse 7 ∷ []) e in
     let t = has_there p id r.0 (passed (has_guest p id) 7 [] (omega arith) r.1.0).0 in
     (t, rw e at (guest_verdict_means p id (place_of p id) t))

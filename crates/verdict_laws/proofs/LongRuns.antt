@@ -1,5 +1,6 @@
 -- A run longer than the deadline is unmet: each window that solves the equation holds the task's charged run. Assumes
 -- nothing.
+use Rattle.std.specs.Prelude.{Result, Ok, Err}
 use mathlib.Core.Path.{refl}
 use mathlib.Core.Logic.{inl, inr}
 use Prim.Native.Nat.{ℕ, suc, ◌≤◌, ◌<◌}
@@ -8,6 +9,7 @@ use Rattle.plan.specs.Charge.{charged}
 use Rattle.plan.specs.Records.{guest_at, run_of, deadline_of}
 use Rattle.plan.specs.declared.Guest.{Guest}
 use Rattle.plan.specs.declared.Plan.{Plan}
+use Rattle.plan.specs.declared.Refusal.{Refusal}
 use Rattle.equation.specs.System.{System, load, right_at, right}
 use Rattle.response.specs.Task.{system_in, task_right}
 use Rattle.verdict.specs.Verdict.{task_verdict}
@@ -17,7 +19,6 @@ use Rattle.verdict_laws.specs.Guests.{There, AllFit}
 use Rattle.verdict_laws.specs.Tasks.{TaskQuoted, TaskMeans, SaysUnmet, SaysNotMet}
 use Rattle.plan.proofs.Charge.{charged_least}
 use Rattle.verdict_laws.proofs.Tasks.{task_verdict_means, judged_unjudged}
-use Rattle.verdict.specs.declared.TaskVerdict.TheVariants as task
 
 -- the load of a window holds the task's own run
 run_in_load : (S : System) (i w : ℕ) → S.run i ≤ load S i w
@@ -44,20 +45,20 @@ module _ (p : Plan) (id k i : ℕ) (t : There p id k) (h : i < (guest_at p.guest
   pub long_run_not_met : SaysNotMet (task_verdict p id (suc i))
   long_run_not_met = go (task_verdict p id (suc i)) (task_verdict_means p id k i t h)
     where
-      go : (v : TaskVerdict) → TaskMeans p k i v → SaysNotMet v
-      go (task.Refused n m) b = absurd b
-      go (Met r) b = absurd (omega (arith, b.in_time, quoted_run p k i r b.quoted))
-      go (UnmetAt r) b = inl (inl (r, refl))
-      go Unmet b = inl (inr refl)
-      go Unjudged b = inr refl
+      go : (v : Result TaskVerdict Refusal) → TaskMeans p k i v → SaysNotMet v
+      go (Err r) b = absurd b
+      go (Ok (Met r)) b = absurd (omega (arith, b.in_time, quoted_run p k i r b.quoted))
+      go (Ok (UnmetAt r)) b = inl (inl (r, refl))
+      go (Ok Unmet) b = inl (inr refl)
+      go (Ok Unjudged) b = inr refl
 
   -- under fitted guests such a task is unmet
   pub long_run_unmet : AllFit p k → SaysUnmet (task_verdict p id (suc i))
   long_run_unmet all = go (task_verdict p id (suc i)) (task_verdict_means p id k i t h)
     where
-      go : (v : TaskVerdict) → TaskMeans p k i v → SaysUnmet v
-      go (task.Refused n m) b = absurd b
-      go (Met r) b = absurd (omega (arith, b.in_time, quoted_run p k i r b.quoted))
-      go (UnmetAt r) b = inl (r, refl)
-      go Unmet b = inr refl
-      go Unjudged b = absurd (judged_unjudged p k all b)
+      go : (v : Result TaskVerdict Refusal) → TaskMeans p k i v → SaysUnmet v
+      go (Err r) b = absurd b
+      go (Ok (Met r)) b = absurd (omega (arith, b.in_time, quoted_run p k i r b.quoted))
+      go (Ok (UnmetAt r)) b = inl (r, refl)
+      go (Ok Unmet) b = inr refl
+      go (Ok Unjudged) b = absurd (judged_unjudged p k all b)

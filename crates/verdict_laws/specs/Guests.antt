@@ -1,11 +1,12 @@
 -- What a guest's verdict says of its equation.
-use Rattle.std.specs.Prelude.{◌≡◌, ℕ, ◌≤◌, ◌<◌}
+use Rattle.std.specs.Prelude.{◌≡◌, ℕ, ◌≤◌, ◌<◌, Result, Ok, Err}
 use Rattle.plan.specs.Order.{plan_refusal}
 use Rattle.plan.specs.Records.{guest_at}
 use Rattle.plan.specs.declared.Plan.{Plan}
+use Rattle.plan.specs.declared.Refusal.{Refusal}
 use Rattle.response.specs.Guest.{guest_right}
 use Rattle.verdict.specs.declared.GuestVerdict.{GuestVerdict}
-use Rattle.verdict.specs.declared.GuestVerdict.TheVariants.{Refused, Fitted, Unfit}
+use Rattle.verdict.specs.declared.GuestVerdict.TheVariants.{Fitted, Unfit}
 
 -- records in order, whose guest at place k has the id
 pub record There (p : Plan) (id k : ℕ) : Type 0 where
@@ -33,7 +34,7 @@ abbrev pub AllFit : Plan → ℕ → Type 0
 AllFit p k = (j : ℕ) → j ≤ k → (x : ℕ) × GuestSolves p j x
 
 -- what a verdict means where records are in order and the guest is there
-abbrev pub GuestMeans : Plan → ℕ → GuestVerdict → Type 0
-GuestMeans p k (Refused n place) = ⊥
-GuestMeans p k (Fitted x) = Responds p k x
-GuestMeans p k Unfit = NoneFits p k
+abbrev pub GuestMeans : Plan → ℕ → Result GuestVerdict Refusal → Type 0
+GuestMeans p k (Err refusal) = ⊥
+GuestMeans p k (Ok (Fitted x)) = Responds p k x
+GuestMeans p k (Ok Unfit) = NoneFits p k

@@ -1,13 +1,13 @@
 -- What a task's verdict says of its equation.
-use Rattle.std.specs.Prelude.{◌≡◌, ◌⊎◌, ℕ, suc, ◌+◌, ◌-◌, ◌≤◌, ◌<◌}
+use Rattle.std.specs.Prelude.{◌≡◌, ◌⊎◌, ℕ, suc, ◌+◌, ◌-◌, ◌≤◌, ◌<◌, Result, Ok, Err}
 use Rattle.plan.specs.Place.{place_of}
 use Rattle.plan.specs.Records.{guest_at, every_of, deadline_of}
 use Rattle.plan.specs.declared.Plan.{Plan}
+use Rattle.plan.specs.declared.Refusal.{Refusal}
 use Rattle.response.specs.Task.{gap, task_right}
 use Rattle.verdict.specs.declared.TaskVerdict.{TaskVerdict}
 use Rattle.verdict.specs.declared.TaskVerdict.TheVariants.{Met, UnmetAt, Unmet, Unjudged}
 use Rattle.verdict_laws.specs.Guests.{There, NoneFits, AllFit}
-use Rattle.verdict.specs.declared.TaskVerdict.TheVariants as task
 
 -- records in order, with a guest of that id that has a task of that number, from 1
 pub record TaskThere (p : Plan) (id number : ℕ) : Type 0 where
@@ -59,20 +59,20 @@ pub record TaskUnjudged (p : Plan) (k : ℕ) : Type 0 where
   pub unfit : NoneFits p j
 
 -- what a verdict means where records are in order, the guest is there and has the task
-abbrev pub TaskMeans : Plan → ℕ → ℕ → TaskVerdict → Type 0
-TaskMeans p k i (task.Refused n place) = ⊥
-TaskMeans p k i (Met r) = TaskMet p k i r
-TaskMeans p k i (UnmetAt r) = TaskUnmetAt p k i r
-TaskMeans p k i Unmet = TaskUnmet p k i
-TaskMeans p k i Unjudged = TaskUnjudged p k
+abbrev pub TaskMeans : Plan → ℕ → ℕ → Result TaskVerdict Refusal → Type 0
+TaskMeans p k i (Err refusal) = ⊥
+TaskMeans p k i (Ok (Met r)) = TaskMet p k i r
+TaskMeans p k i (Ok (UnmetAt r)) = TaskUnmetAt p k i r
+TaskMeans p k i (Ok Unmet) = TaskUnmet p k i
+TaskMeans p k i (Ok Unjudged) = TaskUnjudged p k
 
 -- a verdict says unmet, with the task's response or with none
-abbrev pub SaysUnmet : TaskVerdict → Type 0
-SaysUnmet v = ((r : ℕ) × (v ≡ UnmetAt r)) ⊎ (v ≡ Unmet)
+abbrev pub SaysUnmet : Result TaskVerdict Refusal → Type 0
+SaysUnmet v = ((r : ℕ) × (v ≡ Ok (UnmetAt r))) ⊎ (v ≡ Ok Unmet)
 
 -- a verdict says that the task is not met: unmet or unjudged
-abbrev pub SaysNotMet : TaskVerdict → Type 0
-SaysNotMet v = SaysUnmet v ⊎ (v ≡ Unjudged)
+abbrev pub SaysNotMet : Result TaskVerdict Refusal → Type 0
+SaysNotMet v = SaysUnmet v ⊎ (v ≡ Ok Unjudged)
 
 -- each task of the guest at place k has a solution in time
 abbrev pub AllInTime : Plan → ℕ → Type 0
