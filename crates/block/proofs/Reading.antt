@@ -1,6 +1,6 @@
 -- How the code comes to a block's number, and what a block that passes says. Assumes nothing.
-use mathlib.Core.Path.{◌≡◌, refl, sym, ◌∙◌}
-use mathlib.Core.Bool.{Bool, true, false, ◌&&◌}
+use mathlib.Core.Path.{◌≡◌, sym, ◌∙◌}
+use mathlib.Core.Bool.{Bool, true, ◌&&◌}
 use mathlib.Core.List.{List, []}
 use Prim.Native.Nat.{ℕ, ◌+◌, ◌-◌, ◌^◌, ◌≤◌, ◌<◌}
 use native.Mathlib.Omega.{arith}
@@ -16,12 +16,7 @@ use Rattle.plan.proofs.RangesLaws.{head_says}
 use Rattle.lists.proofs.All.{and_left, and_right, and_true, all_by, all_at}
 use Rattle.lists.proofs.Table.{table_at, table_length}
 use Rattle.std.proofs.lemmas.List.{ext_get_or}
-use Rattle.std.proofs.Common.{◌≢◌, length, suc, zero, ⊎_elim, eq-or-lt_of_le}
-use Rattle.std.proofs.lemmas.List.FromFn.{get_or-range_with_len, length-range_with_len}
-use Rattle.std.specs.List.{range_with_len, AllWithin, HoldsAt}
-use Rattle.std.specs.Bool.{MatchBool}
-use Rattle.std.specs.Array.{IsFromFnResultFrom}
-use denote.Param.Members.{Mut, Called}
+use Rattle.std.proofs.Common.{length}
 use Rattle.lists.proofs.Refusals.{none_left, go_on, passed}
 
 -- A block that passes every test is refused by no number.
@@ -122,38 +117,3 @@ unfolding column
 column_by b at x l h =
     ext_get_or 0 x _ (l ∙ sym (table_length (λ k. word b (at k)) most_tasks))
     (λ i m. h i (omega arith) ∙ sym (table_at (λ k. word b (at k)) 0 most_tasks i (omega arith)))
-
--- Whether all words of a range are found zero says whether they pass.
-pub zeros_by : (b : List ℕ) (from to : ℕ) (ok : Bool) → from ≤ to
-    → MatchBool ok (AllWithin (λ k. word b k ≡ 0) (range_with_len from (to - from)) 0 (length (range_with_len from (to - from))))
-    ((k : ℕ) × (k < length (range_with_len from (to - from))) × HoldsAt (λ k. word b k ≢ 0) (range_with_len from (to - from)) k)
-    → ok ≡ zero_between b from to
-zeros_by b from to true l h =
-    sym
-    (zeros_pass b from to
-    (λ k a z. let q : from + (k - from) ≡ k = omega arith in
-    rw (get_or-range_with_len from (to - from) (k - from) 0 (omega arith) ∙ q) at
-    (h (k - from) 0 (omega arith) (omega (arith, length-range_with_len from (to - from))))))
-zeros_by b from to false l h = go (zero_between b from to) refl
-  where
-    k : ℕ
-    k = h.0
-
-    below : k < to - from
-    below = omega (arith, h.1, length-range_with_len from (to - from))
-
-    go : (z : Bool) → zero_between b from to ≡ z → false ≡ z
-    go false e = refl
-    go true e = absurd (rw (get_or-range_with_len from (to - from) k 0 below) at (h.2 0)
-        (zero_at b from to (from + k) (omega arith) (omega (arith, below)) e))
-
--- What a closure that keeps what it holds gives at each index.
-pub each_by : {F : Type 0} (g : Mut F (ℕ × Unit {0}) ℕ) (f : F) (ys : List ℕ) (v : ℕ → ℕ)
-    → ((i y : ℕ) (q : F) → Called g f (i, tt) y q → (q ≡ f) × (y ≡ v i))
-    → (i n : ℕ) → IsFromFnResultFrom g f ys i n → (k : ℕ) → i ≤ k → k < i + n → nth ys k ≡ v k
-each_by g f ys v h i zero a k l u = absurd (omega arith)
-each_by g f ys v h i (suc n) a k l u =
-    let s = h i a.1 a.0 a.3 in
-    ⊎_elim (λ e. rw (← e) (a.2.1 0 ∙ s.1))
-    (λ m. each_by g f ys v h (i + 1) n (rw s.0 at a.4) k (omega arith) (omega arith))
-    (eq-or-lt_of_le {n = i} {m = k} l)

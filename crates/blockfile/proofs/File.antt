@@ -1,12 +1,12 @@
 -- How the code comes to the refusal of reading, and what bytes that are not refused say. Assumes nothing.
-use Rattle.std.specs.Prelude.{Some}
+use Rattle.std.specs.Prelude.{Option, Some, None, MatchOption}
 use mathlib.Core.Path.{◌≡◌, refl}
 use mathlib.Core.Bool.{Bool, true, false}
 use mathlib.Core.List.{List}
-use Prim.Native.Nat.{ℕ, ◌+◌, ◌*◌, ◌-◌, ◌%◌, ◌≤◌, ◌<◌}
+use Prim.Native.Nat.{ℕ, ◌*◌, ◌-◌, ◌%◌, ◌≤◌, ◌<◌}
 use native.Mathlib.Omega.{arith}
 use lib.ListN.{length, take, drop, length-drop}
-use lib.Seq.{length-take-le}
+use lib.Seq.{length-take-le, take-take}
 use lib.Dec.{eqb}
 use borrow.Author.Tests.{eqb-true}
 use Rattle.plan.specs.Ranges.{within}
@@ -14,7 +14,8 @@ use Rattle.block.specs.Layout.{block_size}
 use Rattle.plan.specs.First.{refused, first_refused}
 use Rattle.blockfile.specs.File.{block_at, id_at, blocks_in, most_bytes, size_ok, number_at, sized_by, blocks_refusal, file_refusal, first_with}
 use Rattle.lists.proofs.All.{and_left, and_right}
-use Rattle.lists.proofs.Search.{First, least_says}
+use Rattle.lists.proofs.Search.{First, least_says, least_is}
+use Rattle.lists.specs.Search.{least}
 use Rattle.plan.proofs.RangesLaws.{within_says}
 use Rattle.plan.proofs.First.{none_refused}
 
@@ -73,10 +74,10 @@ pub part_long : (s part : List ℕ) (k : ℕ) → part ≡ block_at s k → k < 
 part_long s part k e l =
     rw e (length-take-le block_size (drop (block_size * k) s) (rw (length-drop (block_size * k) s) (omega arith)))
 
--- A part of 512 bytes from block k's first on is block k.
-pub part_at : (s : List ℕ) (k : ℕ)
-    → take (block_size * k + block_size - block_size * k) (drop (block_size * k) s) ≡ block_at s k
-part_at s k = let d : block_size * k + block_size - block_size * k ≡ block_size = omega arith in rw d refl
+-- The first 512 bytes of those from block k's first on are block k.
+pub part_at : (s : List ℕ) (k : ℕ) → k < blocks_in s
+    → take block_size (take (length s - block_size * k) (drop (block_size * k) s)) ≡ block_at s k
+part_at s k h = take-take block_size (length s - block_size * k) (drop (block_size * k) s) (omega arith)
 
 -- A block that was found is one of the blocks, and has the id.
 pub found_at : (s : List ℕ) (id j : ℕ) → first_with s id ≡ Some j → (j < blocks_in s) × (id_at s j ≡ id)
@@ -84,3 +85,12 @@ found_at s id j e =
     let w : First (λ k. eqb (id_at s k) id) (blocks_in s) 0 j =
     rw e at (least_says (λ k. eqb (id_at s k) id) (blocks_in s) 0) in
     (omega (arith, w.high), eqb-true _ _ w.holds)
+
+-- The first number that passes, as a search over a range gives it.
+pub found_first : (f : ℕ → Bool) (n : ℕ) (r : Option ℕ)
+    → MatchOption r ((k : ℕ) → 0 ≤ k → k < n → f k ≡ false)
+    (λ i. (0 ≤ i) × (i < n) × (f i ≡ true) × ((k : ℕ) → 0 ≤ k → k < i → f k ≡ false))
+    → r ≡ least f n 0
+found_first f n None h = least_is f n 0 None record { never = λ z l u. h z l (omega arith) }
+found_first f n (Some i) h =
+    least_is f n 0 (Some i) record { low = h.0; high = omega (arith, h.1); holds = h.2; first = h.3 }

@@ -1,32 +1,31 @@
 // Bytes block by block: one of them, the refusal of reading them, and the first with an id.
 ghost use Rattle.std.specs.Prelude.{◌≡◌, not, ◌||◌, ◌≤◌, ◌<◌};
 ghost use Rattle.plan.specs.Ranges.{most_guests};
-ghost use Rattle.plan.specs.First.{first_refused};
+ghost use Rattle.lists.specs.Refusals.{unless_number};
+ghost use Rattle.plan.specs.First.{first_refused, unless_refused};
 ghost use Rattle.plan.specs.Order.{new_id};
 ghost use Rattle.block.specs.Reading.{own_place};
 ghost use Rattle.blockfile.specs.File.{block_at, id_at, blocks_in, size_ok, number_at, blocks_refusal, first_with};
 
-use block::layout;
+use block::layout::SIZE;
 use plan::Refusal;
 
 // The length of 8 blocks.
-pub const MOST_BYTES: usize = 8 * layout::SIZE;
+pub const MOST_BYTES: usize = 8 * SIZE;
 
 // Refusal 1's test.
 pub fn size_ok(n: usize) -> bool
     ensures { result ≡ size_ok n }
 {
-    ((1 <= n) & (n <= MOST_BYTES)) & (n % layout::SIZE == 0)
+    (1..=MOST_BYTES).contains(&n) && n % SIZE == 0
 }
 
 // Block k of the bytes, a part of them.
-pub fn block_at(s: &[u8], k: usize) -> &[u8]
+pub fn block_at(s: &[u8], k: usize) -> &[u8; SIZE]
     requires { k < blocks_in s.now }
     ensures { result.now ≡ block_at s.now k }
 {
-    let a = layout::SIZE * k;
-    let e = a + layout::SIZE;
-    &s[a..e]
+    s[SIZE * k..].first_chunk().unwrap()
 }
 
 // The guest id in block k.
@@ -43,13 +42,7 @@ fn is_new(s: &[u8], k: usize) -> bool
     ensures { result ≡ new_id (id_at s.now) k }
 {
     let id = id_at(s, k);
-    let mut ok = true;
-    let mut j: usize = 0;
-    while j < k {
-        ok = ok & !(id_at(s, j) == id);
-        j += 1;
-    }
-    ok
+    (0..k).all(|j| id_at(s, j) != id)
 }
 
 // Whether block k's place passes: where places count, it is its own.
@@ -57,51 +50,45 @@ fn place_passes(s: &[u8], k: usize, placed: bool) -> bool
     requires { (k < most_guests) × (k < blocks_in s.now) }
     ensures { result ≡ (not placed || own_place (block_at s.now k) k) }
 {
-    !placed | (block::place_of(block_at(s, k)) == (k as u32))
+    !placed || block::place_of(block_at(s, k)) == k as u32
 }
 
-// The number that block k is refused by.
-fn number_at(s: &[u8], k: usize, placed: bool) -> u32
+// Whether block k passes, or else the number that refuses it.
+#[tactic(auto, unfolding(crate::specs::File::number_at))]
+fn check_block(s: &[u8], k: usize, placed: bool) -> Result<(), u32>
     requires { (k < most_guests) × (k < blocks_in s.now) }
-    ensures { result ≡ number_at placed s.now k }
+    ensures { result ≡ unless_number (number_at placed s.now k) tt }
 {
     block::block_number(block_at(s, k), place_passes(s, k, placed), is_new(s, k))
 }
 
-// The first refusal of the first n blocks.
-fn first_refused(s: &[u8], n: usize, placed: bool) -> Refusal
+// Whether the first n blocks pass, or else the first refusal.
+fn check_first(s: &[u8], n: usize, placed: bool) -> Result<(), Refusal>
     requires { (n ≤ most_guests) × (n ≤ blocks_in s.now) }
-    ensures { result ≡ first_refused (number_at placed s.now) n 0 }
+    ensures { result ≡ unless_refused (first_refused (number_at placed s.now) n 0) tt }
 {
-    let mut k: usize = 0;
-    while k < n {
-        let number = number_at(s, k, placed);
-        if 0 < number {
-            return Refusal {
+    for k in 0..n {
+        if let Err(number) = check_block(s, k, placed) {
+            return Err(Refusal {
                 number,
                 place: k as u32,
-            };
+            });
         }
-        k += 1;
     }
-    Refusal {
-        number: 0,
-        place: 0,
-    }
+    Ok(())
 }
 
-// The refusal of blocks; `placed` says whether their places count.
-pub fn refusal_of(s: &[u8], placed: bool) -> Refusal
-    ensures { result ≡ blocks_refusal placed s.now }
+// Whether blocks pass, or else their refusal; `placed` says whether their places count.
+pub fn check_blocks(s: &[u8], placed: bool) -> Result<(), Refusal>
+    ensures { result ≡ unless_refused (blocks_refusal placed s.now) tt }
 {
-    if size_ok(s.len()) {
-        first_refused(s, s.len() / layout::SIZE, placed)
-    } else {
-        Refusal {
+    if !size_ok(s.len()) {
+        return Err(Refusal {
             number: 1,
             place: 0,
-        }
+        });
     }
+    check_first(s, s.len() / SIZE, placed)
 }
 
 // The first block that has the id.
@@ -109,13 +96,6 @@ pub fn first_with(s: &[u8], id: u32) -> Option<u32>
     requires { blocks_in s.now ≤ most_guests }
     ensures { result ≡ first_with s.now id }
 {
-    let n = s.len() / layout::SIZE;
-    let mut k: usize = 0;
-    while k < n {
-        if id_at(s, k) == id {
-            return Some(k as u32);
-        }
-        k += 1;
-    }
-    None
+    let n = (s.len() / SIZE) as u32;
+    (0..n).find(|k| id_at(s, *k as usize) == id)
 }

@@ -22,11 +22,8 @@ pub fn records_of(s: &[u8], n: usize) -> [Guest; 8]
     ensures { result ≡ records_of (block_at s.now) n }
 {
     let mut guests = [plan::blank_guest(); 8];
-    let mut k: usize = 0;
-    while k < n {
-        let g = guest_at(s, k);
-        guests[k] = g;
-        k += 1;
+    for k in 0..n {
+        guests[k] = guest_at(s, k);
     }
     guests
 }

@@ -5,5 +5,5 @@
 mod files;
 mod guests;
 
-pub use files::{MOST_BYTES, block_at, first_with, id_at, refusal_of};
+pub use files::{MOST_BYTES, block_at, check_blocks, first_with, id_at};
 pub use guests::{guest_at, records_of};

@@ -2,7 +2,8 @@
 use Rattle.std.proofs.Common.{◌+◌, ◌*◌, rules, arith}
 use Rattle.words.specs.Word.{word}
 use Rattle.block.specs.Layout.{entry_words}
-use Rattle.block.proofs.Reading.{column_by, each_by}
+use Rattle.block.proofs.Ranges.{each_by}
+use Rattle.block.proofs.Reading.{column_by}
 use Rattle.block.proofs.reader.column_of.Goals as goal
 
 pub returns : goal.returns

@@ -1,29 +1,15 @@
--- `blockfile::files::is_new` meets its contract: a turn compares one id more. Assumes nothing.
-use mathlib.Core.Path.{◌≡◌, ap, ◌∙◌}
-use mathlib.Core.Bool.{not}
-use Prim.Native.Nat.{ℕ}
-use native.Mathlib.Omega.{arith}
-use lib.Dec.{eqb}
-use borrow.Author.Rules.{rules}
-use Rattle.blockfile.specs.File.{id_at}
+-- `blockfile::files::is_new` meets its contract: each earlier block's id is another. Assumes nothing.
+use Rattle.std.proofs.Common.{◌≡◌, ℕ, true, false, not, eqb, rules, arith, tests}
+use Rattle.std.proofs.lemmas.Iterator.{cases_from_all, YieldsList-from_range}
 use Rattle.plan.specs.Order.{new_id}
-use Rattle.lists.specs.All.{all_to}
-use Rattle.lists.proofs.All.{all_turn}
+use Rattle.blockfile.specs.File.{id_at}
+use Rattle.block.proofs.Ranges.{all_below}
 use Rattle.blockfile.proofs.files.is_new.Goals as goal
-
-pub loop-j-init : goal.loop-j-init
-unfolding all_to
-loop-j-init c = search rules
-
-pub loop-j-preserved : goal.loop-j-preserved
-loop-j-preserved c =
-    let other = ap (λ (x : ℕ). not (eqb x c.id_at-id.result)) c.id_at.ensures in
-    (search rules, all_turn _ _ _ _ c.loop-j.invariant.1 other)
 
 pub returns : goal.returns
 unfolding new_id
 returns c =
-    let a = c.args in
-    let e : c.loop-j.j ≡ a.k = omega arith in
-    c.loop-j.invariant.1 ∙ ap (all_to (λ i. not (eqb (id_at a.s.now i) c.id_at-id.result))) e
-    ∙ ap (λ (x : ℕ). all_to (λ i. not (eqb (id_at a.s.now i) x)) a.k) c.id_at-id.ensures
+    let f = λ (j : ℕ). not (eqb (id_at c.args.s.now j) (id_at c.args.s.now c.args.k)) in
+    all_below f c.args.k _
+    (cases_from_all _ _ c.all.result (λ j. f j ≡ true) (λ j. f j ≡ false) c.all.ensures.ran
+    (YieldsList-from_range 0 c.args.k c.args.k (search rules) (omega arith)) (λ x q k. search (rules, tests)) (λ x q k. search (rules, tests)))

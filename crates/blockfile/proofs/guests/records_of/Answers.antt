@@ -1,27 +1,12 @@
 -- `blockfile::guests::records_of` meets its contract: after k turns the first k records stand. Assumes nothing.
-use mathlib.Core.Path.{◌≡◌, refl, ap, ◌∙◌}
-use native.Mathlib.Omega.{arith}
-use lib.ListN.{replicate, length-set}
-use borrow.Author.Rules.{rules}
+use Rattle.std.proofs.Common.{replicate, ap, ◌∙◌, arith}
 use Rattle.plan.specs.Ranges.{most_guests}
 use Rattle.blockfile.specs.File.{block_at}
 use Rattle.blockfile.proofs.Records.{no_records, records_next}
 use Rattle.blockfile.proofs.guests.records_of.Goals as goal
 
 pub loop-k-init : goal.loop-k-init
-loop-k-init c =
-    let a = c.args in
-    (search rules, (ap (replicate most_guests) c.blank_guest-guests.ensures ∙ no_records (block_at a.s.now), refl))
+loop-k-init c = ap (replicate most_guests) c.blank_guest-guests.ensures ∙ no_records (block_at c.args.s.now)
 
 pub loop-k-preserved : goal.loop-k-preserved
-loop-k-preserved c =
-    let a = c.args in
-    let next =
-    records_next (block_at a.s.now) c.loop-k.k _ _ (omega arith) c.loop-k.invariant.1.0 c.guest_at-g.ensures in
-    (search rules, (next, simp length-set c.loop-k.invariant.1.1))
-
-pub returns : goal.returns
-returns c =
-    let l = c.loop-k in
-    let e : l.k ≡ c.args.n = omega arith in
-    rw e at l.invariant.1.0
+loop-k-preserved c = records_next (block_at c.args.s.now) _ _ _ (omega arith) c.loop-k.invariant c.guest_at.ensures
