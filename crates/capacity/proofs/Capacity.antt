@@ -3,7 +3,7 @@
 use Rattle.std.specs.Prelude.{Some}
 use mathlib.Core.Path.{◌≡◌, refl, sym, ◌∙◌, ap, fun_ext}
 use mathlib.Core.Bool.{Bool, true, ◌&&◌}
-use mathlib.Core.List.{List, []}
+use mathlib.Core.List.{[]}
 use Prim.Native.Nat.{ℕ, ◌≤◌, ◌<◌}
 use native.Mathlib.Omega.{arith}
 use lib.ListN.{length}
@@ -11,17 +11,16 @@ use Rattle.lists.specs.All.{all_to}
 use Rattle.lists.specs.Search.{least}
 use Rattle.equation.specs.System.{task_under}
 use Rattle.plan.specs.Charge.{charged}
-use Rattle.plan.specs.Filled.{ColumnsOf}
 use Rattle.plan.specs.First.{fine}
 use Rattle.plan.specs.Order.{new_id, number_of, guest_number, plan_refusal}
 use Rattle.plan.specs.Ranges.{most_guests, guest_ok, tasks_ok}
 use Rattle.plan.specs.Records.{guest_at, run_of, every_of}
-use Rattle.plan.specs.declared.Columns.{Columns}
 use Rattle.plan.specs.declared.Plan.{Plan}
 use Rattle.response.specs.Interference.{interference}
 use Rattle.response.specs.Guest.{guest_response, fitted}
 use Rattle.response.specs.Task.{gap, system_of, response_to}
-use Rattle.response.specs.Columns.{guests_take, fitted_at, accepted_under}
+use Rattle.response.specs.Columns.{ServersOf, above_of, fitted_of, accepted_under}
+use Rattle.response.specs.declared.servers.Servers.{Servers}
 use Rattle.capacity.specs.Capacity.{at_capacity, with_capacity, works, smallest}
 use Rattle.capacity.specs.Search.{fits_at}
 use Rattle.plan.proofs.Charge.{charged_least}
@@ -29,8 +28,7 @@ use Rattle.lists.proofs.Refusals.{passed}
 use Rattle.plan.proofs.Order.{PlanIn, plan_in, numbers_none}
 use Rattle.plan.proofs.Placed.{in_list, placed_own, placed_there, placed_fine}
 use Rattle.plan.proofs.RangesLaws.{head_right}
-use Rattle.response.proofs.ColumnsLaws.{interference_grows, columns_take, columns_fit}
-use Rattle.response.proofs.JittersLaws.{JittersOf}
+use Rattle.response.proofs.ColumnsLaws.{interference_grows, servers_take, servers_fit}
 use Rattle.response.proofs.PlacedLaws.{placed_take, placed_works}
 use Rattle.capacity.proofs.SearchLaws.{fits_down, met_up}
 
@@ -62,18 +60,15 @@ module _ (p : Plan) (k : ℕ) (here : k < length p.guests) (c : ℕ) where
   unfolding works
   works_split = placed_works p k (at_capacity (guest_at p.guests k) c) here
 
--- the search off columns is the definition's
-pub smallest_is : (p : Plan) → PlanIn p → (c : Columns) → ColumnsOf p.guests most_guests c → {jitters : List ℕ}
-    → JittersOf c jitters → (k : ℕ) → k < p.count
-    → least
-    (λ x. all_to (fitted_at c.capacities c.periods jitters) k
-    && accepted_under (guests_take c.capacities c.periods jitters k) (at_capacity (guest_at p.guests k) x))
+-- the search among the plan's servers is the definition's
+pub smallest_is : (p : Plan) → PlanIn p → {s : Servers} → ServersOf p.guests most_guests s → (k : ℕ) → k < p.count
+    → least (λ x. all_to (fitted_of s) k && accepted_under (above_of s k) (at_capacity (guest_at p.guests k) x))
     (guest_at p.guests k).period 1
     ≡ smallest p k
 unfolding smallest
-smallest_is p o c f late k h =
+smallest_is p o {s} f k h =
     let few : k ≤ 8 = omega (arith, o.few) in
-    rw (columns_fit p c f late k few, columns_take p c f late k few)
+    rw (servers_fit p f k few, servers_take p f k few)
     (ap (λ (t : ℕ → Bool). least t (guest_at p.guests k).period 1) (fun_ext (λ x. sym (works_split p k (in_list p o k h) x))))
 
 -- a plan that passes the check does so with another capacity of a guest, from 1 to its period

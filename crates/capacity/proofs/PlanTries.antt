@@ -1,28 +1,25 @@
 -- The search makes few tests for each guest of a plan that passes the check. Assumes nothing.
-use Rattle.std.specs.Prelude.{Option, Some, None, is_some}
+use Rattle.std.specs.Prelude.{Some, is_some}
 use mathlib.Core.Path.{◌≡◌, refl, sym, ◌∙◌, ap, fun_ext}
 use mathlib.Core.Bool.{Bool, true, false}
-use mathlib.Core.List.{List}
 use Prim.Native.Nat.{ℕ, ◌+◌, ◌-◌, ◌≤◌, ◌<◌}
 use native.Mathlib.Omega.{arith}
 use lib.ListN.{length}
 use Rattle.lists.specs.All.{all_to}
 use Rattle.lists.specs.Places.{nth}
 use Rattle.plan.specs.Charge.{charged}
-use Rattle.plan.specs.Filled.{Filled, ColumnsOf}
 use Rattle.plan.specs.Order.{plan_refusal}
 use Rattle.plan.specs.Ranges.{most_guests}
 use Rattle.plan.specs.Records.{guest_at, run_of, every_of, deadline_of}
-use Rattle.plan.specs.declared.Columns.{Columns}
 use Rattle.plan.specs.declared.Guest.{Guest}
 use Rattle.plan.specs.declared.Plan.{Plan}
 use Rattle.response.specs.Interference.{interference}
 use Rattle.response.specs.Guest.{fitted}
 use Rattle.response.specs.Met.{met}
 use Rattle.response.specs.Task.{gap, system_of, response_to}
-use Rattle.response.specs.Columns.{guests_take}
-use Rattle.capacity.specs.declared.CapacityAnswer.TheVariants.{Smallest}
-use Rattle.capacity.specs.Answer.{capacity_says}
+use Rattle.response.specs.Columns.{ServersOf, TasksOf, above_of}
+use Rattle.response.specs.declared.servers.Servers.{Servers}
+use Rattle.response.specs.declared.tasks.Tasks.{Tasks}
 use Rattle.capacity.specs.Capacity.{at_capacity, with_capacity, works, smallest}
 use Rattle.capacity.specs.Search.{fits_at, met_at, meets_at, tried_system, few}
 use Rattle.capacity.specs.Tries.{tests_in, tests_of, most_tests}
@@ -33,8 +30,7 @@ use Rattle.equation.proofs.Halve.{Halving}
 use Rattle.plan.proofs.Charge.{charged_least}
 use Rattle.plan.proofs.Order.{plan_in}
 use Rattle.plan.proofs.Placed.{in_list}
-use Rattle.response.proofs.ColumnsLaws.{interference_grows, columns_take}
-use Rattle.response.proofs.JittersLaws.{JittersOf}
+use Rattle.response.proofs.ColumnsLaws.{interference_grows, servers_take}
 use Rattle.capacity.proofs.SearchLaws.{halving, works_each, works_by}
 use Rattle.capacity.proofs.Capacity.{guest_there, task_there, fitted_there, works_split}
 use Rattle.capacity.proofs.Tries.{tests_small, tests_most, tests_ext}
@@ -104,16 +100,14 @@ module _ (p : Plan) (ok : (plan_refusal p).number ≡ 0) (k : ℕ) (h : k < p.co
       (meets_are run f) own.tasks 0 1 (omega arith)
 
   -- The tests are those of the code's search, which tries capacities off columns, all guests above being fitted.
-  pub tests_off : (c : Columns) → ColumnsOf p.guests most_guests c → {jitters : List ℕ} → JittersOf c jitters
-      → {run : List ℕ} → Filled run (charged own) own.tasks → all_to (fitted p) k ≡ true
+  pub tests_off : {s : Servers} → ServersOf p.guests most_guests s → {t : Tasks} → TasksOf own t
+      → all_to (fitted p) k ≡ true
       → tests_of p k
-      ≡ tests_in (fits_at (guests_take c.capacities c.periods jitters k) own.period)
-      (met_at (guests_take c.capacities c.periods jitters k) own.period own.marks (nth run) (every_of own)
-      (deadline_of own))
-      own.period own.tasks 0 1
-  tests_off c f late {run} r e =
+      ≡ tests_in (fits_at (above_of s k) own.period)
+      (met_at (above_of s k) own.period own.marks (nth t.run) (nth t.every) (nth t.deadline)) own.period t.count 0 1
+  tests_off f {t} o e =
       let few : k ≤ 8 = omega (arith, (plan_in p ok).few) in
-      rw (columns_take p c f late k few) (tests_are (nth run) r.holds e)
+      rw (servers_take p f k few, o.every, o.deadline, o.count) (tests_are (nth t.run) o.runs.holds e)
 
   -- the capacities at which a task is met can be halved
   plan_halving : (i : ℕ) → i < own.tasks
@@ -153,8 +147,3 @@ module _ (p : Plan) (ok : (plan_refusal p).number ≡ 0) (k : ℕ) (h : k < p.co
           own.tasks plan_halving ((plan_in p ok).guests k h).head.short own.tasks 0 1 (omega arith)
           (omega arith) in
           omega (arith, tests_are (charged own) (λ j l. refl) e, t)
-
--- what is said to be the smallest is what was found
-pub said_found : (f : Option ℕ) (a : ℕ) → capacity_says f ≡ Smallest a → f ≡ Some a
-said_found (Some c) a e = cc
-said_found None a e = cc

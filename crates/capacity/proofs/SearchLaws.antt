@@ -17,9 +17,11 @@ use Rattle.plan.specs.Marks.{marked}
 use Rattle.plan.specs.Records.{every_of, deadline_of}
 use Rattle.plan.specs.declared.Guest.{Guest}
 use Rattle.response.specs.Task.{gap, system_of}
-use Rattle.response.specs.Columns.{column_system, met_under, accepted_in, accepted_under}
+use Rattle.response.specs.Columns.{TasksOf, above_of, system_at, column_system, met_under, accepted_in, accepted_under}
+use Rattle.response.specs.declared.tasks.Tasks.{Tasks}
 use Rattle.capacity.specs.Capacity.{at_capacity}
-use Rattle.capacity.specs.Search.{fits_at, tried_system, works_at, met_at, meets_at, smallest_of}
+use Rattle.capacity.specs.Search.{fits_at, tried_system, works_at, met_at, meets_at, fits_in, meets_in, SearchIn}
+use Rattle.capacity.specs.declared.search.Search.{Search}
 use Rattle.lists.proofs.All.{and_left, and_right, and_true, all_at}
 use Rattle.lists.proofs.Search.{at_of, is_at_lem}
 use Rattle.equation.proofs.Solve.{solve_at}
@@ -28,10 +30,11 @@ use Rattle.equation.proofs.Rise.{Grows, rise_to, rise_under}
 use Rattle.equation.proofs.Respond.{Roomier, respond_sooner}
 use Rattle.equation.proofs.Alike.{SameTasks, task_alike}
 use Rattle.equation.proofs.Halve.{Halving}
-use Rattle.response.proofs.GuestLaws.{response_says}
+use Rattle.response.proofs.GuestLaws.{response_says, take_grows}
 use Rattle.response.proofs.TaskLaws.{regular}
 use Rattle.response.proofs.ColumnsLaws.{accepted_alike}
-use Rattle.capacity.proofs.Staged.{Settled, settled_next, settled_nowhere, settled_all, none_fits}
+use Rattle.response.specs.Window.{MetTo}
+use Rattle.capacity.proofs.Staged.{Settled, settled_met, settled_next, settled_nowhere, settled_all, none_fits, smallest_past}
 
 module _ (above : ℕ → ℕ) (grows : Grows above) (period : ℕ) where
   -- a guest that is fitted at a capacity is fitted at each smaller one
@@ -130,24 +133,24 @@ unfolding meets_at
 meets_tried above period marks c run every deadline n i fits f h e =
     rw fits (met_tried above period marks c run every deadline n i f h e)
 
--- the tasks before i are settled at c, and task i is met first at c' from there on
-module _ (above : ℕ → ℕ) (period marks : ℕ) (run every deadline : ℕ → ℕ) (i c c' : ℕ)
-    (s : Settled (fits_at above period) (met_at above period marks run every deadline) period i c)
-    (e : c' ≡ smallest_of (meets_at above period marks run every deadline i) c (period + 1) 0) where
-  -- so task i is settled there with those before it
-  pub task_settled : Grows above → ((j : ℕ) → j < i → 1 ≤ run j) → 1 ≤ c'
+-- the tasks before i are settled at c
+module _ (above : ℕ → ℕ) (period marks : ℕ) (run every deadline : ℕ → ℕ) (i c : ℕ)
+    (s : Settled (fits_at above period) (met_at above period marks run every deadline) period i c) where
+  -- task i is met first at c' from there on: so it is settled there with those before it
+  pub task_settled : {c' : ℕ} → Some c' ≡ least (meets_at above period marks run every deadline i) (period + 1 - c) c
+      → Grows above → ((j : ℕ) → j < i → 1 ≤ run j)
       → Settled (fits_at above period) (met_at above period marks run every deadline) period (i + 1) c'
   unfolding meets_at
-  task_settled grows runs h =
-      settled_next (fits_at above period) (met_at above period marks run every deadline) period i c c' s e
-      (λ j l. halving above grows period marks run every deadline j (runs j l)) h
+  task_settled {c'} e grows runs =
+      settled_next (fits_at above period) (met_at above period marks run every deadline) period i c s c' e
+      (λ j l. halving above grows period marks run every deadline j (runs j l))
 
   -- or nowhere: then no capacity works
-  pub task_nowhere : (n : ℕ) → i < n → c' < 1
-      → None ≡ least (works_at above period marks run every deadline n) period 1
+  pub task_nowhere : None ≡ least (meets_at above period marks run every deadline i) (period + 1 - c) c
+      → (n : ℕ) → i < n → None ≡ least (works_at above period marks run every deadline n) period 1
   unfolding meets_at works_at accepted_in met_under fits_at
-  task_nowhere n h k =
-      settled_nowhere (fits_at above period) (met_at above period marks run every deadline) period i c c' s e n h k
+  task_nowhere e n h =
+      settled_nowhere (fits_at above period) (met_at above period marks run every deadline) period i c s e n h
 
 -- where the guest is unfit at 1, no capacity works
 pub none_works : (above : ℕ → ℕ) → Grows above → (period marks : ℕ) (run every deadline : ℕ → ℕ) (n : ℕ)
@@ -193,3 +196,46 @@ works_by above g run f =
       every = λ j h. refl;
       gap = λ j h. refl;
     })
+
+-- and so is what works off the columns of the guest's tasks
+pub works_off : (above : ℕ → ℕ) (g : Guest) {t : Tasks} → TasksOf g t
+    → works_at above g.period g.marks (nth t.run) (nth t.every) (nth t.deadline) t.count
+    ≡ (λ c. accepted_under above (at_capacity g c))
+works_off above g {t} o = rw (o.every, o.deadline, o.count) (works_by above g (nth t.run) o.runs.holds)
+
+-- the first i tasks of the guest that is searched for are settled at c
+abbrev pub SettledIn : (s : Search) (i c : ℕ) → Type 0
+SettledIn s i c =
+    let t = s.tasks.now in
+    Settled (fits_in s) (met_at (above_of s.servers.now s.place) s.period s.marks (nth t.run) (nth t.every) (nth t.deadline))
+    s.period i c
+
+-- the capacities at which a task of the guest that is searched for is met can be halved
+pub search_halving : (s : Search) (i : ℕ) → SearchIn s × (i < s.tasks.now.count)
+    → Halving (fits_in s) (meets_in s i)
+search_halving s i o =
+    let t = s.tasks.now in
+    halving (above_of s.servers.now s.place) (take_grows s.servers.now s.place) s.period s.marks (nth t.run)
+    (nth t.every) (nth t.deadline) i (o.0.tasks.runs i o.1)
+
+-- a turn of the search task by task: the tasks before i are settled at c, and those from i up to r are met there
+module _ (s : Search) {i c r : ℕ} {late : List ℕ} (so_far : SettledIn s i c)
+    (f : Filled late (λ j. gap_for (marked s.marks j) (s.period - c)) s.tasks.now.count)
+    (u : MetTo (system_at s.servers.now s.place c s.period s.tasks.now late) (nth s.tasks.now.deadline) i s.tasks.now.count r) where
+  -- those before r are settled there
+  pub search_passed : SettledIn s r c
+  search_passed =
+      let t = s.tasks.now in
+      settled_met _ _ s.period i r c so_far u.low
+      (λ j low h.
+      met_tried (above_of s.servers.now s.place) s.period s.marks c t.run t.every (nth t.deadline) t.count j f
+      (omega (arith, u.high)) (u.met j low h))
+
+  -- task r, where there is one, is looked for past c
+  pub search_past : r < s.tasks.now.count
+      → least (meets_in s r) (s.period + 1 - c) c ≡ least (meets_in s r) (s.period + 1 - (c + 1)) (c + 1)
+  search_past h =
+      let t = s.tasks.now in
+      smallest_past _ c (s.period + 1) (omega (arith, so_far.high))
+      (meets_tried (above_of s.servers.now s.place) s.period s.marks c t.run t.every (nth t.deadline) t.count r
+      so_far.fits f h (u.unmet h))

@@ -1,6 +1,6 @@
 -- Task by task: what is the smallest for each task, from where the one before it ended, is at the end the smallest for
 -- all. Over any numbers that can be halved for each task. Assumes nothing.
-use Rattle.std.specs.Prelude.{Option, Some, None}
+use Rattle.std.specs.Prelude.{Some, None}
 use mathlib.Core.Path.{◌≡◌, refl, sym, ◌∙◌}
 use mathlib.Core.Bool.{Bool, true, false, false≢true, ◌&&◌}
 use Prim.Native.Nat.{ℕ, suc, ◌+◌, ◌-◌, ◌≤◌, ◌<◌}
@@ -9,32 +9,13 @@ use native.Mathlib.Numerals.{add-one}
 use native.Mathlib.Omega.{arith}
 use Rattle.lists.specs.All.{all_to}
 use Rattle.lists.specs.Search.{least}
-use Rattle.capacity.specs.Search.{or_best, smallest_of}
 use Rattle.lists.proofs.All.{and_left, and_right, and_true, and_false_left, and_false_right, all_at, all_by, all_fails}
-use Rattle.lists.proofs.Search.{First, Nowhere, Says, least_says, least_is}
+use Rattle.lists.proofs.Search.{First, Nowhere, least_says, least_is}
 use Rattle.equation.proofs.Halve.{Halving}
 
--- what a number that was looked for from lo on and below hi says: 0 is none
-pub smallest_first : (f : ℕ → Bool) (lo hi c : ℕ) → 1 ≤ lo → c ≡ smallest_of f lo hi 0 → 1 ≤ c → First f (hi - lo) lo c
-unfolding smallest_of
-smallest_first f lo hi c pos e h = go (least f (hi - lo) lo) (least_says f (hi - lo) lo) e
-  where
-    go : (r : Option ℕ) → Says f (hi - lo) lo r → c ≡ or_best r 0 → First f (hi - lo) lo c
-    go None s q = absurd (omega arith)
-    go (Some y) s q = rw q s
-
--- and where it is 0 there is none
-pub smallest_none : (f : ℕ → Bool) (lo hi c : ℕ) → 1 ≤ lo → c ≡ smallest_of f lo hi 0 → c < 1 → Nowhere f (hi - lo) lo
-unfolding smallest_of
-smallest_none f lo hi c pos e h = go (least f (hi - lo) lo) (least_says f (hi - lo) lo) e
-  where
-    go : (r : Option ℕ) → Says f (hi - lo) lo r → c ≡ or_best r 0 → Nowhere f (hi - lo) lo
-    go None s q = s
-    go (Some y) s q = absurd (omega (arith, s.low))
-
 -- where c does not pass, the smallest from c on is past it
-pub smallest_past : (f : ℕ → Bool) (c hi : ℕ) → c < hi → f c ≡ false → smallest_of f c hi 0 ≡ smallest_of f (c + 1) hi 0
-unfolding smallest_of least
+pub smallest_past : (f : ℕ → Bool) (c hi : ℕ) → c < hi → f c ≡ false → least f (hi - c) c ≡ least f (hi - (c + 1)) (c + 1)
+unfolding least
 smallest_past f c hi l e = let n : hi - c ≡ suc (hi - (c + 1)) = omega arith in rw (n, least, e, add-one) refl
 
 module _ (fit : ℕ → Bool) (m : ℕ → ℕ → Bool) where
@@ -97,15 +78,16 @@ module _ (fit : ℕ → Bool) (m : ℕ → ℕ → Bool) where
     ];
   }
 
-  module _ (period i c c' : ℕ) (s : Settled period i c) (e : c' ≡ smallest_of (one i) c (period + 1) 0) where
+  module _ (period i c : ℕ) (s : Settled period i c) where
     -- the next task is met from c on at c' first: it is settled there with those before it
-    pub settled_next : ((j : ℕ) → j < i → Halving fit (one j)) → 1 ≤ c' → Settled period (i + 1) c'
-    settled_next good h =
-        let f = smallest_first (one i) c (period + 1) c' s.low e h in
+    pub settled_next : (c' : ℕ) → Some c' ≡ least (one i) (period + 1 - c) c → ((j : ℕ) → j < i → Halving fit (one j))
+        → Settled period (i + 1) c'
+    settled_next c' e good =
+        let f : First (one i) (period + 1 - c) c c' = rw (← e) at (least_says (one i) (period + 1 - c) c) in
         let fits = and_left (fit c') _ f.holds in
         record {
-          low = h;
-          high = omega (arith, f.low, f.high);
+          low = omega (arith, s.low, f.low);
+          high = omega (arith, s.high, f.low, f.high);
           below = λ z p k. elim (dec_le c z) [
             | yes q ↦ one_fails (i + 1) i z (omega arith) (f.first z q k)
             | no q ↦ fewer_fail i (i + 1) z (omega arith) (s.below z p (omega arith))
@@ -119,9 +101,9 @@ module _ (fit : ℕ → Bool) (m : ℕ → ℕ → Bool) where
         }
 
     -- it is met nowhere from c on: so all n tasks are met nowhere
-    pub settled_nowhere : (n : ℕ) → i < n → c' < 1 → None ≡ least (up_to n) period 1
-    settled_nowhere n h k =
-        let f = smallest_none (one i) c (period + 1) c' s.low e k in
+    pub settled_nowhere : None ≡ least (one i) (period + 1 - c) c → (n : ℕ) → i < n → None ≡ least (up_to n) period 1
+    settled_nowhere e n h =
+        let f : Nowhere (one i) (period + 1 - c) c = rw (← e) at (least_says (one i) (period + 1 - c) c) in
         least_is (up_to n) period 1 None record {
           never = λ z p q. elim (dec_le c z) [
             | yes l ↦ one_fails n i z h (f.never z l (omega arith))

@@ -1,5 +1,6 @@
 -- The search tries few capacities: it climbs to 32 one by one, doubles until it is bounded, then halves. Assumes
 -- nothing.
+use Rattle.std.specs.Prelude.{Option, Some, None}
 use mathlib.Core.Path.{◌≡◌, refl, sym, ◌∙◌, ap}
 use mathlib.Core.Bool.{Bool, true, false, false≢true, ◌&&◌}
 use Prim.Native.Nat.{ℕ, zero, suc, min, ◌+◌, ◌-◌, ◌*◌, ◌/◌, ◌^◌, ◌≤◌, ◌<◌}
@@ -9,13 +10,13 @@ use native.Mathlib.Omega.{arith}
 use lib.Dec.{leb}
 use borrow.Author.Tests.{le-leb, lt-leb}
 use Rattle.lists.specs.Choice.{pick}
+use Rattle.lists.specs.Search.{least}
 use Rattle.plan.specs.Ranges.{longest}
-use Rattle.capacity.specs.Search.{few, next_try, too_small, lo_after, hi_after, smallest_of}
+use Rattle.capacity.specs.Search.{few, next_try, too_small, lo_after, hi_after}
 use Rattle.capacity.specs.Tries.{tries_in, tries_from, end_of, tests_in, most_tries}
 use Rattle.equation.proofs.Halve.{Halving}
 use Rattle.lists.proofs.All.{and_true}
-use Rattle.lists.proofs.Search.{First}
-use Rattle.capacity.proofs.Staged.{smallest_first, smallest_none}
+use Rattle.lists.proofs.Search.{First, Says, least_says}
 use Rattle.capacity.proofs.NextTry.{unfit_ends, working_ends, try_lowest, try_middle, try_twice, after_small, after_ends, after_fewer}
 
 module _ (fit works : ℕ → Bool) (period : ℕ) where
@@ -195,15 +196,19 @@ module _ (fit : ℕ → Bool) (m : ℕ → ℕ → Bool) (period : ℕ) where
   first i c = tries_from fit (λ z. fit z && m i z) period c
 
   -- a task that is met somewhere: those after it are searched from there
-  task_goes_on : (left i c : ℕ) → 1 ≤ end_of fit m period i c
-      → tests_in fit m period (suc left) i c ≡ first i c + tests_in fit m period left (suc i) (end_of fit m period i c)
+  task_goes_on : (left i c d : ℕ) → end_of fit m period i c ≡ Some d
+      → tests_in fit m period (suc left) i c ≡ first i c + tests_in fit m period left (suc i) d
   unfolding tests_in
-  task_goes_on left i c h = rw (le-leb 1 (end_of fit m period i c) h, tests_in) refl
+  task_goes_on left i c d e = rw (e, tests_in) refl
 
   -- a task that is met nowhere is the last that is searched
-  task_ends : (left i c : ℕ) → end_of fit m period i c < 1 → tests_in fit m period (suc left) i c ≡ first i c
+  task_ends : (left i c : ℕ) → end_of fit m period i c ≡ None → tests_in fit m period (suc left) i c ≡ first i c
   unfolding tests_in
-  task_ends left i c h = rw (lt-leb 1 (end_of fit m period i c) h, tests_in) (omega arith)
+  task_ends left i c e = rw (e, tests_in) (omega arith)
+
+  -- where the search of a task ends says whether one was found
+  ended : (i c : ℕ) → Says (λ z. fit z && m i z) (period + 1 - c) c (end_of fit m period i c)
+  ended i c = least_says (λ z. fit z && m i z) (period + 1 - c) c
 
   -- the tests for one task, from past 32 and from before
   one_most : period ≤ longest → (i c : ℕ) → min c (few + 1) + first i c ≤ few + 1 + 35
@@ -230,63 +235,67 @@ module _ (fit : ℕ → Bool) (m : ℕ → ℕ → Bool) (period : ℕ) where
         → ((j : ℕ) → j < n → m j a ≡ true) → 1 ≤ c → c ≤ a → c + tests_in fit m period left i c ≤ a + left
     tests_small a low high l f zero i c h w pos k = omega (arith, no_task_lem i c)
     tests_small a low high l f (suc left) i c h w pos k =
-        elim (dec_le 1 (end_of fit m period i c)) [
-          | yes q ↦ let s = smallest_first (λ z. fit z && m i z) c (period + 1) (end_of fit m period i c) pos refl q in
-              let under = first_under s (and_true f (w i (omega arith))) k in
-              let t = from_small fit (λ z. fit z && m i z) (good i (omega arith)) period (end_of fit m period i c)
-              (omega (arith, s.low)) (omega (arith, under)) s.holds (omega (arith, under)) c s.low in
-              let more = tests_small a low high l f left (suc i) (end_of fit m period i c) (omega arith) w q under in
-              omega (arith, task_goes_on left i c q, t, more)
-          | no q ↦ let s = smallest_none (λ z. fit z && m i z) c (period + 1) (end_of fit m period i c) pos refl
-              (omega arith) in
-              absurd (false≢true (sym (s.never a k (omega arith)) ∙ and_true f (w i (omega arith))))
-        ]
+        go (end_of fit m period i c) refl (ended i c) (λ d. tests_small a low high l f left (suc i) d (omega arith) w)
+      where
+        go : (e : Option ℕ) → end_of fit m period i c ≡ e → Says (λ z. fit z && m i z) (period + 1 - c) c e
+            → ((d : ℕ) → 1 ≤ d → d ≤ a → d + tests_in fit m period left (suc i) d ≤ a + left)
+            → c + tests_in fit m period (suc left) i c ≤ a + suc left
+        go None q s more = absurd (false≢true (sym (s.never a k (omega arith)) ∙ and_true f (w i (omega arith))))
+        go (Some d) q s more =
+            let under = first_under s (and_true f (w i (omega arith))) k in
+            let t = from_small fit (λ z. fit z && m i z) (good i (omega arith)) period d (omega (arith, s.low))
+            (omega (arith, under)) s.holds (omega (arith, under)) c s.low in
+            omega (arith, task_goes_on left i c d q, t, more d (omega (arith, s.low)) under)
 
     -- At most 32 + 35 * n tests are made for n tasks: the climb to 32 is shared by them.
     pub tests_most : period ≤ longest → (left i c : ℕ) → i + left ≤ n → 1 ≤ c
         → min c (few + 1) + tests_in fit m period left i c ≤ few + 1 + 35 * left
     tests_most short zero i c h pos = omega (arith, no_task_lem i c)
     tests_most short (suc left) i c h pos =
-        let f : ℕ → Bool = λ z. fit z && m i z in
-        let e : ℕ = end_of fit m period i c in
-        elim (dec_le 1 e) [
-          | no q ↦ omega (arith, task_ends left i c (omega arith), one_most short i c)
-          | yes q ↦ let more = tests_most short left (suc i) e (omega arith) q in
-              let s = smallest_first f c (period + 1) e pos refl q in
-              elim (dec_le e few) [
-                | no o ↦ omega (arith, task_goes_on left i c q, one_most short i c, more)
-                | yes o ↦ let t = from_small fit f (good i (omega arith)) period e (omega (arith, s.low))
-                    (omega (arith, s.low, s.high)) s.holds o c s.low in
-                    omega (arith, task_goes_on left i c q, s.low, t, more)
-              ]
-        ]
+        go (end_of fit m period i c) refl (ended i c) (λ d. tests_most short left (suc i) d (omega arith))
+      where
+        go : (e : Option ℕ) → end_of fit m period i c ≡ e → Says (λ z. fit z && m i z) (period + 1 - c) c e
+            → ((d : ℕ) → 1 ≤ d → min d (few + 1) + tests_in fit m period left (suc i) d ≤ few + 1 + 35 * left)
+            → min c (few + 1) + tests_in fit m period (suc left) i c ≤ few + 1 + 35 * suc left
+        go None q s more = omega (arith, task_ends left i c q, one_most short i c)
+        go (Some d) q s more =
+            let rest = more d (omega (arith, s.low)) in
+            elim (dec_le d few) [
+              | no o ↦ omega (arith, task_goes_on left i c d q, one_most short i c, rest)
+              | yes o ↦ let t = from_small fit (λ z. fit z && m i z) (good i (omega arith)) period d
+                  (omega (arith, s.low)) (omega (arith, s.low, s.high)) s.holds o c s.low in
+                  omega (arith, task_goes_on left i c d q, s.low, t, rest)
+            ]
 
 -- the tests depend on no other tasks than those that are searched
 pub tests_ext : (fit : ℕ → Bool) (m m' : ℕ → ℕ → Bool) (period n : ℕ) → ((i : ℕ) → i < n → m i ≡ m' i)
     → (left i c : ℕ) → i + left ≤ n → tests_in fit m period left i c ≡ tests_in fit m' period left i c
 tests_ext fit m m' period n e zero i c h = no_task_lem fit m period i c ∙ sym (no_task_lem fit m' period i c)
 tests_ext fit m m' period n e (suc left) i c h =
-    let q = e i (omega arith) in
-    let same = ap (λ (f : ℕ → Bool). tries_from fit (λ z. fit z && f z) period c) q in
-    let ends = ap (λ (f : ℕ → Bool). smallest_of (λ z. fit z && f z) c (period + 1) 0) q in
-    elim (dec_le 1 (end_of fit m period i c)) [
-      | yes o ↦ let t = tests_ext fit m m' period n e left (suc i) (end_of fit m period i c) (omega arith) in
-          let t' = ap (λ (x : ℕ). tests_in fit m' period left (suc i) x) ends in
-          omega (
-            arith,
-            task_goes_on fit m period left i c o,
-            task_goes_on fit m' period left i c (omega (arith, ends)),
-            same,
-            t,
-            t',
-          )
-      | no o ↦ omega (
-        arith,
-        task_ends fit m period left i c (omega arith),
-        task_ends fit m' period left i c (omega (arith, ends)),
-        same,
-      )
-    ]
+    go (end_of fit m period i c) refl (λ d. tests_ext fit m m' period n e left (suc i) d (omega arith))
+  where
+    q : m i ≡ m' i
+    q = e i (omega arith)
+
+    same : tries_from fit (λ z. fit z && m i z) period c ≡ tries_from fit (λ z. fit z && m' i z) period c
+    same = ap (λ (f : ℕ → Bool). tries_from fit (λ z. fit z && f z) period c) q
+
+    ends : end_of fit m period i c ≡ end_of fit m' period i c
+    ends = ap (λ (f : ℕ → Bool). least (λ z. fit z && f z) (period + 1 - c) c) q
+
+    go : (o : Option ℕ) → end_of fit m period i c ≡ o
+        → ((d : ℕ) → tests_in fit m period left (suc i) d ≡ tests_in fit m' period left (suc i) d)
+        → tests_in fit m period (suc left) i c ≡ tests_in fit m' period (suc left) i c
+    go None o more =
+        omega (arith, task_ends fit m period left i c o, task_ends fit m' period left i c (sym ends ∙ o), same)
+    go (Some d) o more =
+        omega (
+          arith,
+          task_goes_on fit m period left i c d o,
+          task_goes_on fit m' period left i c d (sym ends ∙ o),
+          same,
+          more d,
+        )
 
 -- No number below 66 would do: under the longest period the answer 557,056 takes that many.
 pub most_reached : tries_from (λ c. true) (λ c. leb 557056 c) longest 1 ≡ most_tries

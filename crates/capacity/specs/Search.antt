@@ -1,12 +1,17 @@
 -- What the capacities of a guest come to, under guests that take `above v` from v ticks, and what a turn of the search
 -- leaves. Inner: no promise of an entry names this.
-use Rattle.std.specs.Prelude.{◌≡◌, Bool, true, not, ◌&&◌, ℕ, min, ◌+◌, ◌-◌, ◌*◌, ◌/◌, ◌≤◌, leb, Option, Some, None, is_some}
+use Rattle.std.specs.Prelude.{◌≡◌, Bool, true, not, ◌&&◌, ℕ, min, ◌+◌, ◌-◌, ◌*◌, ◌/◌, ◌≤◌, leb, Option, Some, is_some}
+use Rattle.std.specs.Option.{option_or}
 use Rattle.lists.specs.Choice.{pick}
+use Rattle.lists.specs.Places.{nth}
 use Rattle.lists.specs.Search.{least}
 use Rattle.equation.specs.Guest.{guest_under}
 use Rattle.equation.specs.System.{System, gap_for, task_under}
 use Rattle.plan.specs.Marks.{marked}
-use Rattle.response.specs.Columns.{accepted_in}
+use Rattle.plan.specs.Ranges.{longest}
+use Rattle.response.specs.Columns.{above_of, accepted_in}
+use Rattle.response.specs.Ready.{AboveIn, ColumnsIn}
+use Rattle.capacity.specs.declared.search.Search.{Search}
 use Rattle.capacity.specs.declared.search.Span.{Span}
 
 -- whether a guest with such a period is fitted at capacity c
@@ -38,14 +43,9 @@ unfoldable pub meets_at : (above : ℕ → ℕ) → (period marks : ℕ) → (ru
 meets_at above period marks run every deadline i c =
     fits_at above period c && met_at above period marks run every deadline i c
 
--- the capacity that was found, or else the best before it
-abbrev pub or_best : Option ℕ → (best : ℕ) → ℕ
-or_best None best = best
-or_best (Some c) best = c
-
 -- the smallest capacity from lo on and below hi that works, or else the best before it
-unfoldable pub smallest_of : (works : ℕ → Bool) → (lo hi best : ℕ) → ℕ
-smallest_of works lo hi best = or_best (least works (hi - lo) lo) best
+unfoldable pub smallest_of : (works : ℕ → Bool) → (lo hi : ℕ) → (best : Option ℕ) → Option ℕ
+smallest_of works lo hi best = option_or (least works (hi - lo) lo) best
 
 -- the capacities up to this one are tried one by one
 abbrev pub few : ℕ
@@ -70,11 +70,36 @@ unfoldable pub hi_after : (fit works : ℕ → Bool) → (period lo hi : ℕ) �
 hi_after fit works period lo hi = let c = next_try period lo hi in pick (too_small fit works c) hi c
 
 -- a capacity that was found to work is fitted, and none past it is left to try
-abbrev pub Known : (fit : ℕ → Bool) → (hi best : ℕ) → Type 0
-Known fit hi best = 1 ≤ best → (hi ≤ best) × (fit best ≡ true)
+abbrev pub Known : (fit : ℕ → Bool) → (hi : ℕ) → (best : Option ℕ) → Type 0
+Known fit hi best = (b : ℕ) → best ≡ Some b → (hi ≤ b) × (fit b ≡ true)
 
 -- A turn leaves the capacities on the one side of the one that it tried, and the same answer.
-pub record Narrows (fit works : ℕ → Bool) (period lo hi best : ℕ) (r : Span) : Type 0 where
-  pub low : r.lo ≡ lo_after fit works period lo hi
-  pub high : r.hi ≡ hi_after fit works period lo hi
-  pub same : smallest_of works r.lo r.hi r.best ≡ smallest_of works lo hi best
+pub record Narrows (fit works : ℕ → Bool) (period : ℕ) (s r : Span) : Type 0 where
+  pub low : r.lo ≡ lo_after fit works period s.lo s.hi
+  pub high : r.hi ≡ hi_after fit works period s.lo s.hi
+  pub same : smallest_of works r.lo r.hi r.best ≡ smallest_of works s.lo s.hi s.best
+
+-- What a search reads is in its ranges: the servers above the place, the period, and the columns of the tasks, of which
+-- there is one.
+pub record SearchIn (s : Search) : Type 0 where
+  pub above : AboveIn s.servers.now s.place
+  pub some : 1 ≤ s.period
+  pub short : s.period ≤ longest
+  pub many : 1 ≤ s.tasks.now.count
+  pub tasks : ColumnsIn s.tasks.now s.tasks.now.count
+
+-- whether the guest that is searched for is fitted at capacity c
+abbrev pub fits_in : Search → (c : ℕ) → Bool
+fits_in s = fits_at (above_of s.servers.now s.place) s.period
+
+-- whether it is fitted there and its task i is met
+abbrev pub meets_in : Search → (i c : ℕ) → Bool
+meets_in s =
+    let t = s.tasks.now in
+    meets_at (above_of s.servers.now s.place) s.period s.marks (nth t.run) (nth t.every) (nth t.deadline)
+
+-- whether it is fitted there and all its tasks are met
+abbrev pub works_in : Search → (c : ℕ) → Bool
+works_in s =
+    let t = s.tasks.now in
+    works_at (above_of s.servers.now s.place) s.period s.marks (nth t.run) (nth t.every) (nth t.deadline) t.count

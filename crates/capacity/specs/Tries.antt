@@ -1,13 +1,14 @@
 -- How many tests the search makes: for each task, one at each capacity that it tries.
-use Rattle.std.specs.Prelude.{Bool, true, false, ◌&&◌, ℕ, zero, suc, ◌+◌, ◌*◌, leb}
+use Rattle.std.specs.Prelude.{Bool, true, false, ◌&&◌, ℕ, zero, suc, ◌+◌, ◌-◌, ◌*◌, leb, Option, Some, None}
 use Rattle.lists.specs.All.{all_to}
 use Rattle.lists.specs.Choice.{pick}
+use Rattle.lists.specs.Search.{least}
 use Rattle.plan.specs.Records.{guest_at}
 use Rattle.plan.specs.declared.Plan.{Plan}
 use Rattle.response.specs.Guest.{fitted}
 use Rattle.response.specs.Met.{met}
 use Rattle.capacity.specs.Capacity.{with_capacity}
-use Rattle.capacity.specs.Search.{smallest_of, lo_after, hi_after}
+use Rattle.capacity.specs.Search.{lo_after, hi_after}
 
 -- the capacities tried of those from lo on and below hi, in at most so many turns as there is fuel: one in each turn
 unfoldable pub tries_in : (fit works : ℕ → Bool) → (period fuel lo hi : ℕ) → ℕ
@@ -22,10 +23,9 @@ tries_in fit works period (suc fuel) lo hi =
 abbrev pub tries_from : (fit works : ℕ → Bool) → (period c : ℕ) → ℕ
 tries_from fit works period c = suc (pick (works c) 0 (tries_in fit works period (period + 1) (c + 1) (period + 1)))
 
--- where the search of task i ends, that begins at c: at the smallest capacity from c on that is fitted and meets it, or
--- at 0
-abbrev pub end_of : (fit : ℕ → Bool) → (m : ℕ → ℕ → Bool) → (period i c : ℕ) → ℕ
-end_of fit m period i c = smallest_of (λ z. fit z && m i z) c (period + 1) 0
+-- where the search of task i ends, that begins at c: at the smallest capacity from c on that is fitted and meets it
+abbrev pub end_of : (fit : ℕ → Bool) → (m : ℕ → ℕ → Bool) → (period i c : ℕ) → Option ℕ
+end_of fit m period i c = least (λ z. fit z && m i z) (period + 1 - c) c
 
 -- the tests for so many tasks as are left, from task i on, the first search beginning at c: each task is searched from
 -- where the one before it ended, and none after one that is met nowhere
@@ -33,9 +33,9 @@ unfoldable pub tests_in : (fit : ℕ → Bool) → (m : ℕ → ℕ → Bool) �
 tests_in fit m period zero i c = 0
 tests_in fit m period (suc left) i c =
     tries_from fit (λ z. fit z && m i z) period c
-    + elim (leb 1 (end_of fit m period i c)) [
-      | true ↦ tests_in fit m period left (suc i) (end_of fit m period i c)
-      | false ↦ 0
+    + elim (end_of fit m period i c) [
+      | Some d ↦ tests_in fit m period left (suc i) d
+      | None ↦ 0
     ]
 
 -- the tests for the guest at place k: none where a guest above is unfit

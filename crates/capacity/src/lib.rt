@@ -3,28 +3,22 @@
 
 ghost use Rattle.capacity.specs.Promises.{Sized};
 
-use plan::{Plan, check, columns_of};
+use plan::{AsPlan, Refusal};
 use response::seat_of;
 
-mod placing;
 mod search;
 mod settling;
 
-pub use placing::smallest_capacity_in; // Inner: for the calls in place.
 pub use settling::smallest_at; // Inner: for choices, which search guest by guest.
 
-// The answer: a refusal's number and place; the smallest capacity.
-#[derive(Clone, Copy)]
-pub enum CapacityAnswer {
-    Refused(u32, u32),
-    Smallest(u32),
-}
-
-// The smallest capacity of the guest with an id.
-pub fn smallest_capacity(plan: Plan, id: u32) -> CapacityAnswer
-    ensures { Sized plan id result }
+// The smallest capacity of the guest with an id, or the refusal, which is 11 where none works.
+pub fn smallest_capacity<P: AsPlan>(plan: &P, id: u32) -> Result<u32, Refusal>
+    ensures { Sized (P.plan plan.now) id result }
 {
-    let seat = seat_of(check(plan), columns_of(plan), plan.count, id);
-    let k = seat.place;
-    settling::capacity_at(seat, plan.guests[k])
+    let seat = seat_of(plan, id)?;
+    let g = plan.guest(seat.place);
+    smallest_at(&g, &seat.servers, seat.place).ok_or(Refusal {
+        number: 11,
+        place: 0,
+    })
 }

@@ -9,12 +9,5 @@ returns-then-lo-le-FEW c = (try_lowest _ _ _ (omega arith), omega arith)
 pub returns-then-hi-period : goal.returns-then-hi-period
 returns-then-hi-period c = (try_middle _ _ _ (omega arith) (omega arith), omega arith)
 
-pub returns-then-twice-last : goal.returns-then-twice-last
-returns-then-twice-last c =
-    let a = c.args in
-    omega (arith, try_twice a.period a.lo a.hi (omega arith) (omega arith))
-
-pub returns-else-twice-last : goal.returns-else-twice-last
-returns-else-twice-last c =
-    let a = c.args in
-    omega (arith, try_twice a.period a.lo a.hi (omega arith) (omega arith))
+pub returns : goal.returns
+returns c = let a = c.args in omega (arith, try_twice a.period a.lo a.hi (omega arith) (omega arith))
