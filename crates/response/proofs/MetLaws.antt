@@ -2,19 +2,18 @@
 use Rattle.std.specs.Prelude.{Some, None, is_some}
 use mathlib.Core.Path.{◌≡◌, refl, sym, ap}
 use mathlib.Core.Bool.{true, false}
-use mathlib.Core.List.{List}
 use Prim.Native.Nat.{ℕ, suc, ◌+◌, ◌-◌, ◌≤◌, ◌<◌}
 use native.Mathlib.Decide.{dec_lt}
 use native.Mathlib.Numerals.{add-one}
 use native.Mathlib.Omega.{arith}
-use lib.ListN.{replicate, length-replicate}
-use Rattle.lists.specs.Places.{nth}
 use Rattle.equation.specs.System.{System, right, response_of, later, task_under}
+use Rattle.rounding.specs.declared.Edges.{Edges}
+use Rattle.rounding.specs.Edges.{Behind}
 use Rattle.response.specs.Ready.{Ready}
 use Rattle.response.specs.Columns.{met_under}
 use Rattle.response.specs.Window.{Begins, FindsWindow, MetTo}
 use Rattle.lists.proofs.All.{all_by, all_fails}
-use Rattle.rounding.proofs.Edges.{none_behind, zeros, kept_more}
+use Rattle.rounding.proofs.EdgesLaws.{kept_more}
 use Rattle.equation.proofs.Rise.{Grows}
 use Rattle.equation.proofs.Solve.{Solved, solve_answers}
 use Rattle.equation.proofs.Standing.{stands_fresh}
@@ -22,23 +21,20 @@ use Rattle.equation.proofs.System.{Regular}
 use Rattle.equation.proofs.Warm.{stands_below}
 use Rattle.response.proofs.TaskLaws.{regular}
 
--- a search may begin at 1 with no edges
-pub begins_fresh : (S : System) → Grows S.above → (i : ℕ) → Ready S i → Begins S i 1 (replicate 16 0) 0
-begins_fresh S g i ready =
+-- a search may begin at 1 with edges that stand behind every window
+pub begins_fresh : (S : System) → Grows S.above → (i : ℕ) → Ready S i → {e : Edges} → Behind S.run S.every S.gap e i 1
+    → Begins S i 1 e
+begins_fresh S g i ready b =
     let x = regular S g i ready in
-    record {
-      long = length-replicate {A = ℕ} 16 0;
-      stands = stands_fresh S i x.0 x.1;
-      behind = none_behind S.run S.every S.gap (nth (replicate 16 0)) i 1 zeros;
-    }
+    record { stands = stands_fresh S i x.0 x.1; behind = b }
 
-module _ (S : System) (i most : ℕ) {edge : List ℕ} {sum : ℕ} where
+module _ (S : System) (i most : ℕ) {e : Edges} where
   -- no window: no response
-  pub finds_none : FindsWindow S i (most - S.gap i) edge sum None → None ≡ task_under S i most
+  pub finds_none : FindsWindow S i (most - S.gap i) e None → None ≡ task_under S i most
   unfolding task_under
   finds_none f = ap (later (S.gap i)) f.is
 
-  module _ {w : ℕ} (f : FindsWindow S i (most - S.gap i) edge sum (Some w)) where
+  module _ {w : ℕ} (f : FindsWindow S i (most - S.gap i) e (Some w)) where
     -- a window: its response
     pub finds_at : Some (w + S.gap i) ≡ task_under S i most
     unfolding task_under response_of
@@ -51,7 +47,7 @@ module _ (S : System) (i most : ℕ) {edge : List ℕ} {sum : ℕ} where
         omega (arith, o.low, o.high)
 
     -- the search for the task below may begin where this one ended
-    pub begins_below : Grows S.above → 1 ≤ S.every i → Ready S i → Ready S (i + 1) → Begins S (i + 1) w edge sum
+    pub begins_below : Grows S.above → 1 ≤ S.every i → Ready S i → Ready S (i + 1) → Begins S (i + 1) w e
     begins_below g some upper lower =
         let x = regular S g i upper in
         let s = x.1 in
@@ -65,7 +61,6 @@ module _ (S : System) (i most : ℕ) {edge : List ℕ} {sum : ℕ} where
           ends = s.ends;
         } in
         record {
-          long = f.long;
           stands = rw add-one (stands_below S i x.0 s below some w o.low (f.stands w refl));
           behind = kept_more (f.kept w refl) w (omega arith);
         }

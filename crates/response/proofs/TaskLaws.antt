@@ -2,13 +2,11 @@
 use Rattle.std.specs.Prelude.{Option, Some, None}
 use mathlib.Core.Path.{◌≡◌, refl, sym, ◌∙◌, ap}
 use mathlib.Core.Logic.{◌⊎◌, inl, inr}
-use mathlib.Core.List.{List}
 use Prim.Native.Nat.{ℕ, ◌+◌, ◌-◌, ◌*◌, ◌≤◌, ◌<◌}
 use native.Mathlib.Decide.{dec_lt}
 use native.Mathlib.Nat.{mul-le-mul_left}
 use native.Mathlib.Omega.{arith}
-use lib.ListN.{length}
-use Rattle.lists.specs.Places.{nth}
+use Rattle.rounding.specs.declared.Edges.{Edges}
 use Rattle.rounding.specs.Edges.{Kept}
 use Rattle.rounding.specs.Asked.{asked}
 use Rattle.rounding.specs.Up.{up}
@@ -145,14 +143,13 @@ module _ (above : ℕ → ℕ) (capacity period l room : ℕ) (some : 1 ≤ capa
 
 -- The search for the window of task i stands at w, within the room, where the task's load is l; the edges of the tasks
 -- above are those of w.
-pub record Searching (S : System) (i room : ℕ) (edge : List ℕ) (w asks l : ℕ) : Type 0 where
+pub record Searching (S : System) (i room : ℕ) (e : Edges) (w l : ℕ) : Type 0 where
   pub x : ℕ
   pub sure : Regular S i x
   pub short : room ≤ longest
-  pub long : length edge ≡ 16
   pub high : w ≤ room
   pub stands : Stands S i w
-  pub kept : Kept S.run S.every S.gap (nth edge) i w asks
+  pub kept : Kept S.run S.every S.gap e i w
   pub is : l ≡ load S i w
 
 -- a task's run and what those above it ask are its load
@@ -162,12 +159,12 @@ unfolding load
 load_is S i w own asks e q = omega arith
 
 -- no window at all: a first gap past `most`, or a search that stands past the room
-pub finds_late : (S : System) (i t : ℕ) (edge : List ℕ) (sum w : ℕ) → length edge ≡ 16 → t < w → Under (right S i) w
-    → FindsWindow S i t edge sum None
-finds_late S i t edge sum w long past under =
-    record { is = solve_none (right S i) t w past under; long = long; stands = λ w e. absurd cc; kept = λ w e. absurd cc }
+pub finds_late : (S : System) (i t : ℕ) (e : Edges) (w : ℕ) → t < w → Under (right S i) w
+    → FindsWindow S i t e None
+finds_late S i t e w past under =
+    record { is = solve_none (right S i) t w past under; stands = λ w e. absurd cc; kept = λ w e. absurd cc }
 
-module _ {S : System} {i room : ℕ} {edge : List ℕ} {w asks l : ℕ} (s : Searching S i room edge w asks l) where
+module _ {S : System} {i room : ℕ} {e : Edges} {w l : ℕ} (s : Searching S i room e w l) where
   -- there is a load
   pub search_some : 1 ≤ l
   search_some = omega (arith, s.is, load_some S i w s.sure.runs)
@@ -178,22 +175,21 @@ module _ {S : System} {i room : ℕ} {edge : List ℕ} {w asks l : ℕ} (s : Sea
   search_on = stands_on S i s.x s.sure w l s.stands s.is
 
   -- the load ends with no window: nor does the search
-  pub search_none : None ≡ window_of S.above S.capacity S.period l room → (sum : ℕ) → FindsWindow S i room edge sum None
-  search_none e sum =
-      let none = window_none S.above S.capacity S.period l room s.sure.some search_some e in
+  pub search_none : None ≡ window_of S.above S.capacity S.period l room → FindsWindow S i room e None
+  search_none h =
+      let none = window_none S.above S.capacity S.period l room s.sure.some search_some h in
       record {
         is = stands_none S i s.x s.sure w l s.stands s.is room none;
-        long = s.long;
         stands = λ w e. absurd cc;
         kept = λ w e. absurd cc;
       }
 
   -- Here r is the window that the load ends with.
-  module _ (r : ℕ) (e : Some r ≡ window_of S.above S.capacity S.period l room) where
+  module _ (r : ℕ) (h : Some r ≡ window_of S.above S.capacity S.period l room) where
     found : (v : ℕ)
         × (guest_under S.above (rest S.capacity l) (room - before S.capacity S.period l) ≡ Some v)
         × (r ≡ before S.capacity S.period l + v) × (r ≤ room)
-    found = window_found S.above S.capacity S.period l room s.sure.some search_some r e
+    found = window_found S.above S.capacity S.period l room s.sure.some search_some r h
 
     -- the window is within the room, and no sooner than w
     pub search_later : (w ≤ r) × (r ≤ room)
@@ -213,20 +209,18 @@ module _ {S : System} {i room : ℕ} {edge : List ℕ} {w asks l : ℕ} (s : Sea
           | yes k ↦
               let z = window_large S.above S.capacity S.period l room s.sure.some search_some
               s.sure.within k in
-              let q : Some r ≡ None = e ∙ sym z in
+              let q : Some r ≡ None = h ∙ sym z in
               absurd cc
           | no k ↦ omega arith
         ]
 
-    module _ (edge' : List ℕ) (asks' more : ℕ) (long : length edge' ≡ 16)
-        (kept : Kept S.run S.every S.gap (nth edge') i r asks') (is : more ≡ load S i r) where
+    module _ (e' : Edges) (more : ℕ) (kept : Kept S.run S.every S.gap e' i r) (is : more ≡ load S i r) where
       -- a turn
-      pub search_turn : Searching S i room edge' r asks' more
+      pub search_turn : Searching S i room e' r more
       search_turn = record {
         x = s.x;
         sure = s.sure;
         short = s.short;
-        long = long;
         high = found.3;
         stands = search_stands;
         kept = kept;
@@ -234,13 +228,12 @@ module _ {S : System} {i room : ℕ} {edge : List ℕ} {w asks l : ℕ} (s : Sea
       }
 
       -- the search ends where the load stays
-      pub search_found : more ≤ l → FindsWindow S i room edge' asks' (Some r)
+      pub search_found : more ≤ l → FindsWindow S i room e' (Some r)
       search_found stays = record {
         is =
             ap Some found.2
             ∙ stands_found S i s.x s.sure w l s.stands s.is found.0 _ found.1 room
             (omega (arith, found.2, found.3)) (omega (arith, is, ap (load S i) found.2));
-        long = long;
         stands = λ k q. let b : r ≡ k = cc in rw (← b) search_stands;
         kept = λ k q. let b : r ≡ k = cc in rw (← b) kept;
       }

@@ -1,7 +1,7 @@
 -- What the search for a task's window gives, and hands on to the search for the task below. Inner: no promise of an
 -- entry names this.
-use Rattle.std.specs.Prelude.{◌≡◌, true, false, List, ℕ, ◌≤◌, ◌<◌, length, Option, Some, None, is_some}
-use Rattle.lists.specs.Places.{nth}
+use Rattle.std.specs.Prelude.{◌≡◌, true, false, ℕ, ◌≤◌, ◌<◌, Option, Some, None, is_some}
+use Rattle.rounding.specs.declared.Edges.{Edges}
 use Rattle.rounding.specs.Edges.{Kept, Behind}
 use Rattle.equation.specs.Solve.{solve}
 use Rattle.equation.specs.Standing.{Stands}
@@ -14,17 +14,15 @@ ticks_of (Some w) = w
 
 -- The search for task i may begin at w: it stands there, and the edges of the tasks above are those of a window that is
 -- no longer.
-pub record Begins (S : System) (i w : ℕ) (edge : List ℕ) (sum : ℕ) : Type 0 where
-  pub long : length edge ≡ 16
+pub record Begins (S : System) (i w : ℕ) (e : Edges) : Type 0 where
   pub stands : Stands S i w
-  pub behind : Behind S.run S.every S.gap (nth edge) i w sum
+  pub behind : Behind S.run S.every S.gap e i w
 
 -- The search found the least window of at most t ticks, if there is one; the edges are those of the window.
-pub record FindsWindow (S : System) (i t : ℕ) (edge : List ℕ) (sum : ℕ) (r : Option ℕ) : Type 0 where
+pub record FindsWindow (S : System) (i t : ℕ) (e : Edges) (r : Option ℕ) : Type 0 where
   pub is : r ≡ solve (right S i) t
-  pub long : length edge ≡ 16
   pub stands : (w : ℕ) → r ≡ Some w → Stands S i w
-  pub kept : (w : ℕ) → r ≡ Some w → Kept S.run S.every S.gap (nth edge) i w sum
+  pub kept : (w : ℕ) → r ≡ Some w → Kept S.run S.every S.gap e i w
 
 -- The tasks from `from` up to r are met, and r is the first that is not, or n.
 pub record MetTo (S : System) (deadline : ℕ → ℕ) (from n r : ℕ) : Type 0 where

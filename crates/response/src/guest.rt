@@ -9,7 +9,7 @@ ghost use Rattle.response.specs.Columns.{above_of, fitted_of};
 ghost use Rattle.response.specs.Ready.{AboveIn, EachShort, Ranged, ServerIn};
 
 use crate::Servers;
-use rounding::moved_on;
+use rounding::Edges;
 
 // The least x of at most `most` that is the capacity and what the first n guests take from x ticks: the recurrence,
 // from a number on that it climbs through. The edges of the guests' quotients stand beside x, so that only one that x
@@ -33,12 +33,11 @@ pub fn response_from(
         periods,
         jitters,
     } = servers;
-    let mut edge = [0u32; 16];
-    let mut sum: u64 = 0;
+    let mut edges = Edges::none();
     let mut x = from;
     loop {
-        sum = moved_on(capacities, periods, jitters, n, x, &mut edge, sum);
-        let next = u64::from(capacity) + sum;
+        edges.move_on(capacities, periods, jitters, n, x);
+        let next = u64::from(capacity) + edges.sum;
         if next <= u64::from(x) {
             return Some(x);
         }

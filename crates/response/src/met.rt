@@ -7,6 +7,7 @@ ghost use Rattle.response.specs.Window.{MetTo};
 
 use crate::task::window_from;
 use crate::{Servers, Tasks};
+use rounding::Edges;
 
 // The first task from `from` on of a fitted guest that is not met, or the number of its tasks: the search for each
 // begins where that for the task above ended.
@@ -26,8 +27,7 @@ pub fn first_unmet(
     ensures { MetTo (system_at servers.now k capacity period tasks.now late.now)
         (nth tasks.now.deadline) from tasks.now.count result }
 {
-    let mut edge = [0u32; 16];
-    let mut sum: u64 = 0;
+    let mut edges = Edges::none();
     let mut w: u32 = 1;
     for i in from..tasks.count {
         match window_from(
@@ -40,8 +40,7 @@ pub fn first_unmet(
             i,
             tasks.deadline[i],
             w,
-            &mut edge,
-            &mut sum,
+            &mut edges,
         ) {
             Some(found) => w = found,
             None => return i,

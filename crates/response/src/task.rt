@@ -11,7 +11,7 @@ ghost use Rattle.response.specs.Window.{Begins, FindsWindow};
 
 use crate::guest::response_from;
 use crate::{Servers, Tasks};
-use rounding::{moved_on, quotient};
+use rounding::{Edges, quotient};
 
 // The server periods before the last one that a load takes.
 fn whole_of(load: u32, capacity: u32) -> u32
@@ -60,8 +60,8 @@ fn window_of(
 }
 
 // The least window of task i of a fitted guest that makes a response of at most `most`: the recurrence, from `from` on,
-// where the search for the task above may have ended, with the edges of the tasks above and what they ask. It goes from
-// load to window and back, until the load stays.
+// where the search for the task above may have ended, with the edges of the tasks above. It goes from load to window and
+// back, until the load stays.
 pub fn window_from(
     servers: &Servers,
     n: usize,
@@ -72,15 +72,14 @@ pub fn window_from(
     i: usize,
     most: u32,
     from: u32,
-    edge: &mut [u32; 16],
-    sum: &mut u64,
+    edges: &mut Edges,
 ) -> Option<u32>
     requires above_in { AboveIn servers.now n × (i < 16) }
     requires ready { Ready (system_at servers.now n capacity period tasks.now late.now) i }
     requires most_le_longest { (most ≤ longest) × (EachShort late.now i × EachShort tasks.now.every i) }
-    requires begins { Begins (system_at servers.now n capacity period tasks.now late.now) i from edge.old sum.old }
+    requires begins { Begins (system_at servers.now n capacity period tasks.now late.now) i from edges.old }
     ensures { FindsWindow (system_at servers.now n capacity period tasks.now late.now) i
-        (most - nth late.now i) edge.new sum.new result }
+        (most - nth late.now i) edges.new result }
 {
     let gap = late[i];
     if most <= gap {
@@ -93,14 +92,13 @@ pub fn window_from(
     let Tasks { run, every, .. } = tasks;
     let own = u64::from(run[i]);
     let mut w = from;
-    let mut asks = moved_on(run, every, late, i, from, edge, *sum);
-    let mut load = own + asks;
+    edges.move_on(run, every, late, i, from);
+    let mut load = own + edges.sum;
     loop {
         let next = window_of(servers, n, capacity, period, load, w, room)?;
-        asks = moved_on(run, every, late, i, next, edge, asks);
-        let more = own + asks;
+        edges.move_on(run, every, late, i, next);
+        let more = own + edges.sum;
         if more <= load {
-            *sum = asks;
             return Some(next);
         }
         w = next;
@@ -124,10 +122,9 @@ pub fn task_response(
     requires most_le_longest { (most ≤ longest) × (EachShort late.now i × EachShort tasks.now.every i) }
     ensures { result ≡ task_under (system_at servers.now n capacity period tasks.now late.now) i most }
 {
-    let mut edge = [0u32; 16];
-    let mut sum: u64 = 0;
+    let mut edges = Edges::none();
     let w = window_from(
-        servers, n, capacity, period, tasks, late, i, most, 1, &mut edge, &mut sum,
+        servers, n, capacity, period, tasks, late, i, most, 1, &mut edges,
     )?;
     Some(w + late[i])
 }

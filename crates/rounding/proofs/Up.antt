@@ -2,10 +2,12 @@
 use mathlib.Core.Path.{◌≡◌, refl, sym, ◌∙◌, ap}
 use mathlib.Core.Bool.{Bool, false≢true}
 use Prim.Native.Nat.{ℕ, zero, suc, ◌+◌, ◌-◌, ◌*◌, ◌/◌, ◌%◌, ◌≤◌, ◌<◌}
-use native.Mathlib.Nat.{lt-div-mul-add, div-mul-le_self, div-zero, le-mul_of_pos_right, lt_of_mul-lt-mul_right, div-add-mod', mod-lt, add-mul}
+use native.Mathlib.Nat.{lt-div-mul-add, div-mul-le_self, div-zero, le-mul_of_pos_right, lt_of_mul-lt-mul_right, add-mul}
 use native.Mathlib.Decide.{dec_lt}
 use native.Mathlib.Omega.{arith}
 use lib.Dec.{leb}
+use Prim.Native.Nat.{min}
+use Rattle.std.proofs.lemmas.Grind.{div_ceil_times}
 use borrow.Author.Tests.{leb-true, le-leb}
 use Rattle.lists.specs.Search.{first_from}
 use Rattle.rounding.specs.Up.{up}
@@ -60,14 +62,9 @@ up_by_sum a (suc b) =
     up_is a (suc b) (s / suc b) (omega arith) (omega (arith, lt-div-mul-add {a = s} {b = suc b} (omega arith)))
     (omega (arith, div-mul-le_self s (suc b)))
 
--- where nothing is left over the quotient stays as it is
-pub up_whole : (a b : ℕ) → 0 < b → a % b ≡ 0 → up a b ≡ a / b
-up_whole a b pos e = up_is a b (a / b) pos (omega (arith, div-add-mod' a b)) (omega (arith, div-add-mod' a b))
-
--- where something is left over the quotient is rounded up by one
-pub up_more : (a b : ℕ) → 0 < b → 0 < a % b → up a b ≡ a / b + 1
-up_more a b pos r =
-    up_is a b (a / b + 1) pos (omega (arith, div-add-mod' a b, mod-lt a pos)) (omega (arith, div-add-mod' a b))
+-- it is what the library's division gives, which rounds up
+pub up_ceil : (a b : ℕ) → 0 < b → up a b ≡ a / b + min 1 (a % b)
+up_ceil a b pos = up_is a b (a / b + min 1 (a % b)) pos (div_ceil_times a b pos).0 (div_ceil_times a b pos).1
 
 -- the quotient rounded up grows with a, for every divisor
 pub up_mono : (b : ℕ) {a a' : ℕ} → a ≤ a' → up a b ≤ up a' b

@@ -1,11 +1,10 @@
 -- `response::guest::response_from` meets its contract: x climbs and never passes a solution, so it ends at the least one
 -- or past the most. Assumes nothing.
 use mathlib.Core.Path.{◌≡◌}
-use Prim.Native.Nat.{ℕ, ◌+◌}
+use Prim.Native.Nat.{◌+◌}
 use native.Mathlib.Omega.{arith}
-use lib.ListN.{length-replicate}
 use Rattle.response.specs.Columns.{above_of}
-use Rattle.rounding.proofs.Edges.{none_behind, zeros, kept_behind, kept_most}
+use Rattle.rounding.proofs.EdgesLaws.{kept_behind, kept_most}
 use Rattle.response.proofs.GuestLaws.{take_grows, take_is, from_under, guest_turn, guest_found, guest_none}
 use Rattle.response.proofs.guest.response_from.Goals as goal
 
@@ -22,38 +21,38 @@ loop-capacities-init c =
         high = omega arith;
         rising = s.rising;
       },
-      (length-replicate {A = ℕ} 16 0, none_behind _ _ _ _ _ _ zeros),
+      c.none-edges.ensures _ _ _ _ _,
     )
 
-pub moved_on-sum-requires : goal.moved_on-sum-requires
-moved_on-sum-requires c =
+pub move_on-requires : goal.move_on-requires
+move_on-requires c =
     let i = c.loop-capacities.invariant.0 in
     let above = c.requires.above_in.0 in
     record {
       n_bound = (above.0, (λ j h. omega (arith, i.high, i.short, above.1.1 j h), λ j h. omega (arith, above.1.0 j h)));
-      edge_len = c.loop-capacities.invariant.1;
+      behind = c.loop-capacities.invariant.1;
     }
 
 pub overflow_add-next : goal.overflow_add-next
-overflow_add-next c = omega (arith, kept_most c.moved_on-sum.ensures.1, c.requires.above_in.0.0)
+overflow_add-next c = omega (arith, kept_most c.move_on.ensures, c.requires.above_in.0.0)
 
 pub returns-then-next-from : goal.returns-then-next-from
 returns-then-next-from c =
-    guest_found {y = c.args.capacity + c.moved_on-sum.result} c.loop-capacities.invariant.0
-    (omega (arith, take_is c.args.servers.now c.args.n c.loop-capacities.x c.moved_on-sum.result c.moved_on-sum.ensures.1.is))
+    guest_found {y = c.args.capacity + c.move_on.new.self.sum} c.loop-capacities.invariant.0
+    (omega (arith, take_is c.args.servers.now c.args.n c.loop-capacities.x c.move_on.new.self.sum c.move_on.ensures.is))
     (omega arith)
 
 pub returns-then-from-next : goal.returns-then-from-next
 returns-then-from-next c =
-    guest_none {y = c.args.capacity + c.moved_on-sum.result} c.loop-capacities.invariant.0
-    (omega (arith, take_is c.args.servers.now c.args.n c.loop-capacities.x c.moved_on-sum.result c.moved_on-sum.ensures.1.is))
+    guest_none {y = c.args.capacity + c.move_on.new.self.sum} c.loop-capacities.invariant.0
+    (omega (arith, take_is c.args.servers.now c.args.n c.loop-capacities.x c.move_on.new.self.sum c.move_on.ensures.is))
     (omega arith)
 
 pub loop-capacities-preserved : goal.loop-capacities-preserved
 loop-capacities-preserved c =
-    let e : c.from.result + c.moved_on-sum.result
+    let e : c.from.result + c.move_on.new.self.sum
     ≡ c.args.capacity + above_of c.args.servers.now c.args.n c.loop-capacities.x =
-    omega (arith, take_is c.args.servers.now c.args.n c.loop-capacities.x c.moved_on-sum.result c.moved_on-sum.ensures.1.is) in (
+    omega (arith, take_is c.args.servers.now c.args.n c.loop-capacities.x c.move_on.new.self.sum c.move_on.ensures.is) in (
       guest_turn c.loop-capacities.invariant.0 e (omega arith) (omega arith),
-      (c.moved_on-sum.ensures.0, kept_behind c.moved_on-sum.ensures.1 _ (omega arith)),
+      kept_behind c.move_on.ensures _ (omega arith),
     )

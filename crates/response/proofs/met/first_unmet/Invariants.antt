@@ -10,4 +10,4 @@ use Rattle.response.proofs.met.first_unmet.Given as goal
 abbrev pub invariant-loop-i : goal.invariant-loop-i
 invariant-loop-i l =
     let S = system_at l.servers l.k l.capacity l.period l.tasks l.late in
-    MetSo S (nth l.tasks.deadline) l.from l.tasks.count l.i × (l.i < l.tasks.count → Begins S l.i l.w l.edge l.sum)
+    MetSo S (nth l.tasks.deadline) l.from l.tasks.count l.i × (l.i < l.tasks.count → Begins S l.i l.w l.edges)

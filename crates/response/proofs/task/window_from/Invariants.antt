@@ -7,7 +7,7 @@ use Rattle.response.proofs.task.window_from.Given as goal
 
 abbrev pub invariant-loop-next : goal.invariant-loop-next
 invariant-loop-next l =
-    Searching (system_at l.servers l.n l.capacity l.period l.tasks l.late) l.i l.room l.edge l.w l.asks l.load
+    Searching (system_at l.servers l.n l.capacity l.period l.tasks l.late) l.i l.room l.edges l.w l.load
 
 abbrev pub decreases-loop-next : goal.decreases-loop-next
 decreases-loop-next l =

@@ -15,6 +15,7 @@ use Rattle.lists.specs.Sum.{sum_to}
 use Rattle.rounding.specs.Up.{up}
 use Rattle.rounding.specs.Asked.{asked}
 use Rattle.rounding.specs.Short.{bound, long}
+use Rattle.rounding.specs.declared.Edges.{Edges}
 use Rattle.rounding.specs.Edges.{Kept, Behind}
 use Rattle.lists.proofs.Sum.{sum_none, sum_next, sum_last, sum_same, sum_zero}
 use Rattle.rounding.proofs.Asked.{asked_none, asked_next}
@@ -25,7 +26,6 @@ pub record Moving (cost every late : ℕ → ℕ) (edge : List ℕ) (n v asks k 
   pub count : ℕ → ℕ
   pub few : (j : ℕ) → j < n → count j * cost j ≤ long * bound
   pub behind : (j : ℕ) → j < n → count j ≤ up (v + late j) (every j)
-  pub place : k ≤ n
   pub full : length edge ≡ 16
   pub passed : (j : ℕ) → j < k → nth edge j ≡ up (v + late j) (every j) * every j
   pub small : (j : ℕ) → j < k → up (v + late j) (every j) * cost j ≤ long * bound
@@ -58,13 +58,12 @@ more_most a b h l = let k : b ≤ bound = omega arith in mul-le-mul h k
 
 module _ (cost every late : ℕ → ℕ) (n v : ℕ) where
   -- the loop starts: no edge has moved
-  pub moving_start : {edge : List ℕ} {sum : ℕ} → length edge ≡ 16 → Behind cost every late (nth edge) n v sum
-      → Moving cost every late edge n v sum 0
+  pub moving_start : {e : Edges} → length e.at ≡ 16 → Behind cost every late e n v
+      → Moving cost every late e.at n v e.sum 0
   moving_start l b = record {
     count = b.count;
     few = b.small;
     behind = b.behind;
-    place = omega arith;
     full = l;
     passed = λ j h. absurd (omega arith);
     small = λ j h. absurd (omega arith);
@@ -76,11 +75,11 @@ module _ (cost every late : ℕ → ℕ) (n v : ℕ) where
 
   module _ {edge : List ℕ} {asks k : ℕ} (m : Moving cost every late edge n v asks k) where
     -- what has been asked is far within 64 bits
-    pub moving_most : asks ≤ n * (long * bound)
-    moving_most =
-        let e : k + (n - k) ≡ n = omega (arith, m.place) in
+    pub moving_most : k < n → asks ≤ n * (long * bound)
+    moving_most h =
+        let e : k + (n - k) ≡ n = omega arith in
         let t = sum_tail (λ j. m.count j * cost j) k (n - k) (λ j h. m.few j (omega arith)) in
-        omega (arith, ap (sum_to (λ j. m.count j * cost j)) e, m.is, m.most, m.place)
+        omega (arith, ap (sum_to (λ j. m.count j * cost j)) e, m.is, m.most)
 
     -- the number that the window's end is short of its edge by, in the first place that is ahead
     edge_here : k < n → nth edge k ≡ m.count k * every k
@@ -100,7 +99,6 @@ module _ (cost every late : ℕ → ℕ) (n v : ℕ) where
           count = m.count;
           few = m.few;
           behind = m.behind;
-          place = omega arith;
           full = l;
           passed = λ j b.
               elim (ℕ_discrete j k) [
@@ -146,42 +144,32 @@ module _ (cost every late : ℕ → ℕ) (n v : ℕ) where
         little)
 
   -- the loop's end: all edges have moved on
-  pub moving_done : {edge : List ℕ} {asks k : ℕ} → Moving cost every late edge n v asks k → n ≤ k
-      → (length edge ≡ 16) × Kept cost every late (nth edge) n v asks
-  moving_done {edge} {asks} {k} m h =
-      let e : k ≡ n = omega (arith, m.place) in (
-        m.full,
-        record {
-          edges = λ j l. m.passed j (omega arith);
-          small = λ j l. m.small j (omega arith);
-          is = omega (arith, rw e at m.is);
-          rest = m.rest;
-        },
-      )
-
--- edges that are all 0 stand behind every window
-pub none_behind : (cost every late edge : ℕ → ℕ) (n v : ℕ) → ((k : ℕ) → edge k ≡ 0)
-    → Behind cost every late edge n v 0
-none_behind cost every late edge n v none = record {
-  count = λ k. 0;
-  edges = λ k h. omega (arith, none k);
-  small = λ k h. omega arith;
-  behind = λ k h. omega arith;
-  is = sym (sum_zero (λ k. 0 * cost k) n (λ k h. omega arith));
-  rest = λ k h. none k;
-}
+  pub moving_done : {e : Edges} → Moving cost every late e.at n v e.sum n → Kept cost every late e n v
+  moving_done m = record { edges = m.passed; small = m.small; is = omega (arith, m.is); rest = m.rest }
 
 -- an array of zeros has no edges
-pub zeros : (k : ℕ) → nth (replicate 16 0) k ≡ 0
+zeros : (k : ℕ) → nth (replicate 16 0) k ≡ 0
 zeros k =
     elim (dec_lt k 16) [
       | yes h ↦ get_or-replicate 16 k 0 0 h
       | no h ↦ get_or-eq_default {A = ℕ} (replicate 16 0) 0 {n = k} (rw (length-replicate {A = ℕ} 16 0) (omega arith))
     ]
 
-module _ {cost every late edge : ℕ → ℕ} {n v sum : ℕ} (s : Kept cost every late edge n v sum) where
+-- it stands behind every window
+pub none_behind : (cost every late : ℕ → ℕ) (n v : ℕ)
+    → Behind cost every late (record { at = replicate 16 0; sum = 0 }) n v
+none_behind cost every late n v = record {
+  count = λ k. 0;
+  edges = λ k h. omega (arith, zeros k);
+  small = λ k h. omega arith;
+  behind = λ k h. omega arith;
+  is = sym (sum_zero (λ k. 0 * cost k) n (λ k h. omega arith));
+  rest = λ k h. zeros k;
+}
+
+module _ {cost every late : ℕ → ℕ} {e : Edges} {n v : ℕ} (s : Kept cost every late e n v) where
   -- what is kept at a window stands behind each that is no shorter
-  pub kept_behind : (w : ℕ) → v ≤ w → Behind cost every late edge n w sum
+  pub kept_behind : (w : ℕ) → v ≤ w → Behind cost every late e n w
   unfolding asked
   kept_behind w h = record {
     count = λ k. up (v + late k) (every k);
@@ -205,11 +193,11 @@ module _ {cost every late edge : ℕ → ℕ} {n v sum : ℕ} (s : Kept cost eve
   count_next = rw (le-ltb n n (omega arith)) refl
 
   -- one more, which has no edge yet, stands behind too
-  pub kept_more : (w : ℕ) → v ≤ w → Behind cost every late edge (n + 1) w sum
+  pub kept_more : (w : ℕ) → v ≤ w → Behind cost every late e (n + 1) w
   unfolding asked
   kept_more w h = record {
     count = counts;
-    edges = λ k l. go k l (λ q. edge k ≡ q * every k) (s.edges k) (λ e. omega (arith, s.rest k (omega arith)));
+    edges = λ k l. go k l (λ q. nth e.at k ≡ q * every k) (s.edges k) (λ e. omega (arith, s.rest k (omega arith)));
     small = λ k l. go k l (λ q. q * cost k ≤ long * bound) (s.small k) (λ e. omega arith);
     behind = λ k l. go k l (λ q. q ≤ up (w + late k) (every k)) (λ b. up_mono (every k) (omega arith)) (λ e. omega arith);
     is =
@@ -233,14 +221,14 @@ module _ {cost every late edge : ℕ → ℕ} {n v sum : ℕ} (s : Kept cost eve
           ]
 
   -- what is asked is far within 64 bits
-  pub kept_most : sum ≤ n * (long * bound)
+  pub kept_most : e.sum ≤ n * (long * bound)
   unfolding asked
   kept_most =
-      let e : 0 + n ≡ n = omega arith in
+      let q : 0 + n ≡ n = omega arith in
       omega (
         arith,
         s.is,
-        ap (sum_to (λ k. up (v + late k) (every k) * cost k)) e,
+        ap (sum_to (λ k. up (v + late k) (every k) * cost k)) q,
         sum_none (λ k. up (v + late k) (every k) * cost k),
         sum_tail (λ k. up (v + late k) (every k) * cost k) 0 n (λ k l. s.small k (omega arith)),
       )
