@@ -1,15 +1,18 @@
 -- The order proposed for a guest's tasks, with its refusals in order.
-use Rattle.std.specs.Prelude.{Bool, not, ◌&&◌, List, [], ◌∷◌, ℕ}
+use Rattle.std.specs.Prelude.{◌≡◌, Bool, not, ◌&&◌, List, [], ◌∷◌, ℕ, ◌<◌, Result, Ok, Err}
 use Rattle.lists.specs.All.{all_to}
 use Rattle.lists.specs.Refusals.{◌or_refuse◌}
 use Rattle.plan.specs.First.{refused, refuse_or}
 use Rattle.plan.specs.Marks.{is_bound}
 use Rattle.plan.specs.Order.{records_then}
 use Rattle.plan.specs.Place.{place_of, has_guest}
+use Rattle.plan.specs.Placed.{with_guest}
+use Rattle.plan.specs.Ranges.{most_guests}
 use Rattle.plan.specs.Records.{guest_at}
 use Rattle.plan.specs.Server.{is_deferrable}
 use Rattle.plan.specs.declared.Guest.{Guest}
 use Rattle.plan.specs.declared.Plan.{Plan}
+use Rattle.plan.specs.declared.Refusal.{Refusal}
 use Rattle.response.specs.Guest.{fitted_to}
 use Rattle.response.specs.Met.{all_met}
 use Rattle.order.specs.declared.Ordered.{Ordered}
@@ -37,3 +40,9 @@ proposed p id =
     (records_then p
     (has_guest p id or_refuse 7 ∷ may_reorder g or_refuse 21 ∷ order_works p k (by_deadline g) or_refuse 22 ∷ []))
     (answering (with_order p k (by_deadline g)) 0 0)
+
+-- What becomes of a guest by its id: with the guest that comes back at its place the plan is the one proposed, or the
+-- refusal is the answer's.
+abbrev pub Settles : Plan → (id : ℕ) → Result (ℕ × Guest) Refusal → Type 0
+Settles p id (Ok (k, g)) = (k < most_guests) × (answering (with_guest p k g) 0 0 ≡ proposed p id)
+Settles p id (Err r) = answering p r.number r.place ≡ proposed p id

@@ -3,8 +3,7 @@
 
 ghost use Rattle.order.specs.Promises.{Orders};
 
-use plan::{Guest, Plan, Refusal, check, columns_of};
-use response::seat_of;
+use plan::{Plan, Refusal};
 
 mod placing;
 mod reordering;
@@ -22,22 +21,21 @@ pub struct Ordered {
     pub plan: Plan,
 }
 
-// What becomes of a guest: the refusal, and the guest with its tasks by deadline, or on a refusal as it was.
-#[derive(Clone, Copy)]
-pub struct Settled {
-    pub refusal: Refusal,
-    pub guest: Guest,
-}
-
 // The order proposed for the tasks of the guest with an id.
 pub fn propose(mut plan: Plan, id: u32) -> Ordered
     ensures { Orders plan id result }
 {
-    let seat = seat_of(check(plan), columns_of(plan), plan.count, id);
-    let k = seat.place;
-    let settled = trying::settle(seat, plan.guests[k]);
-    let h = settled.guest;
-    plan.guests[k] = h;
-    let refusal = settled.refusal;
-    Ordered { refusal, plan }
+    match trying::settle(&plan, id) {
+        Ok((k, g)) => {
+            plan.guests[k] = g;
+            Ordered {
+                refusal: Refusal {
+                    number: 0,
+                    place: 0,
+                },
+                plan,
+            }
+        }
+        Err(refusal) => Ordered { refusal, plan },
+    }
 }

@@ -5,19 +5,23 @@ ghost use Rattle.order.specs.Promises.{Orders};
 
 use crate::trying::settle;
 use plan::Refusal;
-use response::seat_of;
-use rows::{check_in, columns_in, guest_of, row_of};
+use rows::{Rows, row_of};
 
-// The order proposed for the tasks of the guest with an id; where it is refused the rows come back as they were. That
-// there are eight of them is their type, which a contract does not see.
+// The order proposed for the tasks of the guest with an id; where it is refused the rows stay as they were. That there
+// are eight of them is their type, which a contract does not see.
 pub fn propose_in(count: u32, rows: &mut [[u32; 54]; 8], id: u32) -> Refusal
     ensures { length rows.old ≡ 8
         → Orders (plan_of count rows.old) id
         (record { refusal = result; plan = plan_of count rows.new }) }
 {
-    let seat = seat_of(check_in(count, rows), columns_in(rows), count, id);
-    let k = seat.place;
-    let settled = settle(seat, guest_of(&rows[k]));
-    rows[k] = row_of(settled.guest);
-    settled.refusal
+    match settle(&Rows { count, rows }, id) {
+        Ok((k, g)) => {
+            rows[k] = row_of(g);
+            Refusal {
+                number: 0,
+                place: 0,
+            }
+        }
+        Err(refusal) => refusal,
+    }
 }
