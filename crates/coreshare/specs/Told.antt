@@ -1,6 +1,7 @@
 -- What a host is told: a number and values for each case of an answer. Refusals have document 01's numbers, the other
 -- cases numbers of their own.
-use Rattle.std.specs.Prelude.{ℕ, pos}
+use Rattle.std.specs.Prelude.{ℕ, pos, Result, Ok, Err}
+use Rattle.plan.specs.declared.Refusal.{Refusal}
 use Rattle.verdict.specs.declared.GuestVerdict.{GuestVerdict}
 use Rattle.verdict.specs.declared.TaskVerdict.{TaskVerdict}
 use Rattle.verdict.specs.declared.Acceptance.{Acceptance}
@@ -27,25 +28,25 @@ abbrev pub saying : (verdict ticks : ℕ) → Verdict
 saying verdict ticks = record { number = 0; place = 0; verdict = verdict; ticks = ticks }
 
 -- A guest's verdict is 1 for fitted, with its response x, and 2 for unfit.
-unfoldable pub guest_told : GuestVerdict → Verdict
-guest_told (guest.Refused number place) = refusing number place
-guest_told (guest.Fitted x) = saying 1 x
-guest_told guest.Unfit = saying 2 0
+unfoldable pub guest_told : Result GuestVerdict Refusal → Verdict
+guest_told (Err r) = refusing r.number r.place
+guest_told (Ok (guest.Fitted x)) = saying 1 x
+guest_told (Ok guest.Unfit) = saying 2 0
 
 -- A task's verdict is 1 for met, with its response; 2 for unmet, with its response or with 0 where none is quoted,
 -- since a response is at least 1; 3 for unjudged.
-unfoldable pub task_told : TaskVerdict → Verdict
-task_told (task.Refused number place) = refusing number place
-task_told (task.Met r) = saying 1 r
-task_told (task.UnmetAt r) = saying 2 r
-task_told task.Unmet = saying 2 0
-task_told task.Unjudged = saying 3 0
+unfoldable pub task_told : Result TaskVerdict Refusal → Verdict
+task_told (Err r) = refusing r.number r.place
+task_told (Ok (task.Met r)) = saying 1 r
+task_told (Ok (task.UnmetAt r)) = saying 2 r
+task_told (Ok task.Unmet) = saying 2 0
+task_told (Ok task.Unjudged) = saying 3 0
 
 -- A plan's verdict is 1 for accepted and 2 for not accepted.
-unfoldable pub plan_told : Acceptance → Verdict
-plan_told (plan.Refused number place) = refusing number place
-plan_told plan.Accepted = saying 1 0
-plan_told plan.NotAccepted = saying 2 0
+unfoldable pub plan_told : Result Acceptance Refusal → Verdict
+plan_told (Err r) = refusing r.number r.place
+plan_told (Ok plan.Accepted) = saying 1 0
+plan_told (Ok plan.NotAccepted) = saying 2 0
 
 -- The smallest capacity is 1 with the capacity in ticks; that there is none is a refusal, 11.
 unfoldable pub capacity_told : CapacityAnswer → Verdict

@@ -22,7 +22,7 @@ pub extern "C" fn cs_amended_guest_verdict(plan: &[u8], sheet: &[u8], id: u32) -
     let r = amendment::read(plan, sheet);
     let refusal = r.refusal;
     if 0 < refusal.number {
-        return refuse(refusal.number, refusal.place);
+        return refuse(refusal);
     }
     cs_guest_verdict(r.plan, id)
 }
@@ -34,7 +34,7 @@ pub extern "C" fn cs_amended_task_verdict(plan: &[u8], sheet: &[u8], id: u32, ta
     let r = amendment::read(plan, sheet);
     let refusal = r.refusal;
     if 0 < refusal.number {
-        return refuse(refusal.number, refusal.place);
+        return refuse(refusal);
     }
     cs_task_verdict(r.plan, id, task)
 }
@@ -46,7 +46,7 @@ pub extern "C" fn cs_amended_accept(plan: &[u8], sheet: &[u8]) -> Verdict
     let r = amendment::read(plan, sheet);
     let refusal = r.refusal;
     if 0 < refusal.number {
-        return refuse(refusal.number, refusal.place);
+        return refuse(refusal);
     }
     cs_accept(r.plan)
 }
@@ -58,7 +58,7 @@ pub extern "C" fn cs_amended_smallest_capacity(plan: &[u8], sheet: &[u8], id: u3
     let r = amendment::read(plan, sheet);
     let refusal = r.refusal;
     if 0 < refusal.number {
-        return refuse(refusal.number, refusal.place);
+        return refuse(refusal);
     }
     cs_smallest_capacity(r.plan, id)
 }

@@ -5,26 +5,27 @@ ghost use Rattle.coreshare.specs.Promises.{TellsGuest, TellsTask, TellsPlan, Tel
 use crate::Verdict;
 use crate::telling::{tell_capacity, tell_guest, tell_plan, tell_task};
 use plan::Plan;
+use rows::Rows;
 
 #[unsafe(no_mangle)]
 pub extern "C" fn cs_guest_verdict(plan: Plan, id: u32) -> Verdict
     ensures { TellsGuest plan id result }
 {
-    tell_guest(verdict::guest_verdict(plan, id))
+    tell_guest(verdict::guest_verdict(&plan, id))
 }
 
 #[unsafe(no_mangle)]
 pub extern "C" fn cs_guest_verdict_in(count: u32, rows: &[[u32; 54]; 8], id: u32) -> Verdict
     ensures { TellsGuest (plan_of count rows.now) id result }
 {
-    tell_guest(verdict::guest_verdict_in(count, rows, id))
+    tell_guest(verdict::guest_verdict(&Rows { count, rows }, id))
 }
 
 #[unsafe(no_mangle)]
 pub extern "C" fn cs_task_verdict(plan: Plan, id: u32, task: u32) -> Verdict
     ensures { TellsTask plan id task result }
 {
-    tell_task(verdict::task_verdict(plan, id, task))
+    tell_task(verdict::task_verdict(&plan, id, task))
 }
 
 #[unsafe(no_mangle)]
@@ -36,21 +37,21 @@ pub extern "C" fn cs_task_verdict_in(
 ) -> Verdict
     ensures { TellsTask (plan_of count rows.now) id task result }
 {
-    tell_task(verdict::task_verdict_in(count, rows, id, task))
+    tell_task(verdict::task_verdict(&Rows { count, rows }, id, task))
 }
 
 #[unsafe(no_mangle)]
 pub extern "C" fn cs_accept(plan: Plan) -> Verdict
     ensures { TellsPlan plan result }
 {
-    tell_plan(verdict::accept(plan))
+    tell_plan(verdict::accept(&plan))
 }
 
 #[unsafe(no_mangle)]
 pub extern "C" fn cs_accept_in(count: u32, rows: &[[u32; 54]; 8]) -> Verdict
     ensures { TellsPlan (plan_of count rows.now) result }
 {
-    tell_plan(verdict::accept_in(count, rows))
+    tell_plan(verdict::accept(&Rows { count, rows }))
 }
 
 #[unsafe(no_mangle)]

@@ -4,15 +4,16 @@ ghost use Rattle.coreshare.specs.Told.{refusing, saying, guest_told, task_told, 
 
 use crate::Verdict;
 use capacity::CapacityAnswer;
+use plan::Refusal;
 use verdict::{Acceptance, GuestVerdict, TaskVerdict};
 
 // A refusal is told by its number and place.
-pub fn refuse(number: u32, place: u32) -> Verdict
-    ensures { result ≡ refusing number place }
+pub fn refuse(r: Refusal) -> Verdict
+    ensures { result ≡ refusing r.number r.place }
 {
     Verdict {
-        number,
-        place,
+        number: r.number,
+        place: r.place,
         verdict: 0,
         ticks: 0,
     }
@@ -31,37 +32,40 @@ fn say(verdict: u32, ticks: u32) -> Verdict
 }
 
 // A guest's verdict.
-pub fn tell_guest(v: GuestVerdict) -> Verdict
+#[tactic(auto, unfolding(crate::specs::Told::guest_told))]
+pub fn tell_guest(v: Result<GuestVerdict, Refusal>) -> Verdict
     ensures { result ≡ guest_told v }
 {
     match v {
-        GuestVerdict::Refused(number, place) => refuse(number, place),
-        GuestVerdict::Fitted(x) => say(1, x),
-        GuestVerdict::Unfit => say(2, 0),
+        Err(r) => refuse(r),
+        Ok(GuestVerdict::Fitted(x)) => say(1, x),
+        Ok(GuestVerdict::Unfit) => say(2, 0),
     }
 }
 
 // A task's verdict.
-pub fn tell_task(v: TaskVerdict) -> Verdict
+#[tactic(auto, unfolding(crate::specs::Told::task_told))]
+pub fn tell_task(v: Result<TaskVerdict, Refusal>) -> Verdict
     ensures { result ≡ task_told v }
 {
     match v {
-        TaskVerdict::Refused(number, place) => refuse(number, place),
-        TaskVerdict::Met(r) => say(1, r),
-        TaskVerdict::UnmetAt(r) => say(2, r),
-        TaskVerdict::Unmet => say(2, 0),
-        TaskVerdict::Unjudged => say(3, 0),
+        Err(r) => refuse(r),
+        Ok(TaskVerdict::Met(r)) => say(1, r),
+        Ok(TaskVerdict::UnmetAt(r)) => say(2, r),
+        Ok(TaskVerdict::Unmet) => say(2, 0),
+        Ok(TaskVerdict::Unjudged) => say(3, 0),
     }
 }
 
 // The acceptance of a plan.
-pub fn tell_plan(a: Acceptance) -> Verdict
+#[tactic(auto, unfolding(crate::specs::Told::plan_told))]
+pub fn tell_plan(a: Result<Acceptance, Refusal>) -> Verdict
     ensures { result ≡ plan_told a }
 {
     match a {
-        Acceptance::Refused(number, place) => refuse(number, place),
-        Acceptance::Accepted => say(1, 0),
-        Acceptance::NotAccepted => say(2, 0),
+        Err(r) => refuse(r),
+        Ok(Acceptance::Accepted) => say(1, 0),
+        Ok(Acceptance::NotAccepted) => say(2, 0),
     }
 }
 
@@ -70,7 +74,7 @@ pub fn tell_capacity(a: CapacityAnswer) -> Verdict
     ensures { result ≡ capacity_told a }
 {
     match a {
-        CapacityAnswer::Refused(number, place) => refuse(number, place),
+        CapacityAnswer::Refused(number, place) => refuse(Refusal { number, place }),
         CapacityAnswer::Smallest(ticks) => say(1, ticks),
     }
 }

@@ -1,5 +1,6 @@
 -- What stays of the verdicts where every guest is made Periodic: each equation has a solution no larger than before,
 -- and a verdict names the least. Assumes nothing.
+use Rattle.std.specs.Prelude.{Result, Ok, Err}
 use mathlib.Core.Path.{◌≡◌, refl, sym, ◌∙◌, ap, subst}
 use Prim.Native.Nat.{ℕ, suc, ◌+◌, ◌-◌, ◌≤◌, ◌<◌}
 use native.Mathlib.Omega.{arith}
@@ -25,20 +26,18 @@ use Rattle.verdict_laws.proofs.Guests.{guest_verdict_means, fitted_means}
 use Rattle.verdict_laws.proofs.Tasks.{task_verdict_means, judged_means, quotes_mean, quoted_means, quoted_where}
 use Rattle.dominance.proofs.Interference.{guest_sooner, task_sooner}
 use Rattle.dominance.proofs.Records.{there_stays}
-use Rattle.verdict.specs.declared.GuestVerdict.TheVariants as guest
-use Rattle.verdict.specs.declared.TaskVerdict.TheVariants as task
 
 -- ---- from solutions to verdicts, in any plan
 module _ (q : Plan) (id k : ℕ) (t : There q id k) where
   -- A guest with a solution is fitted with a response at or before it.
-  fitted_by : (y : ℕ) → GuestSolves q k y → NoLarger (λ z. guest_verdict q id ≡ Fitted z) y
+  fitted_by : (y : ℕ) → GuestSolves q k y → NoLarger (λ z. guest_verdict q id ≡ Ok (Fitted z)) y
   fitted_by y s = go (guest_verdict q id) refl (guest_verdict_means q id k t)
     where
-      go : (v : GuestVerdict) → guest_verdict q id ≡ v → GuestMeans q k v
-          → NoLarger (λ z. guest_verdict q id ≡ Fitted z) y
-      go (guest.Refused n place) e m = absurd m
-      go (Fitted z) e m = let first : ¬ (y < z) = λ l. m.least y l s in (z, (e, omega arith))
-      go Unfit e m = absurd (m y s)
+      go : (v : Result GuestVerdict Refusal) → guest_verdict q id ≡ v → GuestMeans q k v
+          → NoLarger (λ z. guest_verdict q id ≡ Ok (Fitted z)) y
+      go (Err r) e m = absurd m
+      go (Ok (Fitted z)) e m = let first : ¬ (y < z) = λ l. m.least y l s in (z, (e, omega arith))
+      go (Ok Unfit) e m = absurd (m y s)
 
   module _ (i : ℕ) (h : i < (guest_at q.guests k).tasks) where
     -- A task with a solution up to its period, under fitted guests, is quoted a response at or before it.
@@ -52,15 +51,15 @@ module _ (q : Plan) (id k : ℕ) (t : There q id k) where
 
     -- A task that is quoted a response up to its deadline is met with it.
     met_by : (R : ℕ) → Quoted q id (suc i) R → R ≤ deadline_of (guest_at q.guests k) i
-        → task_verdict q id (suc i) ≡ Met R
+        → task_verdict q id (suc i) ≡ Ok (Met R)
     met_by R c l = go (task_verdict q id (suc i)) c (task_verdict_means q id k i t h)
       where
-        go : (v : TaskVerdict) → Quotes v R → TaskMeans q k i v → v ≡ Met R
-        go (task.Refused n place) c m = absurd c
-        go (Met r) c m = ap Met c
-        go (UnmetAt r) c m = absurd (omega (arith, m.late))
-        go Unmet c m = absurd c
-        go Unjudged c m = absurd c
+        go : (v : Result TaskVerdict Refusal) → Quotes v R → TaskMeans q k i v → v ≡ Ok (Met R)
+        go (Err r) c m = absurd c
+        go (Ok (Met r)) c m = ap (λ (r : ℕ). Ok (Met r)) c
+        go (Ok (UnmetAt r)) c m = absurd (omega (arith, m.late))
+        go (Ok Unmet) c m = absurd c
+        go (Ok Unjudged) c m = absurd c
 
 -- ---- the plan before, and the plan with every guest made Periodic
 module _ (p : Plan) where
@@ -103,7 +102,7 @@ module _ (p : Plan) where
         (S, (c, omega (arith, m.response, same_gap)))
 
     -- Where it was met it is met with a response no larger: the deadline is as it was.
-    met_after : (R : ℕ) → TaskMet p k i R → NoLarger (λ S. task_verdict (converted p) id (suc i) ≡ Met S) R
+    met_after : (R : ℕ) → TaskMet p k i R → NoLarger (λ S. task_verdict (converted p) id (suc i) ≡ Ok (Met S)) R
     met_after R m =
         let (S, (c, l)) = quoted_after R m.quoted in
         let in_time : S ≤ deadline_of (guest_at (converted p).guests k) i =
@@ -120,8 +119,8 @@ module _ (p : Plan) where
   -- A task that was met stays so, with a response no larger.
   pub met_stays : MetStays p (converted p)
   met_stays id number R e =
-      let (t, m) = judged_means p id number {v = Met R} (λ n k q. (let z : ◌≡◌ {A = ℕ} 0 1 = cc in omega arith)) e in
-      subst (λ (n : ℕ). NoLarger (λ S. task_verdict (converted p) id n ≡ Met S) R) (sym t.from_1)
+      let (t, m) = judged_means p id number e in
+      subst (λ (n : ℕ). NoLarger (λ S. task_verdict (converted p) id n ≡ Ok (Met S)) R) (sym t.from_1)
       (met_after id (place_of p id) (number - 1) t.there t.in_guest R m)
 
   -- A plan that was accepted stays so, since each of its tasks stays met.

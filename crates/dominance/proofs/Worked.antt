@@ -10,7 +10,7 @@ use Rattle.equation.specs.Guest.{guest_side, guest_under}
 use Rattle.equation.specs.Solve.{solve}
 use Rattle.equation.specs.System.{gap_for, load, right_at, right, response_of, task_under}
 use Rattle.plan.specs.Charge.{charged_run}
-use Rattle.plan.specs.First.{or_else, first_refused, refused_by}
+use Rattle.plan.specs.First.{or_else, first_refused}
 use Rattle.plan.specs.Marks.{marked}
 use Rattle.plan.specs.Order.{new_id, number_of, guest_number, counted_by, plan_refusal, records_then}
 use Rattle.plan.specs.Periodic.{converted}
@@ -26,7 +26,7 @@ use Rattle.dominance.specs.Worked.{WorkedConversions}
 -- The single statement.
 pub worked : WorkedConversions
 unfolding all_to unless refusal least first_from sum_to up asked solve guest_side guest_under gap_for load right_at right
-    response_of task_under charged_run or_else first_refused refused_by marked new_id number_of guest_number counted_by
+    response_of task_under charged_run or_else first_refused marked new_id number_of guest_number counted_by
     plan_refusal records_then converted place_of has_guest has_task head_ok task_ok start_ok tasks_ok jitter interference
     guest_response fitted fitted_to gap response_to limit task_response met all_met accepted guest_verdict quoted_by task_says
     task_verdict accept_says acceptance

@@ -1,6 +1,7 @@
 -- The lines that the printing program shows: which verdict each of them says.
-use Rattle.std.specs.Prelude.{ℕ}
+use Rattle.std.specs.Prelude.{ℕ, Result, Ok, Err}
 use Rattle.plan.specs.declared.Plan.{Plan}
+use Rattle.plan.specs.declared.Refusal.{Refusal}
 use Rattle.verdict.specs.Verdict.{guest_verdict, task_verdict, acceptance}
 use Rattle.verdict.specs.declared.GuestVerdict.{GuestVerdict}
 use Rattle.verdict.specs.declared.TaskVerdict.{TaskVerdict}
@@ -12,24 +13,24 @@ use Rattle.verdict.specs.declared.TaskVerdict.TheVariants as task
 use Rattle.verdict.specs.declared.Acceptance.TheVariants as plan
 
 -- A guest's line is `guest ID fitted X` or `guest ID unfit`.
-abbrev pub guest_shown : (id : ℕ) → GuestVerdict → Line
-guest_shown id (guest.Refused number place) = Refused number place
-guest_shown id (guest.Fitted x) = Fitted id x
-guest_shown id guest.Unfit = Unfit id
+abbrev pub guest_shown : (id : ℕ) → Result GuestVerdict Refusal → Line
+guest_shown id (Err r) = Refused r.number r.place
+guest_shown id (Ok (guest.Fitted x)) = Fitted id x
+guest_shown id (Ok guest.Unfit) = Unfit id
 
 -- A task's line is `task N met R`, `task N unmet R`, `task N unmet` or `task N unjudged`.
-abbrev pub task_shown : (number : ℕ) → TaskVerdict → Line
-task_shown n (task.Refused number place) = Refused number place
-task_shown n (task.Met r) = Met n r
-task_shown n (task.UnmetAt r) = UnmetAt n r
-task_shown n task.Unmet = Unmet n
-task_shown n task.Unjudged = Unjudged n
+abbrev pub task_shown : (number : ℕ) → Result TaskVerdict Refusal → Line
+task_shown n (Err r) = Refused r.number r.place
+task_shown n (Ok (task.Met r)) = Met n r
+task_shown n (Ok (task.UnmetAt r)) = UnmetAt n r
+task_shown n (Ok task.Unmet) = Unmet n
+task_shown n (Ok task.Unjudged) = Unjudged n
 
 -- The last line is `plan accepted` or `plan not accepted`.
-abbrev pub plan_shown : Acceptance → Line
-plan_shown (plan.Refused number place) = Refused number place
-plan_shown plan.Accepted = Accepted
-plan_shown plan.NotAccepted = NotAccepted
+abbrev pub plan_shown : Result Acceptance Refusal → Line
+plan_shown (Err r) = Refused r.number r.place
+plan_shown (Ok plan.Accepted) = Accepted
+plan_shown (Ok plan.NotAccepted) = NotAccepted
 
 -- The line of the guest with an id.
 abbrev pub guest_line : Plan → (id : ℕ) → Line

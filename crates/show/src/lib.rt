@@ -3,13 +3,9 @@
 
 ghost use Rattle.show.specs.Promises.{ShowsGuest, ShowsTask, ShowsPlan};
 
-use plan::Plan;
-use std::io;
+use plan::{Plan, Refusal};
+use std::{fmt, io};
 use verdict::{Acceptance, GuestVerdict, TaskVerdict};
-
-mod output;
-
-pub use output::print;
 
 // A guest's line has its id first, a task's its number.
 #[derive(Clone, Copy)]
@@ -25,39 +21,67 @@ pub enum Line {
     NotAccepted,
 }
 
+// The line as document 01 and P2 have it.
+impl fmt::Display for Line {
+    fn fmt<W: fmt::Write>(&self, f: &mut fmt::Formatter<W>) -> fmt::Result {
+        match self {
+            Line::Refused(number, place) => write!(f, "refused {number} block {place}"),
+            Line::Fitted(id, x) => write!(f, "guest {id} fitted {x}"),
+            Line::Unfit(id) => write!(f, "guest {id} unfit"),
+            Line::Met(task, r) => write!(f, "task {task} met {r}"),
+            Line::UnmetAt(task, r) => write!(f, "task {task} unmet {r}"),
+            Line::Unmet(task) => write!(f, "task {task} unmet"),
+            Line::Unjudged(task) => write!(f, "task {task} unjudged"),
+            Line::Accepted => write!(f, "plan accepted"),
+            Line::NotAccepted => write!(f, "plan not accepted"),
+        }
+    }
+}
+
 // The line of the guest with an id.
-pub fn guest_line(plan: Plan, id: u32) -> Line
-    ensures { ShowsGuest plan id result }
+pub fn guest_line(plan: &Plan, id: u32) -> Line
+    ensures { ShowsGuest plan.now id result }
 {
     match verdict::guest_verdict(plan, id) {
-        GuestVerdict::Refused(number, place) => Line::Refused(number, place),
-        GuestVerdict::Fitted(x) => Line::Fitted(id, x),
-        GuestVerdict::Unfit => Line::Unfit(id),
+        Err(Refusal { number, place }) => Line::Refused(number, place),
+        Ok(GuestVerdict::Fitted(x)) => Line::Fitted(id, x),
+        Ok(GuestVerdict::Unfit) => Line::Unfit(id),
     }
 }
 
 // The line of one of its tasks, by its number from 1.
-pub fn task_line(plan: Plan, id: u32, task: u32) -> Line
-    ensures { ShowsTask plan id task result }
+pub fn task_line(plan: &Plan, id: u32, task: u32) -> Line
+    ensures { ShowsTask plan.now id task result }
 {
     match verdict::task_verdict(plan, id, task) {
-        TaskVerdict::Refused(number, place) => Line::Refused(number, place),
-        TaskVerdict::Met(r) => Line::Met(task, r),
-        TaskVerdict::UnmetAt(r) => Line::UnmetAt(task, r),
-        TaskVerdict::Unmet => Line::Unmet(task),
-        TaskVerdict::Unjudged => Line::Unjudged(task),
+        Err(Refusal { number, place }) => Line::Refused(number, place),
+        Ok(TaskVerdict::Met(r)) => Line::Met(task, r),
+        Ok(TaskVerdict::UnmetAt(r)) => Line::UnmetAt(task, r),
+        Ok(TaskVerdict::Unmet) => Line::Unmet(task),
+        Ok(TaskVerdict::Unjudged) => Line::Unjudged(task),
     }
 }
 
 // The plan's line.
-pub fn last_line(plan: Plan) -> Line
-    ensures { ShowsPlan plan result }
+pub fn last_line(plan: &Plan) -> Line
+    ensures { ShowsPlan plan.now result }
 {
     match verdict::accept(plan) {
-        Acceptance::Refused(number, place) => Line::Refused(number, place),
-        Acceptance::Accepted => Line::Accepted,
-        Acceptance::NotAccepted => Line::NotAccepted,
+        Err(Refusal { number, place }) => Line::Refused(number, place),
+        Ok(Acceptance::Accepted) => Line::Accepted,
+        Ok(Acceptance::NotAccepted) => Line::NotAccepted,
     }
+}
+
+// A guest's line, and after it its tasks', of which there are no more than 16.
+fn print_guest(rt: &impl Print, plan: &Plan, id: u32, tasks: u32) -> io::Result<()> {
+    rt.println(guest_line(plan, id))?;
+    for task in 1..17 {
+        if task <= tasks {
+            rt.println(task_line(plan, id, task))?;
+        }
+    }
+    Ok(())
 }
 
 // Prints the lines of a plan's bytes; of a refused plan the refusal alone. A write that fails is the error that comes
@@ -66,7 +90,13 @@ pub fn show(rt: &impl Print, bytes: &[u8]) -> io::Result<()> {
     let reading = planfile::read(bytes);
     let refusal = reading.refusal;
     if 0 < refusal.number {
-        return print(rt, Line::Refused(refusal.number, refusal.place));
+        return rt.println(Line::Refused(refusal.number, refusal.place));
     }
-    output::print_plan(rt, reading.plan)
+    let plan = reading.plan;
+    for (k, g) in plan.guests.iter().enumerate() {
+        if k < plan.count as usize {
+            print_guest(rt, &plan, g.id, g.tasks)?;
+        }
+    }
+    rt.println(last_line(&plan))
 }

@@ -4,4 +4,4 @@ use Rattle.coreshare.specs.Told.{plan_told}
 use Rattle.coreshare.proofs.judging.cs_accept_in.Goals as goal
 
 pub returns : goal.returns
-returns c = c.tell_plan.ensures ∙ ap plan_told c.accept_in.ensures
+returns c = c.tell_plan.ensures ∙ ap plan_told c.accept.ensures

@@ -4,4 +4,4 @@ use Rattle.coreshare.specs.Told.{guest_told}
 use Rattle.coreshare.proofs.judging.cs_guest_verdict_in.Goals as goal
 
 pub returns : goal.returns
-returns c = c.tell_guest.ensures ∙ ap guest_told c.guest_verdict_in.ensures
+returns c = c.tell_guest.ensures ∙ ap guest_told c.guest_verdict.ensures

@@ -4,4 +4,4 @@ use Rattle.coreshare.specs.Told.{task_told}
 use Rattle.coreshare.proofs.judging.cs_task_verdict_in.Goals as goal
 
 pub returns : goal.returns
-returns c = c.tell_task.ensures ∙ ap task_told c.task_verdict_in.ensures
+returns c = c.tell_task.ensures ∙ ap task_told c.task_verdict.ensures
