@@ -40,21 +40,6 @@ pub put_laid : (x t b c : List ℕ) (k w : ℕ) → length x ≡ block_words →
     → c ≡ laid (set x k w) t
 put_laid x t b c k w l h e q = q ∙ ap (λ (y : List ℕ). with_word y k w) e ∙ put_set x block_words k w t l h
 
--- Three words put in, one after the other.
-pub put_three :
-    (b b1 b2 b3 : List ℕ) (i j k v w z : ℕ) → b1 ≡ with_word b i v → b2 ≡ with_word b1 j w → b3 ≡ with_word b2 k z
-    → b3 ≡ with_word (with_word (with_word b i v) j w) k z
-put_three b b1 b2 b3 i j k v w z p q r = rw (← p, ← q) r
-
--- The check put in, of which the sum was made first.
-pub put_sum :
-    (b b1 : List ℕ) (s r : ℕ)
-    → s ≡ wrapped (word b) check_word
-    → r ≡ complement s
-    → b1 ≡ with_word b check_word r
-    → b1 ≡ with_word b check_word (complement (wrapped (word b) check_word))
-put_sum b b1 s r e q p = rw (← e, ← q) p
-
 -- The check put into a block's bytes.
 pub check_laid :
     (x b t : List ℕ) → length x ≡ block_words → b ≡ laid x t

@@ -1,13 +1,13 @@
 -- How the code comes to the block written. Assumes nothing.
 use mathlib.Core.Path.{◌≡◌, refl, sym, ap, ◌∙◌}
-use mathlib.Core.Bool.{true, false}
+use mathlib.Core.Bool.{true}
 use mathlib.Core.List.{List, [], ◌++◌}
 use Prim.Native.Nat.{ℕ, ◌^◌, ◌≤◌, ◌<◌}
 use native.Mathlib.Nat.{pow-le-pow_right}
 use native.Mathlib.Omega.{arith}
 use lib.ListN.{length, set, drop, replicate, length-set, length-replicate}
 use lib.Dec.{leb}
-use borrow.Author.Tests.{le-leb, lt-leb, leb-true, eqb-true}
+use borrow.Author.Tests.{le-leb, leb-true, eqb-true}
 use Rattle.lists.specs.Places.{nth}
 use Rattle.words.specs.Bytes.{with_word}
 use Rattle.plan.specs.declared.Guest.{Guest}
@@ -19,51 +19,18 @@ use Rattle.block.specs.Layout.{block_size, block_words, kind_place_word, last_pl
 use Rattle.blockparts.specs.Parts.{with_check}
 use Rattle.blockwriter.specs.Writing.{server_of, server_for, kind_for, with_kind, with_head, words_of, block_of, write_number, write_refusal, written}
 use Rattle.words.proofs.Bytes.{length_bytes_of, put_set}
-use Rattle.lists.proofs.Refusals.{none_left, go_on, stop, passed}
+use Rattle.lists.proofs.Refusals.{none_left, go_on, passed}
 use Rattle.plan.proofs.MarksLaws.{marks_below}
 use Rattle.blockparts.proofs.Parts.{by_refused, laid, zeros_laid, put_laid, entries_length}
 
--- The writer's number, by the tests that led to it.
-module _ (g : Guest) (p n : ℕ) where
-  -- The buffer is short.
-  pub twelve : n < block_size → 12 ≡ write_number g p n
-  unfolding write_number
-  twelve h = sym (stop 12 _ (lt-leb block_size n h))
-
-  module _ (h : block_size ≤ n) where
-    -- The place is above 7.
-    pub three : last_place < p → 3 ≡ write_number g p n
-    unfolding write_number
-    three l = sym (go_on 12 _ (le-leb block_size n h) ∙ stop 3 _ (lt-leb p last_place l))
-
-    module _ (l : p ≤ last_place) where
-      -- The head is out of range.
-      pub four : guest_ok g ≡ false → 4 ≡ write_number g p n
-      unfolding write_number
-      four e = sym (go_on 12 _ (le-leb block_size n h) ∙ go_on 3 _ (le-leb p last_place l) ∙ stop 4 _ e)
-
-      module _ (o : guest_ok g ≡ true) where
-        -- A task is out of range.
-        pub six : tasks_ok g ≡ false → 6 ≡ write_number g p n
-        unfolding write_number
-        six e = sym (go_on 12 _ (le-leb block_size n h) ∙ go_on 3 _ (le-leb p last_place l) ∙ go_on 4 _ o ∙ stop 6 _ e)
-
-        module _ (t : tasks_ok g ≡ true) where
-          -- The guest is Deferrable.
-          pub twenty_three : is_periodic g ≡ false → 23 ≡ write_number g p n
-          unfolding write_number
-          twenty_three e =
-              sym
-              (go_on 12 _ (le-leb block_size n h) ∙ go_on 3 _ (le-leb p last_place l) ∙ go_on 4 _ o ∙ go_on 6 _ t
-              ∙ stop 23 _ e)
-
-          -- Nothing is refused.
-          pub none : is_periodic g ≡ true → 0 ≡ write_number g p n
-          unfolding write_number
-          none e =
-              sym
-              (go_on 12 _ (le-leb block_size n h) ∙ go_on 3 _ (le-leb p last_place l) ∙ go_on 4 _ o ∙ go_on 6 _ t
-              ∙ go_on 23 _ e ∙ none_left)
+-- A record that passes every test is refused by no number.
+pub none : (g : Guest) (p n : ℕ) → block_size ≤ n → p ≤ last_place → guest_ok g ≡ true → tasks_ok g ≡ true
+    → is_periodic g ≡ true → 0 ≡ write_number g p n
+unfolding write_number
+none g p n h l o t e =
+    sym
+    (go_on 12 _ (le-leb block_size n h) ∙ go_on 3 _ (le-leb p last_place l) ∙ go_on 4 _ o ∙ go_on 6 _ t ∙ go_on 23 _ e
+    ∙ none_left)
 
 -- A record that the writer does not refuse is a Periodic guest's in its ranges, and there is room for its block.
 pub record WriteIn (g : Guest) (p n : ℕ) : Type 0 where
@@ -109,19 +76,6 @@ live_fits marks n h = half_fits (marks_of marks n) n h (marks_below marks n)
 abbrev with_opening : List ℕ → (marks server place : ℕ) → List ℕ
 with_opening b marks server place =
     with_word (with_word b kind_place_word (halves (kind_for marks server) place)) marks_server_word (halves marks server)
-
--- Kind and place of a Periodic guest put in, then its marks.
-pub kind_puts :
-    (n m k p : ℕ) (b b0 b1 : List ℕ)
-    → m ≡ n
-    → k ≡ kind_for m 0
-    → b0 ≡ with_word b kind_place_word (halves k p)
-    → b1 ≡ with_word b0 marks_server_word m
-    → b1 ≡ with_opening b n 0 p
-kind_puts n m k p b b0 b1 e c e0 e1 =
-    let d : k ≡ kind_for n 0 = c ∙ ap (λ (x : ℕ). kind_for x 0) e in
-    let h : m ≡ halves n 0 = omega arith in
-    e1 ∙ rw (e0, d, h) refl
 
 -- Kind, place, marks and server put into them.
 kind_laid : (m s p : ℕ) (x t : List ℕ) → length x ≡ block_words

@@ -15,20 +15,19 @@ pub use writer::put_block; // Inner: the converter writes blocks of guests that 
 fn with_place(number: u32, place: u32) -> Refusal
     ensures { result ≡ with_place number place }
 {
-    if (2 <= number) & (number <= 6) {
+    if (2..=6).contains(&number) {
         return Refusal { number, place };
     }
     Refusal { number, place: 0 }
 }
 
 // Writes the guest's block at its place to the first 512 bytes of the buffer; a refusal writes nothing.
-pub fn write(guest: Guest, place: u32, buf: &mut [u8]) -> Refusal
+pub fn write(guest: Guest, place: u32, buf: &mut [u8]) -> Result<(), Refusal>
     ensures { Writes guest place buf.old result buf.new }
 {
-    let number = writer::write_number(guest, place, buf.len());
-    if 0 < number {
-        return with_place(number, place);
+    if let Err(number) = writer::write_number(&guest, place, buf.len()) {
+        return Err(with_place(number, place));
     }
-    writer::put_block(guest, place, buf);
-    with_place(0, place)
+    writer::put_block(&guest, place, buf);
+    Ok(())
 }

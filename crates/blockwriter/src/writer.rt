@@ -1,6 +1,7 @@
 // A block written: the record tested, and its words put straight into the lent buffer.
 ghost use Rattle.std.specs.Prelude.{◌≡◌, ◌++◌, ◌≤◌, length, replicate, drop};
 ghost use Rattle.lists.specs.Places.{nth};
+ghost use Rattle.lists.specs.Refusals.{unless_number};
 ghost use Rattle.words.specs.Bytes.{with_word, bytes_of};
 ghost use Rattle.plan.specs.Marks.{marks_of};
 ghost use Rattle.plan.specs.Ranges.{most_tasks};
@@ -10,30 +11,28 @@ ghost use Rattle.blockwriter.specs.Writing.{kind_for, with_head, words_of, block
 use block::layout;
 use plan::Guest;
 
-// The number that the writer refuses by, 0 for none, for a buffer of so many bytes.
-pub fn write_number(g: Guest, place: u32, size: usize) -> u32
-    ensures { result ≡ write_number g place size }
+// Whether the writer writes the guest there into a buffer of so many bytes, or else the number that refuses it.
+#[tactic(auto, unfolding(crate::specs::Writing::write_number, plan::specs::Ranges::tasks_ok, lists::specs::Refusals::refusal, lists::specs::Refusals::unless))]
+pub fn write_number(g: &Guest, place: u32, size: usize) -> Result<(), u32>
+    ensures { result ≡ unless_number (write_number g.now place size) tt }
 {
     if size < layout::SIZE {
-        return 12;
+        return Err(12);
     }
-    if layout::LAST_PLACE < place {
-        return 3;
+    if place > layout::LAST_PLACE {
+        return Err(3);
     }
     if !plan::head_ok(g.id, g.capacity, g.period, g.tasks) {
-        return 4;
+        return Err(4);
     }
-    let run = g.run;
-    let every = g.every;
-    let deadline = g.deadline;
     let n = g.tasks as usize;
-    if !plan::tasks_ok(g.marks, g.period, &run, &every, &deadline, n) {
-        return 6;
+    if !plan::tasks_ok(g.marks, g.period, &g.run, &g.every, &g.deadline, n) {
+        return Err(6);
     }
-    if 0 < g.deferrable {
-        return 23;
+    if g.deferrable > 0 {
+        return Err(23);
     }
-    0
+    Ok(())
 }
 
 // The kind that a Periodic guest with these marks is written in.
@@ -62,13 +61,13 @@ fn put_kind(buf: &mut [u8], marks: u16, tasks: u32, place: u32)
 }
 
 // The first 512 bytes set to zero, and the words of a Periodic guest's head put in.
-fn put_head(g: Guest, place: u32, buf: &mut [u8])
+fn put_head(g: &Guest, place: u32, buf: &mut [u8])
     requires { (block_size ≤ length buf.old)
-        × ((place ≤ last_place) × ((g.tasks ≤ most_tasks) × (g.deferrable ≡ 0))) }
+        × ((place ≤ last_place) × ((g.now.tasks ≤ most_tasks) × (g.now.deferrable ≡ 0))) }
     ensures { buf.new
-        ≡ bytes_of (nth (with_head g place (replicate block_words 0))) block_words ++ drop block_size buf.old }
+        ≡ bytes_of (nth (with_head g.now place (replicate block_words 0))) block_words ++ drop block_size buf.old }
 {
-    let tasks_charge = g.tasks + layout::HALF * (g.charge as u32);
+    let tasks_charge = g.tasks + layout::HALF * u32::from(g.charge);
     words::put_zeros(buf, layout::SIZE);
     put_kind(buf, g.marks, g.tasks, place);
     words::put_word(buf, layout::ID, g.id);
@@ -78,28 +77,22 @@ fn put_head(g: Guest, place: u32, buf: &mut [u8])
 }
 
 // The head and the guest's entries put in: the block's words but for the check.
-fn put_entries(g: Guest, place: u32, buf: &mut [u8])
+fn put_entries(g: &Guest, place: u32, buf: &mut [u8])
     requires { (block_size ≤ length buf.old)
-        × ((place ≤ last_place) × ((g.tasks ≤ most_tasks) × (g.deferrable ≡ 0))) }
-    ensures { buf.new ≡ bytes_of (nth (words_of g place)) block_words ++ drop block_size buf.old }
+        × ((place ≤ last_place) × ((g.now.tasks ≤ most_tasks) × (g.now.deferrable ≡ 0))) }
+    ensures { buf.new ≡ bytes_of (nth (words_of g.now place)) block_words ++ drop block_size buf.old }
 {
     put_head(g, place, buf);
-    let run = g.run;
-    let every = g.every;
-    let deadline = g.deadline;
-    let n = g.tasks as usize;
-    let mut i: usize = 0;
-    while i < n {
-        blockparts::put_entry(buf, layout::RUN, i, run[i], every[i], deadline[i]);
-        i += 1;
+    for i in 0..g.tasks as usize {
+        blockparts::put_entry(buf, layout::RUN, i, g.run[i], g.every[i], g.deadline[i]);
     }
 }
 
 // The block of a Periodic guest put into the first 512 bytes.
-pub fn put_block(g: Guest, place: u32, buf: &mut [u8])
+pub fn put_block(g: &Guest, place: u32, buf: &mut [u8])
     requires { (block_size ≤ length buf.old)
-        × ((place ≤ last_place) × ((g.tasks ≤ most_tasks) × (g.deferrable ≡ 0))) }
-    ensures { buf.new ≡ block_of g place ++ drop block_size buf.old }
+        × ((place ≤ last_place) × ((g.now.tasks ≤ most_tasks) × (g.now.deferrable ≡ 0))) }
+    ensures { buf.new ≡ block_of g.now place ++ drop block_size buf.old }
 {
     put_entries(g, place, buf);
     blockparts::put_check(buf);

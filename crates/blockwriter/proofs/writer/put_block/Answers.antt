@@ -12,5 +12,5 @@ unfolding block_of
 returns c =
     let a = c.args in
     c.put_check.ensures
-    ∙ check_laid (words_of a.g a.place) _ (drop block_size a.buf.now) (words_length a.g a.place)
+    ∙ check_laid (words_of a.g.now a.place) _ (drop block_size a.buf.now) (words_length a.g.now a.place)
     c.put_entries.ensures
