@@ -22,7 +22,7 @@ use Rattle.arrays.specs.Place.{place_at}
 use Rattle.dispatcher.specs.State.{guest_in, rest_at}
 use Rattle.dispatcher.specs.Tick.{holder, is_held, worker, is_worked, age_after}
 use Rattle.dispatcher.specs.Answer.{answer_by, answer, finishes}
-use Rattle.dispatcher.specs.Lent.{turn_by, turn, Telling, Ending}
+use Rattle.dispatcher.specs.Lent.{turn_by, turn, Telling, Ending, Fits}
 use Rattle.arrays.specs.Parts.{grown, has_run}
 use Rattle.lists.proofs.All.{and_right}
 use Rattle.lists.proofs.Places.{up_to_at, up_to_length}
@@ -148,13 +148,6 @@ module _ (d : Dispatcher) {t : Turn} (e : t ≡ turn d) where
       go true w = rw guest_is (ltb-true (holder d) d.plan.count w)
       go false w = let r : t.had ≡ 0 = ap (λ (x : Turn). x.had) e ∙ rw w refl in absurd (omega arith)
 
--- places and numbers of a finished job are small
-pub record Fits (p : Plan) (t : Turn) (age : List ℕ) : Type 0 where
-  pub guest : t.guest < 8
-  pub task : t.task < 16
-  pub deadline : deadline_of (guest_at p.guests t.guest) t.task ≤ longest
-  pub ages : nth age (place_at t.guest t.task) ≤ longest
-
 -- The places and numbers of a finished job are small.
 pub fits : {d : Dispatcher} {p : Plan} {t : Turn} {age : List ℕ} → Ending d p t age → Fits p t age
 fits {d} {p} {t} {age} s =
@@ -172,10 +165,6 @@ pub task_small : {d : Dispatcher} {ids : List ℕ} {n : ℕ} {t : Turn} → Tell
 task_small {d} {ids} {n} {t} s l =
     let h = worked_held d s.had l in
     omega (arith, ((plan_in d.plan s.sound).guests t.guest h).head.few, task_in d s.had h l)
-
--- The guest that has the tick is one of 8.
-pub guest_small : {d : Dispatcher} {ids : List ℕ} {n : ℕ} {t : Turn} → Telling d ids n t → t.guest < n → t.guest < 8
-guest_small {d} s h = omega (arith, (plan_in d.plan s.sound).few, s.count)
 
 -- The answer of a tick that finishes a job is made from what was noted.
 pub tell_finished : {d : Dispatcher} {p : Plan} {t : Turn} {age : List ℕ} → Ending d p t age → (z : ℤ)

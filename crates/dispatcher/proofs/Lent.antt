@@ -193,11 +193,11 @@ module _ {d after : Dispatcher} {t : Turn} (p : (plan_refusal after.plan).number
   plan_kept = sym (ap (λ (x : Dispatcher). x.plan) s.state)
 
   -- What a tick that finished no job leaves is enough to tell its answer.
-  pub telling : {c : Columns} → ColumnsOf after.plan.guests after.plan.count c → (t.had ≡ 1 → ⊥) → Telling d c.ids after.plan.count t
-  telling u m = record {
+  pub telling : {c : Columns} {n : ℕ} → n ≡ after.plan.count → ColumnsOf after.plan.guests after.plan.count c → (t.had ≡ 1 → ⊥) → Telling d c.ids n t
+  telling e u m = record {
     sound = rw plan_kept p;
-    count = ap (λ (x : Plan). x.count) plan_kept;
-    id = λ k h. u.ids.holds k h ∙ ap (λ (x : Plan). (guest_at x.guests k).id) (sym plan_kept);
+    count = ap (λ (x : Plan). x.count) plan_kept ∙ sym e;
+    id = λ k h. u.ids.holds k (omega arith) ∙ ap (λ (x : Plan). (guest_at x.guests k).id) (sym plan_kept);
     had = s.had;
     more = m;
   }

@@ -1,7 +1,7 @@
 -- How the check over lent arrays comes to refusal 14's test. Assumes nothing.
 use mathlib.Core.Path.{◌≡◌, refl, ap, sym, ◌∙◌}
 use mathlib.Core.Bool.{Bool, true, false, ◌&&◌, and_assoc}
-use mathlib.Core.List.{List, []}
+use mathlib.Core.List.{[]}
 use Prim.Native.Nat.{ℕ, ◌≤◌, ◌<◌}
 use native.Mathlib.Decide.{dec_le, dec_lt}
 use native.Mathlib.Omega.{arith}
@@ -9,7 +9,6 @@ use lib.Dec.{leb}
 use borrow.Author.Tests.{lt-ltb, le-ltb, le-leb, lt-leb, eq-eqb}
 use Rattle.lists.specs.Places.{nth}
 use Rattle.lists.specs.All.{all_to}
-use Rattle.plan.specs.declared.Plan.{Plan}
 use Rattle.plan.specs.declared.Refusal.{Refusal}
 use Rattle.plan.specs.Ranges.{tasks_ok}
 use Rattle.plan.specs.First.{refused}
@@ -17,13 +16,13 @@ use Rattle.plan.specs.Server.{is_periodic}
 use Rattle.plan.specs.Order.{new_id, number_of, guest_number, plan_refusal}
 use Rattle.plan.specs.Periodic.{start_refusal}
 use Rattle.arrays.specs.Ranges.{server_ok, no_server}
-use Rattle.refusals.specs.declared.Checked.{Checked}
+use Rattle.plan.specs.declared.Columns.{Columns}
+use Rattle.std.specs.Prelude.{Option, Some, None}
 use Rattle.refusals.specs.Rows.{job_in, blank_at, guest_is_ok, row_is_blank}
 use Rattle.refusals.specs.Check.{goes, past_ok, passes, Examined}
 use Rattle.dispatcher.specs.declared.Dispatcher.{Dispatcher}
 use Rattle.dispatcher.specs.State.{guest_in}
 use Rattle.dispatcher.specs.Valid.{tasks_in, guest_in_range, task_in_range, row_ok, state_ok}
-use Rattle.dispatcher.specs.Lent.{state_of}
 use Rattle.dispatcher.specs.LentCheck.{Examines}
 use Rattle.lists.proofs.All.{and_left, and_right, and_true, and_false_left, and_false_right, all_by, all_at, all_ext}
 use Rattle.lists.proofs.Refusals.{passed}
@@ -187,8 +186,6 @@ passes_is d =
     ]
 
 -- The check over lent arrays examines the state, wherever its ticks went.
-pub examines : {p : Plan} {left position rest wait age : List ℕ} {r : Checked} → Examined p left position rest wait age r → (usage : List ℕ)
-    → Examines (state_of p left position rest wait age usage) r
-examines {p} {left} {position} {rest} {wait} {age} e usage =
-    let q = passes_is (state_of p left position rest wait age usage) in
-    record { okay = e.okay ∙ q; columns = λ t. e.columns (q ∙ t) }
+pub examines : (d : Dispatcher) (r : Option Columns) → Examined d.plan d.left d.position d.rest d.wait d.age r → Examines d r
+examines d None e = sym (passes_is d) ∙ e
+examines d (Some c) e = record { okay = sym (passes_is d) ∙ e.okay; columns = e.columns }

@@ -19,7 +19,9 @@ use Rattle.dispatcher.specs.Answer.{answer, finishes}
 use Rattle.dispatcher.specs.Run.{ran_to, run_from, run_for}
 use Rattle.dispatcher.specs.Lent.{state_of, Quiet, Stepped, last_by, Gone}
 use Rattle.dispatcher.proofs.Answers.{finishes_done, finishes_more}
-use Rattle.dispatcher.proofs.Lent.{stepped, quiet_kept}
+use Rattle.dispatcher.specs.LentCheck.{InRange}
+use Rattle.dispatcher.proofs.Valid.{ok_plan}
+use Rattle.dispatcher.proofs.Lent.{small_tasks, quiet, stepped, quiet_kept}
 
 -- One tick more, by whether it finishes a job.
 run_more : (n done : ℕ) (last : Answer) (d : Dispatcher) → done < n
@@ -103,5 +105,10 @@ module _ {p : Plan} {n : ℕ} {c : Columns} (counts : p.count ≡ n) (u : Column
       ]
 
   -- The steps over lent arrays are a run.
-  pub gone : {a : Numbers} {r : Went} → StepsOn n c.capacities c.periods c.tasks b a ticks r → Gone (state_with p b) ticks r.done r.turn (state_with p a)
+  gone : {a : Numbers} {r : Went} → StepsOn n c.capacities c.periods c.tasks b a ticks r → Gone (state_with p b) ticks r.done r.turn (state_with p a)
   gone s = gone_by s.steps s.most s.over
+
+-- The steps over the arrays of a state in its ranges are a run of it.
+pub gone_in : {p : Plan} {c : Columns} {b a : Numbers} {ticks : ℕ} {r : Went} → InRange (state_with p b) c
+    → StepsOn p.count c.capacities c.periods c.tasks b a ticks r → Gone (state_with p b) ticks r.done r.turn (state_with p a)
+gone_in x s = gone refl x.columns (small_tasks (ok_plan _ x.okay) x.columns) _ (quiet _ x.okay) s

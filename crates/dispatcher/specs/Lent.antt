@@ -5,6 +5,9 @@ use Rattle.lists.specs.Choice.{pick}
 use Rattle.lists.specs.Places.{nth}
 use Rattle.plan.specs.declared.Plan.{Plan}
 use Rattle.plan.specs.Order.{plan_refusal}
+use Rattle.plan.specs.Ranges.{longest}
+use Rattle.plan.specs.Records.{guest_at, deadline_of}
+use Rattle.arrays.specs.Place.{place_at}
 use Rattle.steps.specs.declared.Turn.{Turn}
 use Rattle.dispatcher.specs.declared.Dispatcher.{Dispatcher}
 use Rattle.dispatcher.specs.declared.Answer.{Answer}
@@ -67,6 +70,13 @@ pub record Ending (d : Dispatcher) (p : Plan) (t : Turn) (age : List ℕ) : Type
   pub had : t ≡ turn d
   pub ages : age ≡ age_after d
   pub last : t.had ≡ 1
+
+-- places and numbers of a finished job are small
+pub record Fits (p : Plan) (t : Turn) (age : List ℕ) : Type 0 where
+  pub guest : t.guest < 8
+  pub task : t.task < 16
+  pub deadline : deadline_of (guest_at p.guests t.guest) t.task ≤ longest
+  pub ages : nth age (place_at t.guest t.task) ≤ longest
 
 -- the last tick's answer, by the number done and the state before that tick; no answer where none was done
 unfoldable pub last_by : ℕ → Dispatcher → Answer

@@ -9,3 +9,4 @@ pub mod Lent
 pub mod LentCheck
 pub mod Entries
 pub mod Promises
+pub mod InPlace

@@ -43,10 +43,10 @@ pub enum Answer {
     },
 }
 
-// What a run over lent arrays gives beside them.
+// What a run over lent arrays gives beside them, where it is not refused: how many ticks were done, and the last one's
+// answer.
 #[derive(Clone, Copy)]
 pub struct RunOutcome {
-    pub number: u32,
     pub done: u32,
     pub answer: Answer,
 }

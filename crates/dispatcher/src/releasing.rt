@@ -1,20 +1,17 @@
 // A release: its refusals in order, then the task's run left, wait and age set.
 ghost use Rattle.std.specs.Prelude.{List, ℕ};
-ghost use Rattle.plan.specs.First.{refused};
-ghost use Rattle.rows.specs.Words.{plan_of};
+ghost use Rattle.dispatcher.specs.InPlace.{released_in};
 ghost use Rattle.dispatcher.specs.Lent.{state_of};
 ghost use Rattle.dispatcher.specs.Promises.{Releases};
 
 use crate::{Dispatcher, Released};
-use plan::Refusal;
-use refusals::aim_by_id;
-use rows::rows_of;
+use plan::{AsPlan, Refusal};
+use refusals::{Lent, aim_by_id};
 
-// A release in place, over a state that is lent, its plan as rows: the number that refuses it, or 0. Where it is refused
-// the state comes back as it was, whatever the usage, which is not looked at.
-pub fn release_in(
-    count: u32,
-    rows: &[[u32; 54]; 8],
+// A release in place, over a state that is lent beside its plan. Where a number refuses it the state comes back as it
+// was, whatever the usage, which is not looked at.
+pub fn release_in<P: AsPlan>(
+    plan: &P,
     left: &[u32; 8],
     position: &[u32; 8],
     rest: &mut [u32; 128],
@@ -22,54 +19,45 @@ pub fn release_in(
     age: &mut [u32; 128],
     guest: u32,
     task: u32,
-) -> u32
+) -> Result<(), u32>
     ensures { (usage : List ℕ)
         → Releases
-        (state_of (plan_of count rows.now) left.now position.now rest.old
+        (state_of (P.plan plan.now) left.now position.now rest.old
         wait.old age.old usage)
         guest task
-        (record {
-          refusal = refused result 0;
-          state =
-              state_of (plan_of count rows.now) left.now position.now rest.new
-              wait.new age.new usage;
-        }) }
+        (released_in result
+        (state_of (P.plan plan.now) left.now position.now rest.new
+        wait.new age.new usage)) }
 {
-    let target = aim_by_id(count, rows, left, position, rest, wait, age, guest, task);
-    let number = target.number;
-    if number < 1 {
-        let at = target.at;
-        rest[at] = target.run;
-        wait[at] = target.every;
-        age[at] = 0;
-    }
-    number
+    let lent = Lent {
+        left,
+        position,
+        rest,
+        wait,
+        age,
+    };
+    let aim = aim_by_id(plan, &lent, guest, task)?;
+    rest[aim.at] = aim.run;
+    wait[aim.at] = aim.every;
+    age[aim.at] = 0;
+    Ok(())
 }
 
 impl Dispatcher {
     pub fn release(mut self, guest: u32, task: u32) -> Released
         ensures { Releases self guest task result }
     {
-        let left = self.left;
-        let position = self.position;
-        let mut rest = self.rest;
-        let mut wait = self.wait;
-        let mut age = self.age;
-        let rows = rows_of(self.plan);
-        let number = release_in(
-            self.plan.count,
-            &rows,
-            &left,
-            &position,
-            &mut rest,
-            &mut wait,
-            &mut age,
+        let refused = release_in(
+            &self.plan,
+            &self.left,
+            &self.position,
+            &mut self.rest,
+            &mut self.wait,
+            &mut self.age,
             guest,
             task,
         );
-        self.rest = rest;
-        self.wait = wait;
-        self.age = age;
+        let number = refused.err().unwrap_or(0);
         Released {
             refusal: Refusal { number, place: 0 },
             state: self,

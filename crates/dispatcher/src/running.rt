@@ -1,36 +1,20 @@
 // A run of ticks: its checks once, then steps over the state's arrays.
-ghost use Rattle.std.specs.Prelude.{◌≡◌};
-ghost use Rattle.plan.specs.First.{refused};
-ghost use Rattle.rows.specs.Words.{plan_of};
-ghost use Rattle.dispatcher.specs.declared.Answer.TheVariants.{Silent};
+ghost use Rattle.dispatcher.specs.InPlace.{ran_in};
 ghost use Rattle.dispatcher.specs.Lent.{state_of};
 ghost use Rattle.dispatcher.specs.Promises.{Runs};
 
 use crate::answering::{finished, unfinished};
 use crate::{Answer, Dispatcher, Ran, RunOutcome};
-use plan::Refusal;
-use refusals::examine;
-use rows::rows_of;
+use plan::{AsPlan, Refusal};
+use refusals::{Lent, examine};
 use steps::steps;
 
 // The longest run, in ticks.
 const LONGEST_RUN: u32 = 1000000;
 
-// A run that did no tick, refused by a number or not.
-fn unmoved(number: u32) -> RunOutcome
-    ensures { result ≡ record { number = number; done = 0; answer = Silent } }
-{
-    RunOutcome {
-        number,
-        done: 0,
-        answer: Answer::Silent,
-    }
-}
-
-// A run in place, over a state that is lent, its plan as rows: where it is refused the state comes back as it was.
-pub fn run_in(
-    count: u32,
-    rows: &[[u32; 54]; 8],
+// A run in place, over a state that is lent beside its plan: where it is refused the state comes back as it was.
+pub fn run_in<P: AsPlan>(
+    plan: &P,
     left: &mut [u32; 8],
     position: &mut [u32; 8],
     rest: &mut [u32; 128],
@@ -38,101 +22,78 @@ pub fn run_in(
     age: &mut [u32; 128],
     usage: &mut [u64; 17],
     ticks: u32,
-) -> RunOutcome
-    ensures { Runs (state_of (plan_of count rows.now) left.old position.old rest.old
+) -> Result<RunOutcome, u32>
+    ensures { Runs
+        (state_of (P.plan plan.now) left.old position.old rest.old
         wait.old age.old usage.old)
         ticks
-        (record {
-          refusal = refused result.number 0;
-          done = result.done;
-          answer = result.answer;
-          state =
-              state_of (plan_of count rows.now) left.new position.new rest.new
-              wait.new age.new usage.new;
-        }) }
+        (ran_in result
+        (state_of (P.plan plan.now) left.new position.new rest.new
+        wait.new age.new usage.new)) }
 {
-    let found = examine(count, rows, left, position, rest, wait, age);
-    if !found.ok {
-        return unmoved(14);
-    }
-    if LONGEST_RUN < ticks {
-        return unmoved(13);
-    }
-    let columns = found.columns;
-    let ids = columns.ids;
-    let capacities = columns.capacities;
-    let periods = columns.periods;
-    let tasks = columns.tasks;
-    let n = count as usize;
-    let went = steps(
+    let lent = Lent {
         left,
         position,
         rest,
         wait,
         age,
-        usage,
-        &capacities,
-        &periods,
-        &tasks,
-        n,
-        ticks,
-    );
-    let done = went.done;
-    let turn = went.turn;
-    if done < 1 {
-        return unmoved(0);
+    };
+    let Some(columns) = examine(plan, &lent) else {
+        return Err(14);
+    };
+    if LONGEST_RUN < ticks {
+        return Err(13);
     }
-    if turn.had == 1 {
-        return RunOutcome {
-            number: 0,
-            done,
-            answer: finished(rows, turn, age),
-        };
+    let n = plan.count() as usize;
+    let went = steps(left, position, rest, wait, age, usage, &columns, n, ticks);
+    if went.done < 1 {
+        return Ok(RunOutcome {
+            done: 0,
+            answer: Answer::Silent,
+        });
     }
-    RunOutcome {
-        number: 0,
-        done,
-        answer: unfinished(&ids, n, turn),
+    if went.turn.had == 1 {
+        return Ok(RunOutcome {
+            done: went.done,
+            answer: finished(plan, went.turn, age),
+        });
     }
+    Ok(RunOutcome {
+        done: went.done,
+        answer: unfinished(&columns.ids, n, went.turn),
+    })
 }
 
 impl Dispatcher {
     pub fn run(mut self, ticks: u32) -> Ran
         ensures { Runs self ticks result }
     {
-        let mut left = self.left;
-        let mut position = self.position;
-        let mut rest = self.rest;
-        let mut wait = self.wait;
-        let mut age = self.age;
-        let mut usage = self.usage;
-        let rows = rows_of(self.plan);
-        let r = run_in(
-            self.plan.count,
-            &rows,
-            &mut left,
-            &mut position,
-            &mut rest,
-            &mut wait,
-            &mut age,
-            &mut usage,
+        let ran = run_in(
+            &self.plan,
+            &mut self.left,
+            &mut self.position,
+            &mut self.rest,
+            &mut self.wait,
+            &mut self.age,
+            &mut self.usage,
             ticks,
         );
-        self.left = left;
-        self.position = position;
-        self.rest = rest;
-        self.wait = wait;
-        self.age = age;
-        self.usage = usage;
-        let answer = r.answer;
-        Ran {
-            refusal: Refusal {
-                number: r.number,
-                place: 0,
+        match ran {
+            Ok(outcome) => Ran {
+                refusal: Refusal {
+                    number: 0,
+                    place: 0,
+                },
+                done: outcome.done,
+                answer: outcome.answer,
+                state: self,
             },
-            done: r.done,
-            answer,
-            state: self,
+            Err(number) => Ran {
+                refusal: Refusal { number, place: 0 },
+                done: 0,
+                answer: Answer::Silent,
+                state: self,
+            },
         }
     }
 }

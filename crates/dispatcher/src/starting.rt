@@ -1,15 +1,15 @@
 // Fresh start: the records' order, then 23, then a state with nothing in it.
 ghost use Rattle.std.specs.Prelude.{◌≡◌};
 ghost use Rattle.dispatcher.specs.Fresh.{idle};
+ghost use Rattle.dispatcher.specs.InPlace.{refusal_of};
 ghost use Rattle.dispatcher.specs.Lent.{state_of};
 ghost use Rattle.dispatcher.specs.Promises.{Starts, StartsIn};
-ghost use Rattle.rows.specs.Words.{plan_of};
 
 use crate::{Dispatcher, Started};
-use plan::{Plan, Refusal};
-use rows::{rows_of, start_refusal};
+use plan::{AsPlan, Plan, Refusal, start_check};
 
 // No job, no wait and no age in any of the 128 places, all positions 0, no capacity left, no tick counted.
+#[tactic(auto, unfolding(crate::specs::Fresh::idle))]
 fn idle_of(plan: Plan) -> Dispatcher
     ensures { result ≡ idle plan }
 {
@@ -24,53 +24,49 @@ fn idle_of(plan: Plan) -> Dispatcher
     }
 }
 
-// A fresh start in place, over a state that is lent, its plan as rows: where it is refused the state comes back as it was.
-pub fn start_in(
-    count: u32,
-    rows: &[[u32; 54]; 8],
+// A fresh start in place, over a state that is lent beside its plan: where it is refused the state comes back as it was.
+pub fn start_in<P: AsPlan>(
+    plan: &P,
     left: &mut [u32; 8],
     position: &mut [u32; 8],
     rest: &mut [u32; 128],
     wait: &mut [u32; 128],
     age: &mut [u32; 128],
     usage: &mut [u64; 17],
-) -> Refusal
+) -> Result<(), Refusal>
     ensures { StartsIn
-        (state_of (plan_of count rows.now) left.old position.old rest.old
+        (state_of (P.plan plan.now) left.old position.old rest.old
         wait.old age.old usage.old)
-        result
-        (state_of (plan_of count rows.now) left.new position.new rest.new
+        (refusal_of result)
+        (state_of (P.plan plan.now) left.new position.new rest.new
         wait.new age.new usage.new) }
 {
-    let refusal = start_refusal(count, rows);
-    if refusal.number < 1 {
-        *left = [0; 8];
-        *position = [0; 8];
-        *rest = [0; 128];
-        *wait = [0; 128];
-        *age = [0; 128];
-        *usage = [0; 17];
-    }
-    refusal
+    start_check(plan)?;
+    *left = [0; 8];
+    *position = [0; 8];
+    *rest = [0; 128];
+    *wait = [0; 128];
+    *age = [0; 128];
+    *usage = [0; 17];
+    Ok(())
 }
 
 impl Dispatcher {
     pub fn fresh(plan: Plan) -> Started
         ensures { Starts plan result }
     {
-        let rows = rows_of(plan);
-        let refusal = start_refusal(plan.count, &rows);
-        let number = refusal.number;
-        if 0 < number {
-            let nothing = plan::blank_plan();
-            return Started {
+        match start_check(&plan) {
+            Ok(()) => Started {
+                refusal: Refusal {
+                    number: 0,
+                    place: 0,
+                },
+                state: idle_of(plan),
+            },
+            Err(refusal) => Started {
                 refusal,
-                state: idle_of(nothing),
-            };
-        }
-        Started {
-            refusal,
-            state: idle_of(plan),
+                state: idle_of(plan::blank_plan()),
+            },
         }
     }
 }

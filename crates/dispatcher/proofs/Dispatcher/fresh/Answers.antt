@@ -1,13 +1,9 @@
--- By the records' refusal, off the plan's rows.
-use mathlib.Core.Path.{◌∙◌, ap}
-use Rattle.plan.specs.Periodic.{start_refusal}
-use Rattle.dispatcher.proofs.Fresh.{start_refused, start_fresh}
+-- By the records' refusal.
+use Rattle.dispatcher.proofs.Fresh.{start_fresh, start_refused}
 use Rattle.dispatcher.proofs.Dispatcher.fresh.Goals as goal
 
-pub returns-then-number-gt0 : goal.returns-then-number-gt0
-returns-then-number-gt0 c =
-    start_refused _ (c.start_refusal-refusal.ensures ∙ ap start_refusal c.rows_of-rows.ensures) c.if-number-gt0.true c.blank_plan-nothing.ensures c.idle_of.ensures
+pub returns-in-Ok : goal.returns-in-Ok
+returns-in-Ok c = rw c.idle_of.ensures (start_fresh _ c.in-Ok.ensures)
 
-pub returns : goal.returns
-returns c =
-    start_fresh _ (c.start_refusal-refusal.ensures ∙ ap start_refusal c.rows_of-rows.ensures) c.if-number-gt0.false c.idle_of-2.ensures
+pub returns-in-Err : goal.returns-in-Err
+returns-in-Err c = rw (c.idle_of-in-Err.ensures, c.blank_plan.ensures) (start_refused _ c.in-Err.ensures)

@@ -1,5 +1,8 @@
--- The rows of the state's plan say the plan, and what the release in place gives is put back into the state.
+-- What the release in place gives stands in the state, whose plan and usage are as they were.
+use Rattle.dispatcher.proofs.Release.{told_by_number}
 use Rattle.dispatcher.proofs.Dispatcher.release.Goals as goal
 
 pub returns : goal.returns
-returns c = rw c.rows_of-rows.ensures at (c.release_in-number.ensures c.args.self.usage)
+returns c =
+    rw (c.unwrap_or-number.ensures, c.err.ensures.value)
+    (told_by_number c.release_in-refused.result _ (c.release_in-refused.ensures c.args.self.usage))

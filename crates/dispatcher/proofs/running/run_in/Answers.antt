@@ -1,76 +1,90 @@
 -- By the refusals in order, then by what the steps did: no tick, a last tick that finished a job, or one that did not.
-use mathlib.Core.Path.{refl, sym, ◌∙◌}
-use borrow.Author.Tests.{not-true, not-false}
-use Rattle.rows.specs.Words.{plan_of}
-use Rattle.dispatcher.specs.Lent.{state_of}
+use Rattle.std.specs.Prelude.{Some, None}
+use Rattle.dispatcher.specs.declared.Dispatcher.{Dispatcher}
+use Rattle.dispatcher.specs.Lent.{state_of, Gone}
+use Rattle.dispatcher.specs.LentCheck.{InRange}
 use Rattle.dispatcher.proofs.Valid.{ok_plan}
 use Rattle.dispatcher.proofs.LentCheck.{examines}
-use Rattle.dispatcher.proofs.Lent.{small_tasks, quiet, telling, ending}
-use Rattle.dispatcher.proofs.Run.{gone}
+use Rattle.dispatcher.proofs.Answers.{fits, task_small}
+use Rattle.dispatcher.proofs.Lent.{small_tasks, telling, ending}
+use Rattle.dispatcher.proofs.Run.{gone_in}
 use Rattle.dispatcher.proofs.Entries.{run_refused, run_long, run_idle, run_done}
+use Rattle.dispatcher.proofs.running.run_in.Given.{Over}
+use Rattle.dispatcher.proofs.running.run_in.Goals.{In-Some, After-steps-went}
 use Rattle.dispatcher.proofs.running.run_in.Goals as goal
 
-pub returns-then-not-found : goal.returns-then-not-found
-returns-then-not-found c =
-    rw c.unmoved.ensures
-    (run_refused _ _ (sym (examines c.examine-found.ensures _).okay ∙ not-true _ c.if-not-found.true))
+-- the state that is lent, which is in its ranges
+abbrev lent : (g : Over) → In-Some g → Dispatcher
+lent g c =
+    let a = c.args in
+    state_of (g.P.AsPlan.plan a.plan.now) a.left.now a.position.now a.rest.now a.wait.now a.age.now a.usage.now
+
+in_range : (g : Over) (c : In-Some g) → InRange (lent g c) c.in-Some.columns
+in_range g c = examines (lent g c) (Some c.in-Some.columns) c.in-Some.ensures
+
+-- the same after the steps, which are a run
+abbrev before : (g : Over) → After-steps-went g → Dispatcher
+before g c =
+    let a = c.args in
+    state_of (g.P.AsPlan.plan a.plan.now) a.left.now a.position.now a.rest.now a.wait.now a.age.now a.usage.now
+
+abbrev after : (g : Over) → After-steps-went g → Dispatcher
+after g c =
+    let n = c.steps-went.new in
+    state_of (g.P.AsPlan.plan c.args.plan.now) n.left n.position n.rest n.wait n.age n.usage
+
+was_in_range : (g : Over) (c : After-steps-went g) → InRange (before g c) c.in-Some.columns
+was_in_range g c = examines (before g c) (Some c.in-Some.columns) c.in-Some.ensures
+
+went : (g : Over) (c : After-steps-went g) → Gone (before g c) c.args.ticks c.steps-went.result.done c.steps-went.result.turn (after g c)
+went g c = gone_in (was_in_range g c) (rw c.count-n.ensures at c.steps-went.ensures)
+
+pub returns-in_default : goal.returns-in_default
+returns-in_default g c = run_refused _ _ (examines _ None c.in_default.ensures)
 
 pub returns-then-ticks-gt-LONGEST_RUN : goal.returns-then-ticks-gt-LONGEST_RUN
-returns-then-ticks-gt-LONGEST_RUN c =
-    rw c.unmoved-then-ticks-gt-LONGEST_RUN.ensures
-    (run_long _ _ (sym (examines c.examine-found.ensures _).okay ∙ not-false _ c.if-not-found.false)
-    c.if-ticks-gt-LONGEST_RUN.true)
+returns-then-ticks-gt-LONGEST_RUN g c =
+    run_long _ _ (in_range g (goal.at.returns-then-ticks-gt-LONGEST_RUN g c).In-Some).okay c.if-ticks-gt-LONGEST_RUN.true
 
 pub steps-went-requires : goal.steps-went-requires
-steps-went-requires c =
-    let a = c.args in
-    let x = examines c.examine-found.ensures a.usage.now in
-    let k = sym x.okay ∙ not-false _ c.if-not-found.false in
-    small_tasks (ok_plan _ k) (x.columns k)
+steps-went-requires g c =
+    let x = in_range g (goal.at.steps-went-requires g c).In-Some in
+    rw c.count-n.ensures (small_tasks (ok_plan _ x.okay) x.columns)
 
-pub returns-then-done-lt1 : goal.returns-then-done-lt1
-returns-then-done-lt1 c =
-    let a = c.args in
-    let x = examines c.examine-found.ensures a.usage.now in
-    let k = sym x.okay ∙ not-false _ c.if-not-found.false in
-    let g = gone refl (x.columns k) (small_tasks (ok_plan _ k) (x.columns k)) _ (quiet _ k) c.steps-went.ensures in
-    rw c.unmoved-then-done-lt1.ensures (run_idle k c.if-ticks-gt-LONGEST_RUN.false g c.if-done-lt1.true)
+pub returns-then-went-lt1 : goal.returns-then-went-lt1
+returns-then-went-lt1 g c =
+    let s = (goal.at.returns-then-went-lt1 g c).After-steps-went in
+    run_idle (was_in_range g s).okay c.if-ticks-gt-LONGEST_RUN.false (went g s) c.if-went-lt1.true
 
 pub finished-requires : goal.finished-requires
-finished-requires c =
-    let a = c.args in
-    let x = examines c.examine-found.ensures a.usage.now in
-    let k = sym x.okay ∙ not-false _ c.if-not-found.false in
-    let d = state_of (plan_of a.count a.rows.now) a.left.now a.position.now a.rest.now a.wait.now a.age.now a.usage.now in
-    let g = gone refl (x.columns k) (small_tasks (ok_plan _ k) (x.columns k)) _ (quiet _ k) c.steps-went.ensures in
-    (g.before, (a.count, ending (ok_plan d k) (g.last c.if-done-lt1.false) c.if-turn-eq1.true))
+finished-requires g c =
+    let s = (goal.at.finished-requires g c).After-steps-went in
+    fits (ending (ok_plan _ (was_in_range g s).okay) ((went g s).last c.if-went-lt1.false) c.if-went-eq1.true)
 
-pub returns-then-turn-eq1 : goal.returns-then-turn-eq1
-returns-then-turn-eq1 c =
-    let a = c.args in
-    let x = examines c.examine-found.ensures a.usage.now in
-    let k = sym x.okay ∙ not-false _ c.if-not-found.false in
-    let d = state_of (plan_of a.count a.rows.now) a.left.now a.position.now a.rest.now a.wait.now a.age.now a.usage.now in
-    let g = gone refl (x.columns k) (small_tasks (ok_plan _ k) (x.columns k)) _ (quiet _ k) c.steps-went.ensures in
-    run_done k c.if-ticks-gt-LONGEST_RUN.false g c.if-done-lt1.false
-    (c.finished.ensures g.before a.count (ending (ok_plan d k) (g.last c.if-done-lt1.false) c.if-turn-eq1.true))
+pub returns-then-went-eq1 : goal.returns-then-went-eq1
+returns-then-went-eq1 g c =
+    let s = (goal.at.returns-then-went-eq1 g c).After-steps-went in
+    let w = went g s in
+    let o = (was_in_range g s).okay in
+    run_done o c.if-ticks-gt-LONGEST_RUN.false w c.if-went-lt1.false
+    (c.finished.ensures w.before (ending (ok_plan _ o) (w.last c.if-went-lt1.false) c.if-went-eq1.true))
 
-pub unfinished-requires : goal.unfinished-requires
-unfinished-requires c =
-    let a = c.args in
-    let x = examines c.examine-found.ensures a.usage.now in
-    let k = sym x.okay ∙ not-false _ c.if-not-found.false in
-    let d = state_of (plan_of a.count a.rows.now) a.left.now a.position.now a.rest.now a.wait.now a.age.now a.usage.now in
-    let g = gone refl (x.columns k) (small_tasks (ok_plan _ k) (x.columns k)) _ (quiet _ k) c.steps-went.ensures in
-    (g.before, telling (ok_plan d k) (g.last c.if-done-lt1.false) (x.columns k) c.if-turn-eq1.false)
+pub unfinished-requires-clause-few : goal.unfinished-requires-clause-few
+unfinished-requires-clause-few g c =
+    let x = was_in_range g (goal.at.unfinished-requires-clause-few g c).After-steps-went in
+    rw c.count-n.ensures (small_tasks (ok_plan _ x.okay) x.columns).guests
+
+pub unfinished-requires-clause-small : goal.unfinished-requires-clause-small
+unfinished-requires-clause-small g c =
+    let s = (goal.at.unfinished-requires-clause-small g c).After-steps-went in
+    let x = was_in_range g s in
+    λ h. task_small (telling (ok_plan _ x.okay) ((went g s).last c.if-went-lt1.false) c.count-n.ensures x.columns c.if-went-eq1.false) h
 
 pub returns : goal.returns
-returns c =
-    let a = c.args in
-    let x = examines c.examine-found.ensures a.usage.now in
-    let k = sym x.okay ∙ not-false _ c.if-not-found.false in
-    let d = state_of (plan_of a.count a.rows.now) a.left.now a.position.now a.rest.now a.wait.now a.age.now a.usage.now in
-    let g = gone refl (x.columns k) (small_tasks (ok_plan _ k) (x.columns k)) _ (quiet _ k) c.steps-went.ensures in
-    run_done k c.if-ticks-gt-LONGEST_RUN.false g c.if-done-lt1.false
-    (c.unfinished.ensures g.before
-    (telling (ok_plan d k) (g.last c.if-done-lt1.false) (x.columns k) c.if-turn-eq1.false))
+returns g c =
+    let s = (goal.at.returns g c).After-steps-went in
+    let w = went g s in
+    let x = was_in_range g s in
+    run_done x.okay c.if-ticks-gt-LONGEST_RUN.false w c.if-went-lt1.false
+    (c.unfinished.ensures w.before
+    (telling (ok_plan _ x.okay) (w.last c.if-went-lt1.false) c.count-n.ensures x.columns c.if-went-eq1.false))

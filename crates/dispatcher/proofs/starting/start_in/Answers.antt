@@ -1,19 +1,14 @@
--- `dispatcher::starting::start_in` meets its contract: what the records' refusals say, and then zeros or nothing. Assumes
--- nothing.
-use mathlib.Core.Path.{ap}
-use native.Mathlib.Omega.{arith}
-use Rattle.plan.specs.declared.Refusal.{Refusal}
+-- What the records' refusal says, and then zeros or nothing.
+use Rattle.std.proofs.lemmas.Result.{err_from_is_err_and}
 use Rattle.dispatcher.specs.Fresh.{idle}
-use Rattle.dispatcher.proofs.Fresh.{started_in_lem, refused_in}
+use Rattle.dispatcher.proofs.Fresh.{start_in_fresh, start_in_refused}
 use Rattle.dispatcher.proofs.starting.start_in.Goals as goal
 
-pub returns-then-refusal-lt1 : goal.returns-then-refusal-lt1
-unfolding idle
-returns-then-refusal-lt1 c =
-    let e = c.start_refusal-refusal.ensures in
-    (e, started_in_lem _ _ (omega (arith, c.if-refusal-lt1.true, ap (λ (r : Refusal). r.number) e)))
+pub returns-in_err-start_check : goal.returns-in_err-start_check
+returns-in_err-start_check g c =
+    let e = err_from_is_err_and c.from_residual.result c.from_residual.ensures.1 in
+    rw (e.1, e.2) (start_in_refused _ c.in_err-start_check.ensures)
 
-pub returns-else-refusal-lt1 : goal.returns-else-refusal-lt1
-returns-else-refusal-lt1 c =
-    let e = c.start_refusal-refusal.ensures in
-    (e, refused_in _ _ (omega (arith, c.if-refusal-lt1.false, ap (λ (r : Refusal). r.number) e)))
+pub returns : goal.returns
+unfolding idle
+returns g c = start_in_fresh _ c.in_ok-start_check.ensures
