@@ -30,24 +30,6 @@ filled_next f {r} k l c = record {
 pub filled_done : (f : ℕ → ℕ) {r : List ℕ} (k n : ℕ) → n ≤ k → Filled r f k → Filled r f n
 filled_done f k n h c = record { long = c.long; holds = λ z l. c.holds z (omega arith) }
 
--- a loop starts: no guest's numbers are written yet
-pub columns_none : (gs : List Guest)
-    → ColumnsOf gs 0 (record {
-      ids = replicate 16 0;
-      capacities = replicate 16 0;
-      periods = replicate 16 0;
-      tasks = replicate 16 0;
-      deferrable = replicate 16 0;
-    })
-columns_none gs =
-    record {
-      ids = filled_none _;
-      capacities = filled_none _;
-      periods = filled_none _;
-      tasks = filled_none _;
-      deferrable = filled_none _;
-    }
-
 -- a loop's turn: one guest's numbers more are written
 pub columns_next : {gs : List Guest} {c : Columns} (k : ℕ) → k < 16 → ColumnsOf gs k c
     → ColumnsOf gs (k + 1) (record {
@@ -75,13 +57,3 @@ pub columns_read : {gs : List Guest} {c : Columns} (k : ℕ) → k < 16 → (g :
       deferrable = set c.deferrable k g.deferrable;
     })
 columns_read k l g e f = rw e (columns_next k l f)
-
--- a loop's end: the columns of k guests are those of the first n of them
-pub columns_done : {gs : List Guest} {c : Columns} (k n : ℕ) → n ≤ k → ColumnsOf gs k c → ColumnsOf gs n c
-columns_done k n h f = record {
-  ids = filled_done _ k n h f.ids;
-  capacities = filled_done _ k n h f.capacities;
-  periods = filled_done _ k n h f.periods;
-  tasks = filled_done _ k n h f.tasks;
-  deferrable = filled_done _ k n h f.deferrable;
-}

@@ -1,6 +1,6 @@
 -- Laws of the first refusal, and of an answer that is a refusal or else what was asked for. Assumes nothing.
 use mathlib.Core.Path.{◌≡◌, refl, sym, ap, ◌∙◌}
-use mathlib.Core.Bool.{Bool, true, false, false≢true, ◌&&◌}
+use mathlib.Core.Bool.{Bool, true, false}
 use mathlib.Core.List.{List, [], ◌∷◌}
 use mathlib.Core.Logic.{⊎_elim}
 use Prim.Native.Nat.{ℕ, zero, suc, ◌+◌, ◌-◌, ◌≤◌, ◌<◌}
@@ -8,13 +8,10 @@ use native.Mathlib.Nat.{eq-or-lt_of_le}
 use native.Mathlib.Numerals.{add-one}
 use native.Mathlib.Omega.{arith}
 use native.Mathlib.Decide.{dec_le}
-use lib.Dec.{ltb}
-use borrow.Author.Tests.{lt-ltb}
 use Rattle.lists.specs.Refusals.{Test, refusal, ◌or_refuse◌}
 use Rattle.plan.specs.declared.Refusal.{Refusal}
 use Rattle.plan.specs.First.{refused, fine, or_else, first_refused, refused_by, refused_or, unless_refused}
 use Rattle.std.specs.Prelude.{Ok, Err}
-use Rattle.lists.proofs.All.{and_true}
 use Rattle.lists.proofs.Refusals.{none_left, go_on, stop}
 
 -- a loop's way out: place k is refused
@@ -48,29 +45,6 @@ pub or_after : (x k : ℕ) (after : Refusal) → x ≤ 0 → after ≡ or_else x
 unfolding or_else
 or_after zero k after h = refl
 or_after (suc n) k after h = absurd (omega arith)
-
--- A loop that keeps the number x of the last place that it looked at, k - 1, and ends after one that is refused.
-module _ (f : ℕ → ℕ) (n k x : ℕ) {r : Refusal} (e : or_else x (k - 1) (first_refused f (n - k) k) ≡ r) where
-  -- its turn: place k has the number y
-  pub kept_next : (y : ℕ) → k < n → x ≤ 0 → y ≡ f k
-      → or_else y (k + 1 - 1) (first_refused f (n - (k + 1)) (k + 1)) ≡ r
-  unfolding first_refused
-  kept_next y h l q =
-      let m : n - k ≡ suc (n - (k + 1)) = omega arith in
-      let z : k + 1 - 1 ≡ k = omega arith in
-      rw (z, q, m, add-one) refl ∙ or_after x (k - 1) (first_refused f (n - k) k) l ∙ e
-
-  -- its end at a place that is refused
-  pub kept_here : 0 < x → refused x (k - 1) ≡ r
-  kept_here h = refused_here x (k - 1) (first_refused f (n - k) k) h ∙ e
-
-  -- its end where no place is
-  pub kept_none : (ltb k n && ltb x 1) ≡ false → x ≤ 0 → r.number ≡ 0
-  kept_none t l = elim (dec_le n k) [
-    | yes h ↦ ap (λ (a : Refusal). a.number)
-        (sym e ∙ sym (or_after x (k - 1) (first_refused f (n - k) k) l) ∙ sym (first_end f n k h))
-    | no h ↦ absurd (false≢true (sym t ∙ and_true (lt-ltb k n (omega arith)) (lt-ltb x 1 (omega arith))))
-  ]
 
 -- where there is no refusal there is none here and none after
 pub after_zero : (x k : ℕ) (r : Refusal) → (or_else x k r).number ≡ 0 → (x ≡ 0) × (r.number ≡ 0)
@@ -179,13 +153,6 @@ module _ {A : Type 0} (refuse : ℕ → ℕ → A) where
   pub no_test : (v : A) → v ≡ refused_by refuse (refusal []) 0 v
   unfolding refused_by
   no_test v = rw none_left refl
-
-  -- an answer that is no refusal has number 0, and is what was asked for
-  pub no_number : {a : A} → ((n k : ℕ) → refuse n k ≡ a → ⊥) → (n k : ℕ) (v : A) → refused_by refuse n k v ≡ a
-      → (n ≡ 0) × (v ≡ a)
-  unfolding refused_by
-  no_number none zero k v e = (refl, e)
-  no_number none (suc n) k v e = absurd (none (suc n) k e)
 
 -- what an answer tells is the refusal or else what it tells of the answer asked for
 pub refused_told : {A B : Type 0} (f : A → B) (refuse : ℕ → ℕ → A) (n k : ℕ) (v : A) (u : B) → f v ≡ u

@@ -1,12 +1,10 @@
 -- How the code comes to the records' refusal, and what records that pass say. Assumes nothing.
 use mathlib.Core.Path.{◌≡◌, refl, sym, ap, ◌∙◌}
-use mathlib.Core.Bool.{Bool, true, false, not, ◌&&◌}
+use mathlib.Core.Bool.{Bool, true, false, ◌&&◌}
 use mathlib.Core.List.{List, [], ◌∷◌}
-use Prim.Native.Nat.{ℕ, zero, suc, ◌+◌, ◌≤◌, ◌<◌}
+use Prim.Native.Nat.{ℕ, zero, suc, ◌≤◌, ◌<◌}
 use native.Mathlib.Omega.{arith}
-use lib.Dec.{eqb}
 use borrow.Author.Tests.{le-leb}
-use Rattle.lists.specs.All.{all_to}
 use Rattle.lists.specs.Places.{nth}
 use Rattle.lists.specs.Refusals.{Test, unless, refusal, ◌or_refuse◌}
 use Rattle.plan.specs.declared.Guest.{Guest}
@@ -18,39 +16,15 @@ use Rattle.plan.specs.First.{refused, fine, or_else, first_refused, refused_by, 
 use Rattle.plan.specs.Order.{new_id, number_of, guest_number, counted_by, plan_refusal, records_then}
 use Rattle.std.specs.Prelude.{Ok}
 use Rattle.plan.specs.Promises.{Checks}
-use Rattle.lists.proofs.All.{and_left, and_right, and_true, and_false_left, and_false_right, all_turn, all_ext}
-use Rattle.lists.proofs.Refusals.{none_left, go_on, stop, passed}
-use Rattle.plan.proofs.First.{none_refused, first_fine, after_zero, no_number, ok_says}
+use Rattle.lists.proofs.All.{and_left, and_right, and_true, all_ext}
+use Rattle.lists.proofs.Refusals.{none_left, go_on, passed}
+use Rattle.plan.proofs.First.{none_refused, first_fine, after_zero, ok_says}
 use Rattle.plan.proofs.RangesLaws.{within_says, GuestIn, guest_says_lem}
 
--- the number of one guest, by what its tests come to
-module _ (g : Guest) (new : Bool) where
-  -- 4, where a number of the guest is out of its range
-  pub four_head : guest_ok g ≡ false → 4 ≡ number_of g new
-  unfolding number_of
-  four_head e = sym (stop 4 _ (and_false_left new e))
-
-  -- 4, where the id is not new
-  pub four_id : new ≡ false → 4 ≡ number_of g new
-  unfolding number_of
-  four_id e = sym (stop 4 _ (and_false_right (guest_ok g) e))
-
-  module _ (p : guest_ok g ≡ true) (q : new ≡ true) where
-    -- 6, where a task is out of its ranges
-    pub six : tasks_ok g ≡ false → 6 ≡ number_of g new
-    unfolding number_of
-    six e = sym (go_on 4 _ (and_true p q) ∙ stop 6 _ e)
-
-    -- 0, where all is in its range
-    pub none : tasks_ok g ≡ true → 0 ≡ number_of g new
-    unfolding number_of
-    none e = sym (go_on 4 _ (and_true p q) ∙ go_on 6 _ e ∙ none_left)
-
--- a turn of the loop over the ids before k
-pub new_turn : (ids : List ℕ) (k j id : ℕ) (ok : Bool) → id ≡ nth ids k
-    → ok ≡ all_to (λ i. not (eqb (nth ids i) (nth ids k))) j
-    → (ok && not (eqb (nth ids j) id)) ≡ all_to (λ i. not (eqb (nth ids i) (nth ids k))) (j + 1)
-new_turn ids k j id ok e h = all_turn _ j ok _ h (rw e refl)
+-- a guest that is in its ranges with all its tasks, and whose id is new, is refused by no number
+pub none : (g : Guest) (new : Bool) → guest_ok g ≡ true → new ≡ true → tasks_ok g ≡ true → 0 ≡ number_of g new
+unfolding number_of
+none g new p q e = sym (go_on 4 _ (and_true p q) ∙ go_on 6 _ e ∙ none_left)
 
 -- the ids in a column are the records'
 pub new_id_is : (gs : List Guest) (ids : List ℕ) (k : ℕ) → k < most_guests
@@ -158,12 +132,3 @@ pub records_none : (p : Plan) (tests : List Test) → (records_then p tests).num
     → ((plan_refusal p).number ≡ 0) × (refusal tests ≡ 0)
 unfolding records_then
 records_none p tests e = after_zero (plan_refusal p).number (plan_refusal p).place (refused (refusal tests) 0) e
-
--- an answer that is no refusal is what was asked for, and no test was failed
-pub by_records : {A : Type 0} (refuse : ℕ → ℕ → A) {a : A} → ((n k : ℕ) → refuse n k ≡ a → ⊥)
-    → (p : Plan) (tests : List Test) (v : A) → refuse_or refuse (records_then p tests) v ≡ a
-    → ((plan_refusal p).number ≡ 0) × ((refusal tests ≡ 0) × (v ≡ a))
-by_records refuse none p tests v e =
-    let r = no_number refuse none (records_then p tests).number (records_then p tests).place v e in
-    let o = records_none p tests r.0 in
-    (o.0, (o.1, r.1))
