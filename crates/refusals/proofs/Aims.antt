@@ -1,39 +1,39 @@
 -- How a release's tests come to its refusals and to what it sets. Assumes nothing.
 use mathlib.Core.Path.{◌≡◌, refl, ◌∙◌}
-use mathlib.Core.Bool.{true}
-use mathlib.Core.List.{List}
+use mathlib.Core.Bool.{Bool, true, false}
+use mathlib.Core.List.{List, ◌∷◌}
 use Rattle.std.specs.Prelude.{Result, Ok, Err}
-use Prim.Native.Nat.{ℕ, ◌^◌, ◌-◌, ◌≤◌, ◌<◌}
+use Prim.Native.Nat.{ℕ, ◌^◌, ◌<◌}
 use native.Mathlib.Omega.{arith}
 use lib.Dec.{eqb}
 use borrow.Author.Tests.{lt-ltb}
+use Rattle.lists.specs.Choice.{pick}
 use Rattle.lists.specs.Places.{nth}
+use Rattle.lists.specs.Refusals.{Test, refusal, unless, ◌or_refuse◌}
 use Rattle.lists.specs.Search.{first_from}
 use Rattle.plan.specs.declared.Guest.{Guest}
 use Rattle.plan.specs.declared.Plan.{Plan}
 use Rattle.plan.specs.declared.Columns.{Columns}
 use Rattle.plan.specs.Records.{guest_at, run_of}
-use Rattle.plan.specs.Ranges.{guest_ok, tasks_ok}
+use Rattle.plan.specs.Ranges.{tasks_ok}
 use Rattle.plan.specs.Charge.{charged}
 use Rattle.plan.specs.Place.{place_of, has_guest, has_task}
 use Rattle.plan.specs.Filled.{ColumnsOf}
-use Rattle.arrays.specs.Place.{place_at}
 use Rattle.refusals.specs.declared.Aim.{Aim}
 use Rattle.refusals.specs.Check.{passes}
 use Rattle.refusals.specs.Aims.{take_number, AimsAt, aim_number, Aims}
-use Rattle.lists.proofs.Refusals.{go_on}
+use Rattle.lists.proofs.Refusals.{none_left, go_on}
 use Rattle.lists.proofs.Search.{first_ext}
 use Rattle.plan.proofs.Charge.{charged_most}
 use Rattle.plan.proofs.RangesLaws.{head_says}
+use Rattle.refusals.proofs.Check.{few_guests}
 use Rattle.refusals.proofs.Rows.{runs_small}
 
--- A guest in its ranges has at most 16 tasks.
-pub few_tasks : (g : Guest) → guest_ok g ≡ true → g.tasks ≤ 16
-few_tasks g e = (head_says g.id g.capacity g.period g.tasks e).few
-
--- The place of a task of a guest of the plan is one of the 128.
-pub place_inside : (g : Guest) (k task : ℕ) → k < 8 → guest_ok g ≡ true → 1 ≤ task → task ≤ g.tasks → place_at k (task - 1) < 128
-place_inside g k task h e s l = omega (arith, few_tasks g e)
+-- A test of an order chooses between its number and what comes after it.
+pub test_chooses : (b : Bool) (n : ℕ) (ts : List Test) → refusal (b or_refuse n ∷ ts) ≡ pick b (refusal ts) n
+unfolding refusal unless
+test_chooses true n ts = refl
+test_chooses false n ts = refl
 
 -- Where the state is in its ranges and the guest is there, at place k, its own refusals are the release's.
 module _ (p : Plan) (left position rest wait age : List ℕ) (id task : ℕ) (s : passes p left position rest wait age ≡ true)
@@ -57,3 +57,9 @@ place_in {p} id c e = e ∙ first_ext _ _ p.count 0 (λ z l. rw (c.ids.holds z (
 -- The charged run of a task in its ranges fits.
 pub charged_fits : (g : Guest) (i : ℕ) → tasks_ok g ≡ true → i < g.tasks → g.charge < 2 ^ 16 → charged g i < 2 ^ 32
 charged_fits g i e h c = charged_most (run_of g i) g.charge (runs_small g e i h) c
+
+-- The refusals of a release that is for a guest in its ranges, one after the other.
+pub ruleset in_order = (test_chooses, none_left, head_says, charged_fits)
+
+-- The refusals of a release by an id.
+pub ruleset by_id = (test_chooses, few_guests, place_in)

@@ -18,7 +18,7 @@ fn may_start(marks: u16, position: u32, t: usize) -> bool
 }
 
 // The release of a task of guest g, which stands at place k: 8, 17, 9, 10, or what the task of that number gets.
-#[tactic(auto, using(plan::proofs::RangesLaws::head_says, crate::proofs::Aims::charged_fits), unfolding(lists::specs::Refusals::refusal, lists::specs::Refusals::unless, plan::specs::Marks::may_start))]
+#[tactic(auto, using(crate::proofs::Aims::in_order), unfolding(plan::specs::Marks::may_start))]
 fn aim_at(g: &Guest, k: usize, task: u32, lent: &Lent) -> Result<Aim, u32>
     requires { (k < 8) × ((guest_ok g.now ≡ true) × (tasks_ok g.now ≡ true)) }
     ensures { AimsAt g.now k task (nth lent.now.position.now k) lent.now.rest.now
@@ -32,10 +32,10 @@ fn aim_at(g: &Guest, k: usize, task: u32, lent: &Lent) -> Result<Aim, u32>
         return Err(17);
     }
     let at = k * 16 + t;
-    if 0 < lent.wait[at] {
+    if lent.wait[at] != 0 {
         return Err(9);
     }
-    if 0 < lent.rest[at] {
+    if lent.rest[at] != 0 {
         return Err(10);
     }
     Ok(Aim {
@@ -46,7 +46,7 @@ fn aim_at(g: &Guest, k: usize, task: u32, lent: &Lent) -> Result<Aim, u32>
 }
 
 // The release of a task of a guest by its id: 14, 7, 8, 17, 9, 10, or what the task of that number gets.
-#[tactic(auto, using(crate::proofs::Check::few_guests, crate::proofs::Aims::place_in), unfolding(lists::specs::Refusals::refusal, lists::specs::Refusals::unless, crate::specs::Aims::aim_number, plan::specs::Place::has_guest))]
+#[tactic(auto, using(crate::proofs::Aims::by_id), unfolding(crate::specs::Aims::aim_number, plan::specs::Place::has_guest))]
 pub fn aim_by_id<P: AsPlan>(plan: &P, lent: &Lent, guest: u32, task: u32) -> Result<Aim, u32>
     ensures { Aims (P.plan plan.now) lent.now.left.now lent.now.position.now
         lent.now.rest.now lent.now.wait.now lent.now.age.now guest task result }

@@ -20,6 +20,7 @@ fn bound(used: bool, x: u32) -> u32
 }
 
 // The charged run of a task in its ranges, or 0.
+#[tactic(auto, using(crate::proofs::Rows::charged_small))]
 fn run_bound(used: bool, run: u32, charge: u16) -> u32
     requires { used ≡ true → run ≤ longest }
     ensures { result ≡ pick used (charged_run run charge) 0 }
@@ -67,7 +68,7 @@ fn jobs_ok(lent: &Lent, g: &Guest, k: usize) -> bool
 }
 
 // Guest g at place k: its record, that it is Periodic, its two numbers and those of its 16 places.
-#[tactic(auto, using(crate::proofs::Rows::runs_small, plan::proofs::RangesLaws::head_says), unfolding(crate::specs::Rows::guest_is_ok, plan::specs::Ranges::tasks_ok))]
+#[tactic(auto, using(crate::proofs::Rows::record_ok), unfolding(crate::specs::Rows::guest_is_ok))]
 pub fn guest_ok(g: &Guest, k: usize, lent: &Lent) -> bool
     requires { k < 8 }
     ensures { result

@@ -10,6 +10,7 @@ use crate::ranges::{blank_ok, guest_ok};
 use plan::{AsPlan, Columns};
 
 // Whether the plan's guests are in their ranges, place by place, and their columns.
+#[tactic(auto, using(crate::proofs::Check::columns_begin), unfolding(lists::specs::All::all_to))]
 fn guests_ok<P: AsPlan>(plan: &P, n: usize, lent: &Lent, columns: &mut Columns) -> bool
     requires { n ≤ most_guests }
     ensures okay { result
@@ -21,13 +22,13 @@ fn guests_ok<P: AsPlan>(plan: &P, n: usize, lent: &Lent, columns: &mut Columns) 
 {
     let mut ok = true;
     for k in 0..n {
-        let g = plan.guest(k);
+        let g = &plan.guest(k);
         columns.ids[k] = g.id;
         columns.capacities[k] = g.capacity;
         columns.periods[k] = g.period;
         columns.tasks[k] = g.tasks;
         columns.deferrable[k] = g.deferrable;
-        ok &= plan::new_id(&columns.ids, k) & guest_ok(&g, k, lent);
+        ok &= plan::new_id(&columns.ids, k) & guest_ok(g, k, lent);
     }
     ok
 }

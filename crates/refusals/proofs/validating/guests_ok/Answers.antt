@@ -1,20 +1,16 @@
 -- A turn reads one guest's record, so its numbers are put into the columns, and its id is looked for there.
-use Rattle.std.proofs.Common.{sym, arith, rules}
-use Rattle.lists.proofs.All.{all_none}
+use Rattle.std.proofs.Common.{arith}
 use Rattle.plan.proofs.Filled.{columns_read}
-use Rattle.refusals.proofs.Check.{columns_begin, goes_turn}
+use Rattle.refusals.proofs.Check.{goes_turn}
 use Rattle.refusals.proofs.validating.guests_ok.Goals as goal
-
-pub loop-k-init : goal.loop-k-init
-loop-k-init g c = record { okay = sym (all_none _); columns = columns_begin _ _ (search rules) (search rules) (search rules) (search rules) (search rules) }
 
 pub loop-k-preserved : goal.loop-k-preserved
 loop-k-preserved g c =
     let a = c.args in
     let s = a.lent.now in
     let p = g.P.AsPlan.plan a.plan.now in
-    let f = columns_read {gs = p.guests} c.loop-k.k (omega arith) c.guest-g.result c.guest-g.ensures c.loop-k.invariant.columns in
+    let f = columns_read {gs = p.guests} c.loop-k.k (omega arith) c.guest.result c.guest.ensures c.loop-k.invariant.columns in
     record {
-      okay = goes_turn p s.left.now s.position.now s.rest.now s.wait.now s.age.now c.loop-k.k f.ids c.loop-k.invariant.okay c.new_id.ensures (rw (← c.guest-g.ensures) c.guest_ok.ensures);
+      okay = goes_turn p s.left.now s.position.now s.rest.now s.wait.now s.age.now c.loop-k.k f.ids c.loop-k.invariant.okay c.new_id.ensures (rw (← c.guest.ensures) c.guest_ok.ensures);
       columns = f;
     }
