@@ -1,66 +1,43 @@
 -- How the loop comes to the least capacities. Assumes nothing.
-use Rattle.std.specs.Prelude.{Option, Some, None}
+use Rattle.std.specs.Prelude.{Option, Some, None, Err}
 use mathlib.Core.Path.{◌≡◌, refl, sym, ◌∙◌, ap}
-use mathlib.Core.Bool.{true, ◌&&◌}
-use mathlib.Core.List.{List}
+use mathlib.Core.Bool.{◌&&◌}
 use Prim.Native.Nat.{ℕ, suc, ◌+◌, ◌-◌, ◌≤◌, ◌<◌}
 use native.Mathlib.Omega.{arith}
 use lib.ListN.{set}
 use borrow.Author.Tests.{eqb-true}
 use Rattle.lists.specs.All.{all_to}
-use Rattle.lists.specs.Places.{nth}
 use Rattle.lists.specs.Search.{least}
-use Rattle.plan.specs.declared.Columns.{Columns}
 use Rattle.plan.specs.declared.Plan.{Plan}
 use Rattle.plan.specs.declared.Refusal.{Refusal}
-use Rattle.plan.specs.Filled.{ColumnsOf}
-use Rattle.plan.specs.First.{refuse_or}
+use Rattle.plan.specs.First.{refuse_or, unless_refused}
 use Rattle.plan.specs.Order.{plan_refusal}
-use Rattle.plan.specs.Periodic.{all_periodic, start_refusal}
+use Rattle.plan.specs.Periodic.{start_refusal}
 use Rattle.plan.specs.Placed.{with_guest}
 use Rattle.plan.specs.Ranges.{most_guests}
 use Rattle.plan.specs.Records.{guest_at}
-use Rattle.response.specs.Columns.{guests_take, fitted_at, accepted_under}
+use Rattle.response.specs.Columns.{ServersOf, above_of, fitted_of, accepted_under}
+use Rattle.response.specs.declared.servers.Servers.{Servers}
 use Rattle.response.specs.Ready.{Seated}
 use Rattle.capacity.specs.Capacity.{at_capacity, with_capacity, works, smallest}
 use Rattle.choice.specs.declared.Chosen.{Chosen}
-use Rattle.response.specs.Window.{ticks_of}
 use Rattle.choice.specs.Capacities.{answering, chosen_from, least_capacities}
-use Rattle.lists.proofs.Search.{Says, least_says}
-use Rattle.plan.proofs.First.{number_refuses, number_passes}
+use Rattle.lists.proofs.Search.{First, least_says}
+use Rattle.plan.proofs.First.{number_refuses, number_passes, err_says}
 use Rattle.plan.proofs.Order.{plan_in}
 use Rattle.plan.proofs.Placed.{in_list}
-use Rattle.plan.proofs.PeriodicLaws.{periodic_at}
-use Rattle.response.proofs.JittersLaws.{JittersOf}
+use Rattle.plan.proofs.PeriodicLaws.{periodic_at, starts_in_order, starts_periodic}
 use Rattle.response.proofs.ReadyLaws.{seated_at}
 use Rattle.capacity.proofs.Capacity.{smallest_is, capacity_fine}
-use Rattle.choice.proofs.ColumnsPut.{columns_put, jitters_put}
+use Rattle.choice.proofs.ColumnsPut.{servers_put, periodic_put}
 
--- What a search says: nothing is found, or a capacity from 1 to the period.
-pub record Within (p : Plan) (k c : ℕ) : Type 0 where
-  pub found : smallest p k ≡ Some c
-  pub low : 1 ≤ c
-  pub high : c ≤ (guest_at p.guests k).period
-
--- A search that gives no ticks found nothing: a capacity is at least 1.
-pub none_found : (p : Plan) (k c : ℕ) → c ≡ ticks_of (smallest p k) → c < 1 → smallest p k ≡ None
+-- A search that found a capacity found one from 1 to the period.
+pub found_in : (p : Plan) (k c : ℕ) → Some c ≡ smallest p k → (1 ≤ c) × (c ≤ (guest_at p.guests k).period)
 unfolding smallest
-none_found p k c e h = go (smallest p k) refl (least_says (works p k) (guest_at p.guests k).period 1)
-  where
-    go : (f : Option ℕ) → smallest p k ≡ f → Says (works p k) (guest_at p.guests k).period 1 f → smallest p k ≡ None
-    go None q s = q
-    go (Some d) q s = let z : c ≡ d = e ∙ ap ticks_of q in absurd (omega (arith, s.low))
-
--- One that gives ticks found them.
-pub some_found : (p : Plan) (k c : ℕ) → c ≡ ticks_of (smallest p k) → 1 ≤ c → Within p k c
-unfolding smallest
-some_found p k c e h = go (smallest p k) refl (least_says (works p k) (guest_at p.guests k).period 1)
-  where
-    go : (f : Option ℕ) → smallest p k ≡ f → Says (works p k) (guest_at p.guests k).period 1 f → Within p k c
-    go None q s = let z : c ≡ 0 = e ∙ ap ticks_of q in absurd (omega arith)
-    go (Some d) q s =
-        let z : c ≡ d = e ∙ ap ticks_of q in
-        rw z record { found = q; low = s.low; high = omega (arith, s.high) }
+found_in p k c e =
+    let f : First (works p k) (guest_at p.guests k).period 1 c =
+    rw (← e) at (least_says (works p k) (guest_at p.guests k).period 1) in
+    (f.low, omega (arith, f.high))
 
 -- The answer of the guests that are left, after one of them.
 module _ (given p : Plan) (n k : ℕ) (h : k < n) where
@@ -101,40 +78,28 @@ pub chosen_end : (given p : Plan) (n k : ℕ) → n ≤ k → answering p 0 0 �
 unfolding chosen_from
 chosen_end given p n k h = let e : n - k ≡ 0 = omega arith in rw e refl
 
--- The loop after k turns: the plan's records are in order, the columns are its own, no guest of it is Deferrable, and
--- its guests from place k on have the answer.
-pub record Goes (given : Plan) (n : ℕ) (periods jitters capacities : List ℕ) (p : Plan) (k : ℕ) : Type 0 where
-  pub turns : k ≤ n
+-- The loop after k turns: the plan's records are in order, the servers are its own, none of its guests is Deferrable,
+-- and its guests from place k on have the answer.
+pub record Goes (given : Plan) (s : Servers) (p : Plan) (k : ℕ) : Type 0 where
   pub order : (plan_refusal p).number ≡ 0
-  pub many : p.count ≡ n
-  pub t : Columns
-  pub same_capacities : t.capacities ≡ capacities
-  pub same_periods : t.periods ≡ periods
-  pub columns : ColumnsOf p.guests most_guests t
-  pub late : JittersOf t jitters
-  pub periodic : (j : ℕ) → j < n → nth t.deferrable j ≡ 0
-  pub same : chosen_from given p (n - k) k ≡ chosen_from given given n 0
+  pub many : p.count ≡ given.count
+  pub servers : ServersOf p.guests most_guests s
+  pub periodic : (j : ℕ) → j < given.count → (guest_at p.guests j).deferrable ≡ 0
+  pub same : chosen_from given p (given.count - k) k ≡ chosen_from given given given.count 0
 
 -- Before the first turn.
-pub goes_first : (given : Plan) (t : Columns) (jitters : List ℕ) → (plan_refusal given).number ≡ 0 → all_periodic given ≡ true
-    → ColumnsOf given.guests most_guests t → JittersOf t jitters
-    → Goes given given.count t.periods jitters t.capacities given 0
-goes_first given t jitters ok all C J = record {
-  turns = omega arith;
-  order = ok;
+pub goes_first : (given : Plan) {s : Servers} → (start_refusal given).number ≡ 0 → ServersOf given.guests most_guests s
+    → Goes given s given 0
+goes_first given e f = record {
+  order = starts_in_order given e;
   many = refl;
-  t = t;
-  same_capacities = refl;
-  same_periods = refl;
-  columns = C;
-  late = J;
-  periodic = λ j h. C.deferrable.holds j (omega (arith, (plan_in given ok).few)) ∙ eqb-true _ 0 (periodic_at given all j h);
-  same = let e : given.count - 0 ≡ given.count = omega arith in rw e refl;
+  servers = f;
+  periodic = λ j h. eqb-true _ 0 (periodic_at given (starts_periodic given e) j h);
+  same = let n : given.count - 0 ≡ given.count = omega arith in rw n refl;
 }
 
 -- A turn.
-module _ {given : Plan} {n : ℕ} {periods jitters capacities : List ℕ} {p : Plan} {k : ℕ}
-    (G : Goes given n periods jitters capacities p k) (h : k < n) where
+module _ {given : Plan} {s : Servers} {p : Plan} {k : ℕ} (G : Goes given s p k) (h : k < given.count) where
   -- its place is one of the plan's
   inside : k < p.count
   inside = omega (arith, G.many)
@@ -143,79 +108,70 @@ module _ {given : Plan} {n : ℕ} {periods jitters capacities : List ℕ} {p : P
   pub turn_few : k < most_guests
   turn_few = omega (arith, inside, (plan_in p G.order).few)
 
-  -- the guest is seated in the columns
-  pub turn_seated : Seated (guest_at p.guests k) capacities periods jitters k
+  -- the guest is seated among the servers, and has a task
+  pub turn_seated : Seated (guest_at p.guests k) s k × (1 ≤ (guest_at p.guests k).tasks)
   turn_seated =
-      rw (← G.same_capacities, ← G.same_periods)
-      (seated_at p G.t G.columns G.late (plan_in p G.order) k inside)
+      (seated_at p G.servers (plan_in p G.order) k inside, ((plan_in p G.order).guests k inside).head.many)
 
-  -- it has a task
-  pub turn_tasks : 1 ≤ (guest_at p.guests k).tasks
-  turn_tasks = ((plan_in p G.order).guests k inside).head.many
-
-  -- the search off the columns is the plan's
-  pub turn_search :
+  -- the search among the servers is the plan's
+  turn_search :
       {x : Option ℕ}
       → x
       ≡ least
-      (λ c. all_to (fitted_at capacities periods jitters) k
-      && accepted_under (guests_take capacities periods jitters k) (at_capacity (guest_at p.guests k) c))
+      (λ c. all_to (fitted_of s) k && accepted_under (above_of s k) (at_capacity (guest_at p.guests k) c))
       (guest_at p.guests k).period 1
       → x ≡ smallest p k
-  turn_search e =
-      rw (← G.same_capacities, ← G.same_periods) at e
-      ∙ smallest_is p (plan_in p G.order) G.t G.columns G.late k inside
+  turn_search e = e ∙ smallest_is p (plan_in p G.order) G.servers k inside
 
-  module _ (c : ℕ) (e : c ≡ ticks_of (smallest p k)) where
-    -- where none works the answer is 11 with the place
-    pub turn_none : c < 1 → answering given 11 k ≡ chosen_from given given n 0
-    turn_none l = chosen_none given p n k h (none_found p k c e l) ∙ G.same
+  -- where none works the answer is 11 with the place
+  pub turn_none :
+      None
+      ≡ least
+      (λ c. all_to (fitted_of s) k && accepted_under (above_of s k) (at_capacity (guest_at p.guests k) c))
+      (guest_at p.guests k).period 1
+      → answering given 11 k ≡ chosen_from given given given.count 0
+  turn_none e = chosen_none given p given.count k h (sym (turn_search e)) ∙ G.same
 
-    -- where one works the next guest is looked at under it
-    pub turn_next : 1 ≤ c → Goes given n periods jitters (set capacities k c) (with_capacity p k c) (k + 1)
-    unfolding with_guest
-    turn_next l =
-        let W = some_found p k c e l in
-        let here = in_list p (plan_in p G.order) k inside in
-        let t = G.t in
-        record {
-          turns = omega arith;
-          order = ap (λ (r : Refusal). r.number) (capacity_fine p G.order k inside c l W.high);
-          many = G.many;
-          t = record {
-            ids = t.ids;
-            capacities = set t.capacities k c;
-            periods = t.periods;
-            tasks = t.tasks;
-            deferrable = t.deferrable;
-          };
-          same_capacities = ap (λ (x : List ℕ). set x k c) G.same_capacities;
-          same_periods = G.same_periods;
-          columns = columns_put p.guests k c here (omega (arith, turn_few)) G.columns;
-          late = jitters_put t jitters k c (omega (arith, turn_few)) (G.periodic k h) G.late;
-          periodic = G.periodic;
-          same = chosen_next given p n k h c W.found ∙ G.same;
-        }
-
--- After the last turn.
-pub goes_end : {given : Plan} {n : ℕ} {periods jitters capacities : List ℕ} {p : Plan} {k : ℕ}
-    → Goes given n periods jitters capacities p k → n ≤ k → answering p 0 0 ≡ chosen_from given given n 0
-goes_end {given} {n} {periods} {jitters} {capacities} {p} {k} G h = chosen_end given p n k h ∙ G.same
+  -- where one works the next guest is looked at under it
+  pub turn_next :
+      (c : ℕ)
+      → Some c
+      ≡ least
+      (λ c. all_to (fitted_of s) k && accepted_under (above_of s k) (at_capacity (guest_at p.guests k) c))
+      (guest_at p.guests k).period 1
+      → Goes given (record { capacities = set s.capacities k c; periods = s.periods; jitters = s.jitters })
+      (with_capacity p k c) (k + 1)
+  unfolding with_guest
+  turn_next c e =
+      let found = turn_search e in
+      let in_range = found_in p k c found in
+      let here = in_list p (plan_in p G.order) k inside in
+      record {
+        order = ap (λ (r : Refusal). r.number) (capacity_fine p G.order k inside c in_range.0 in_range.1);
+        many = G.many;
+        servers = servers_put p.guests k c here (omega (arith, turn_few)) (G.periodic k h) G.servers;
+        periodic = periodic_put p.guests k c here G.periodic;
+        same = chosen_next given p given.count k h c (sym found) ∙ G.same;
+      }
 
 -- How an entry comes to its answer: the records' order and 23, or the choice.
 module _ (p : Plan) where
   -- a start that is refused refuses a choice
-  pub choice_refused : {r : Refusal} → r ≡ start_refusal p → 0 < r.number
-      → ◌≡◌ {A = Chosen} (record { refusal = r; plan = p }) (least_capacities p)
+  pub choice_refused : {r : Refusal} → Err r ≡ unless_refused (start_refusal p) (tt {0})
+      → answering p r.number r.place ≡ least_capacities p
   unfolding least_capacities start_refusal
-  choice_refused {r} e h =
-      number_refuses (answering p) r.number r.place (chosen_from p p p.count 0) h
-      ∙ ap (λ (x : Refusal). refuse_or (answering p) x (chosen_from p p p.count 0)) e
+  choice_refused {r} e =
+      let s = err_says (start_refusal p) tt e in
+      number_refuses (answering p) r.number r.place (chosen_from p p p.count 0) (rw s.0 s.1)
+      ∙ ap (λ (x : Refusal). refuse_or (answering p) x (chosen_from p p p.count 0)) s.0
 
   -- any other does not
-  pub choice_made : {r : Refusal} {v : Chosen} → r ≡ start_refusal p → r.number ≤ 0 → v ≡ chosen_from p p p.count 0
-      → v ≡ least_capacities p
+  pub choice_made : {v : Chosen} → (start_refusal p).number ≡ 0 → v ≡ chosen_from p p p.count 0 → v ≡ least_capacities p
   unfolding least_capacities start_refusal
-  choice_made {r} e h q =
-      q ∙ number_passes (answering p) r.number r.place (chosen_from p p p.count 0) h
-      ∙ ap (λ (x : Refusal). refuse_or (answering p) x (chosen_from p p p.count 0)) e
+  choice_made e q =
+      q ∙ number_passes (answering p) (start_refusal p).number (start_refusal p).place (chosen_from p p p.count 0) (omega arith)
+
+  -- the end of the loop
+  pub goes_end : {s : Servers} {q : Plan} {k : ℕ} → (start_refusal p).number ≡ 0 → Goes p s q k → p.count ≤ k
+      → answering q 0 0 ≡ least_capacities p
+  goes_end {s} {q} {k} e G h = choice_made e (chosen_end p q p.count k h ∙ G.same)

@@ -1,4 +1,4 @@
--- The columns of a plan one of whose guests has another capacity. Assumes nothing.
+-- The servers of a plan one of whose guests has another capacity. Assumes nothing.
 use mathlib.Core.Path.{◌≡◌, refl, sym, ◌∙◌, ap}
 use mathlib.Core.List.{List}
 use Prim.Native.Nat.{ℕ, ◌<◌}
@@ -6,14 +6,13 @@ use native.Mathlib.Decide.{ℕ_discrete}
 use native.Mathlib.Omega.{arith}
 use lib.ListN.{length, set, length-set}
 use lib.Seq.{get_or-set_same, get_or-set_other}
-use Rattle.lists.specs.Places.{nth}
-use Rattle.plan.specs.declared.Columns.{Columns}
 use Rattle.plan.specs.declared.Guest.{Guest}
-use Rattle.plan.specs.Filled.{Filled, ColumnsOf}
+use Rattle.plan.specs.Filled.{Filled}
 use Rattle.plan.specs.Records.{guest_at, absent}
-use Rattle.response.specs.Columns.{jitter_at}
+use Rattle.response.specs.Columns.{ServersOf}
+use Rattle.response.specs.Interference.{jitter}
+use Rattle.response.specs.declared.servers.Servers.{Servers}
 use Rattle.capacity.specs.Capacity.{at_capacity}
-use Rattle.response.proofs.JittersLaws.{JittersOf}
 
 -- the guests after
 module _ (gs : List Guest) (k c : ℕ) (here : k < length gs) where
@@ -49,39 +48,21 @@ module _ (gs : List Guest) (k c : ℕ) (here : k < length gs) where
         ];
   }
 
-  -- so the columns are those of the guests after
-  pub columns_put : {t : Columns} {n : ℕ} → k < 16 → ColumnsOf gs n t
-      → ColumnsOf after n (record {
-        ids = t.ids;
-        capacities = set t.capacities k c;
-        periods = t.periods;
-        tasks = t.tasks;
-        deferrable = t.deferrable;
-      })
-  columns_put l C = record {
-    ids = stands (λ g. g.id) refl C.ids;
+  -- a Periodic guest puts nothing off with either
+  same_jitter : (guest_at gs k).deferrable ≡ 0 → jitter (at_capacity (guest_at gs k) c) ≡ jitter (guest_at gs k)
+  unfolding jitter
+  same_jitter z = rw z refl
+
+  -- so the servers are those of the guests after, where the guest is Periodic
+  pub servers_put : {s : Servers} {n : ℕ} → k < 16 → (guest_at gs k).deferrable ≡ 0 → ServersOf gs n s
+      → ServersOf after n (record { capacities = set s.capacities k c; periods = s.periods; jitters = s.jitters })
+  servers_put l z C = record {
     capacities = capacities_put l C.capacities;
     periods = stands (λ g. g.period) refl C.periods;
-    tasks = stands (λ g. g.tasks) refl C.tasks;
-    deferrable = stands (λ g. g.deferrable) refl C.deferrable;
+    jitters = stands jitter (same_jitter z) C.jitters;
   }
 
--- The jitters stand: the guest whose capacity is another is Periodic, and puts nothing off.
-pub jitters_put : (t : Columns) (jitters : List ℕ) (k c : ℕ) → k < 16 → nth t.deferrable k ≡ 0
-    → JittersOf t jitters
-    → JittersOf (record {
-      ids = t.ids;
-      capacities = set t.capacities k c;
-      periods = t.periods;
-      tasks = t.tasks;
-      deferrable = t.deferrable;
-    }) jitters
-unfolding jitter_at
-jitters_put t jitters k c l z J = record {
-  long = J.long;
-  holds = λ j h.
-      elim (ℕ_discrete j k) [
-        | yes q ↦ rw q (rw q at (J.holds j h) ∙ rw z refl)
-        | no q ↦ J.holds j h ∙ rw (get_or-set_other t.capacities k j c 0 q) refl
-      ];
-}
+  -- each guest after is Periodic where each was
+  pub periodic_put : {n : ℕ} → ((j : ℕ) → j < n → (guest_at gs j).deferrable ≡ 0) → (j : ℕ) → j < n
+      → (guest_at after j).deferrable ≡ 0
+  periodic_put f j h = sym (kept (λ g. g.deferrable) refl j) ∙ f j h

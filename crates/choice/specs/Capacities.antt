@@ -1,11 +1,12 @@
 -- The least capacities of a plan: from the highest guest down each is the smallest that works, under those above at
 -- theirs.
-use Rattle.std.specs.Prelude.{[], ◌∷◌, ℕ, zero, suc, Some, None}
+use Rattle.std.specs.Prelude.{◌≡◌, [], ◌∷◌, ℕ, zero, suc, Some, None, Result, Ok, Err}
 use Rattle.lists.specs.Refusals.{◌or_refuse◌}
 use Rattle.plan.specs.First.{refused, refuse_or}
 use Rattle.plan.specs.Order.{records_then}
 use Rattle.plan.specs.Periodic.{all_periodic}
 use Rattle.plan.specs.declared.Plan.{Plan}
+use Rattle.plan.specs.declared.Refusal.{Refusal}
 use Rattle.capacity.specs.Capacity.{with_capacity, smallest}
 use Rattle.choice.specs.declared.Chosen.{Chosen}
 
@@ -27,3 +28,8 @@ chosen_from given p (suc m) k =
 -- which none works, each with the plan as it was; else the plan with them.
 unfoldable pub least_capacities : Plan → Chosen
 least_capacities p = refuse_or (answering p) (records_then p (all_periodic p or_refuse 23 ∷ [])) (chosen_from p p p.count 0)
+
+-- What a choice comes to: the plan with the least capacities, or the refusal.
+abbrev pub Chooses : Plan → Result Plan Refusal → Type 0
+Chooses p (Ok q) = answering q 0 0 ≡ least_capacities p
+Chooses p (Err r) = answering p r.number r.place ≡ least_capacities p

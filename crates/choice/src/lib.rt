@@ -4,7 +4,6 @@
 ghost use Rattle.choice.specs.Promises.{ChoosesCapacities};
 
 use plan::{Plan, Refusal};
-use rows::{rows_of, start_refusal};
 
 mod capacities;
 
@@ -21,10 +20,14 @@ pub struct Chosen {
 pub fn least_capacities(plan: Plan) -> Chosen
     ensures { ChoosesCapacities plan result }
 {
-    let rows = rows_of(plan);
-    let refusal = start_refusal(plan.count, &rows);
-    if 0 < refusal.number {
-        return Chosen { refusal, plan };
+    match capacities::choose(plan) {
+        Ok(plan) => Chosen {
+            refusal: Refusal {
+                number: 0,
+                place: 0,
+            },
+            plan,
+        },
+        Err(refusal) => Chosen { refusal, plan },
     }
-    capacities::choose(plan)
 }

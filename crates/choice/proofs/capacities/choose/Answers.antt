@@ -1,69 +1,44 @@
 -- `choice::capacities::choose` meets its contract: after k turns the first k guests have their least capacities, and the
--- columns are those of the plan with them. Assumes nothing.
-use mathlib.Core.Path.{◌≡◌, ◌∙◌, ap}
+-- servers are those of the plan with them. Assumes nothing.
+use Rattle.std.proofs.lemmas.Result.{err_from_is_err_and}
 use native.Mathlib.Omega.{arith}
+use Rattle.plan.specs.Periodic.{start_refusal}
 use Rattle.plan.specs.Placed.{with_guest}
-use Rattle.capacity.specs.Capacity.{smallest}
-use Rattle.response.specs.Window.{ticks_of}
-use Rattle.choice.proofs.CapacitiesLaws.{goes_first, turn_few, turn_seated, turn_tasks, turn_search, turn_none, turn_next, goes_end}
+use Rattle.plan.proofs.First.{ok_says}
+use Rattle.choice.proofs.CapacitiesLaws.{choice_refused, choice_made, goes_first, turn_few, turn_seated, turn_none, turn_next, goes_end}
 use Rattle.choice.proofs.capacities.choose.Goals as goal
+
+pub returns-in_err-start_check : goal.returns-in_err-start_check
+returns-in_err-start_check c =
+    let e = err_from_is_err_and c.from_residual.result c.from_residual.ensures.1 in
+    rw (e.1, e.2) (choice_refused _ c.in_err-start_check.ensures)
 
 pub loop-k-init : goal.loop-k-init
 loop-k-init c =
-    goes_first _ _ _ c.requires.0 c.requires.1 c.columns_of-columns.ensures c.jitters_of-jitters.ensures
-
-pub offset_bounds-plan-k : goal.offset_bounds-plan-k
-offset_bounds-plan-k c = record { fits = omega (arith, turn_few c.loop-k.invariant c.loop-k-test.true) }
+    goes_first _ (ok_says (start_refusal c.args.plan) c.in_ok-start_check.ensures).0
+    (c.servers_of-servers.ensures _ c.columns_of.ensures)
 
 pub bounds-plan-k : goal.bounds-plan-k
 bounds-plan-k c = turn_few c.loop-k.invariant c.loop-k-test.true
 
 pub smallest_at-requires : goal.smallest_at-requires
-smallest_at-requires c =
-    (turn_seated c.loop-k.invariant c.loop-k-test.true, turn_tasks c.loop-k.invariant c.loop-k-test.true)
+smallest_at-requires c = turn_seated c.loop-k.invariant c.loop-k-test.true
 
-pub overflow_cast-result : goal.overflow_cast-result
-overflow_cast-result c =
-    record { fits = omega (arith, turn_few c.loop-k.invariant c.loop-k-test.true) }
+pub bounds-servers-k : goal.bounds-servers-k
+bounds-servers-k c = omega (arith, turn_few c.loop-k.invariant c.loop-k-test.true)
 
-pub returns-then-c-lt1 : goal.returns-then-c-lt1
-returns-then-c-lt1 c =
-    -- the ticks are those of the search in the plan
-    let ticks : c.ticks_of-c.result ≡ ticks_of (smallest c.loop-k.plan c.loop-k.k) =
-    c.ticks_of-c.ensures ∙ ap ticks_of (turn_search c.loop-k.invariant c.loop-k-test.true c.smallest_at.ensures) in
-    turn_none c.loop-k.invariant c.loop-k-test.true _ ticks c.if-c-lt1.true
+pub bounds-plan-k-in-Some : goal.bounds-plan-k-in-Some
+bounds-plan-k-in-Some c = turn_few c.loop-k.invariant c.loop-k-test.true
 
-pub offset_bounds-capacities-k : goal.offset_bounds-capacities-k
-offset_bounds-capacities-k c =
-    record { fits = omega (arith, turn_few c.loop-k.invariant c.loop-k-test.true) }
-
-pub bounds-capacities-k : goal.bounds-capacities-k
-bounds-capacities-k c =
-    omega (arith, turn_few c.loop-k.invariant c.loop-k-test.true)
-
-pub offset_bounds-plan-k-in-loop-k : goal.offset_bounds-plan-k-in-loop-k
-offset_bounds-plan-k-in-loop-k c =
-    record { fits = omega (arith, turn_few c.loop-k.invariant c.loop-k-test.true) }
-
-pub bounds-plan-k-in-loop-k : goal.bounds-plan-k-in-loop-k
-bounds-plan-k-in-loop-k c =
-    turn_few c.loop-k.invariant c.loop-k-test.true
-
-pub overflow_add-k : goal.overflow_add-k
-overflow_add-k c =
-    record { fits = omega (arith, turn_few c.loop-k.invariant c.loop-k-test.true) }
-
-pub loop-k-smaller : goal.loop-k-smaller
-loop-k-smaller c = omega (arith, c.loop-k-test.true)
+pub returns-in-None : goal.returns-in-None
+returns-in-None c =
+    choice_made _ (ok_says (start_refusal c.args.plan) c.in_ok-start_check.ensures).0
+    (turn_none c.loop-k.invariant c.loop-k-test.true c.in-None.ensures)
 
 pub loop-k-preserved : goal.loop-k-preserved
 unfolding with_guest
-loop-k-preserved c =
-    -- the ticks are those of the search in the plan
-    let ticks : c.ticks_of-c.result ≡ ticks_of (smallest c.loop-k.plan c.loop-k.k) =
-    c.ticks_of-c.ensures ∙ ap ticks_of (turn_search c.loop-k.invariant c.loop-k-test.true c.smallest_at.ensures) in
-    let next = turn_next c.loop-k.invariant c.loop-k-test.true _ ticks c.if-c-lt1.false in
-    rw c.at_capacity-h.ensures next
+loop-k-preserved c = turn_next c.loop-k.invariant c.loop-k-test.true c.in-Some.c c.in-Some.ensures
 
 pub returns : goal.returns
-returns c = goes_end c.loop-k.invariant c.loop-k-test.false
+returns c =
+    goes_end _ (ok_says (start_refusal c.args.plan) c.in_ok-start_check.ensures).0 c.loop-k.invariant c.loop-k-test.false
