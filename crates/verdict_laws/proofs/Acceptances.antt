@@ -6,7 +6,6 @@ use mathlib.Core.Bool.{Bool, true, false, false≢true}
 use Prim.Native.Nat.{ℕ, suc, ◌≤◌, ◌<◌}
 use native.Mathlib.Omega.{arith}
 use Rattle.lists.specs.All.{all_to}
-use Rattle.plan.specs.First.{unless_refused}
 use Rattle.plan.specs.Order.{plan_refusal}
 use Rattle.plan.specs.Records.{guest_at, every_of, deadline_of}
 use Rattle.plan.specs.declared.Plan.{Plan}

@@ -1,9 +1,8 @@
 -- What the answer for the smallest capacity says of the equations.
-use Rattle.std.specs.Prelude.{◌≡◌, ℕ, ◌≤◌, ◌<◌}
+use Rattle.std.specs.Prelude.{◌≡◌, ℕ, ◌≤◌, ◌<◌, Result, Ok, Err}
 use Rattle.plan.specs.Records.{guest_at}
 use Rattle.plan.specs.declared.Plan.{Plan}
-use Rattle.capacity.specs.declared.CapacityAnswer.{CapacityAnswer}
-use Rattle.capacity.specs.declared.CapacityAnswer.TheVariants.{Refused, Smallest}
+use Rattle.plan.specs.declared.Refusal.{Refusal}
 use Rattle.capacity.specs.Capacity.{with_capacity}
 use Rattle.verdict_laws.specs.Guests.{AllFit}
 use Rattle.verdict_laws.specs.Tasks.{AllInTime}
@@ -27,6 +26,6 @@ pub record NoCapacity (p : Plan) (k n place : ℕ) : Type 0 where
   pub none : (c : ℕ) → ¬ CapacityWorks p k c
 
 -- what an answer means where records are in order and the guest is there
-abbrev pub CapacityMeans : Plan → ℕ → CapacityAnswer → Type 0
-CapacityMeans p k (Refused n place) = NoCapacity p k n place
-CapacityMeans p k (Smallest c) = CapacitySmallest p k c
+abbrev pub CapacityMeans : Plan → ℕ → Result ℕ Refusal → Type 0
+CapacityMeans p k (Err r) = NoCapacity p k r.number r.place
+CapacityMeans p k (Ok c) = CapacitySmallest p k c
