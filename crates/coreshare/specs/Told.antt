@@ -5,7 +5,6 @@ use Rattle.plan.specs.declared.Refusal.{Refusal}
 use Rattle.verdict.specs.declared.GuestVerdict.{GuestVerdict}
 use Rattle.verdict.specs.declared.TaskVerdict.{TaskVerdict}
 use Rattle.verdict.specs.declared.Acceptance.{Acceptance}
-use Rattle.capacity.specs.declared.CapacityAnswer.{CapacityAnswer}
 use Rattle.dispatcher.specs.declared.Answer.{Answer}
 use Rattle.dispatcher.specs.declared.Answer.TheVariants.{Silent, Nobody, Idled, Worked, Finished}
 use Rattle.dispatcher.specs.declared.Ticked.{Ticked}
@@ -17,7 +16,6 @@ use Rattle.coreshare.specs.declared.Run.{Run}
 use Rattle.verdict.specs.declared.GuestVerdict.TheVariants as guest
 use Rattle.verdict.specs.declared.TaskVerdict.TheVariants as task
 use Rattle.verdict.specs.declared.Acceptance.TheVariants as plan
-use Rattle.capacity.specs.declared.CapacityAnswer.TheVariants as capacity
 
 -- A refusal is told by its number, with its place.
 abbrev pub refusing : (number place : ℕ) → Verdict
@@ -49,9 +47,9 @@ plan_told (Ok plan.Accepted) = saying 1 0
 plan_told (Ok plan.NotAccepted) = saying 2 0
 
 -- The smallest capacity is 1 with the capacity in ticks; that there is none is a refusal, 11.
-unfoldable pub capacity_told : CapacityAnswer → Verdict
-capacity_told (capacity.Refused number place) = refusing number place
-capacity_told (capacity.Smallest c) = saying 1 c
+unfoldable pub capacity_told : Result ℕ Refusal → Verdict
+capacity_told (Err r) = refusing r.number r.place
+capacity_told (Ok c) = saying 1 c
 
 -- A tick's answer is 0 for no answer, 1 if nobody had the tick, 2 if a guest idled it away, 3 if a task worked, and 4
 -- if a job finished, with its age and margin.

@@ -58,12 +58,12 @@ pub extern "C" fn cs_accept_in(count: u32, rows: &[[u32; 54]; 8]) -> Verdict
 pub extern "C" fn cs_smallest_capacity(plan: Plan, id: u32) -> Verdict
     ensures { TellsCapacity plan id result }
 {
-    tell_capacity(capacity::smallest_capacity(plan, id))
+    tell_capacity(capacity::smallest_capacity(&plan, id))
 }
 
 #[unsafe(no_mangle)]
 pub extern "C" fn cs_smallest_capacity_in(count: u32, rows: &[[u32; 54]; 8], id: u32) -> Verdict
     ensures { TellsCapacity (plan_of count rows.now) id result }
 {
-    tell_capacity(capacity::smallest_capacity_in(count, rows, id))
+    tell_capacity(capacity::smallest_capacity(&Rows { count, rows }, id))
 }

@@ -3,7 +3,6 @@ ghost use Rattle.std.specs.Prelude.{◌≡◌};
 ghost use Rattle.coreshare.specs.Told.{refusing, saying, guest_told, task_told, plan_told, capacity_told};
 
 use crate::Verdict;
-use capacity::CapacityAnswer;
 use plan::Refusal;
 use verdict::{Acceptance, GuestVerdict, TaskVerdict};
 
@@ -70,11 +69,12 @@ pub fn tell_plan(a: Result<Acceptance, Refusal>) -> Verdict
 }
 
 // The smallest capacity.
-pub fn tell_capacity(a: CapacityAnswer) -> Verdict
+#[tactic(auto, unfolding(crate::specs::Told::capacity_told))]
+pub fn tell_capacity(a: Result<u32, Refusal>) -> Verdict
     ensures { result ≡ capacity_told a }
 {
     match a {
-        CapacityAnswer::Refused(number, place) => refuse(Refusal { number, place }),
-        CapacityAnswer::Smallest(ticks) => say(1, ticks),
+        Err(r) => refuse(r),
+        Ok(ticks) => say(1, ticks),
     }
 }

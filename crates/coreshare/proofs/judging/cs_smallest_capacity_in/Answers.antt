@@ -4,4 +4,4 @@ use Rattle.coreshare.specs.Told.{capacity_told}
 use Rattle.coreshare.proofs.judging.cs_smallest_capacity_in.Goals as goal
 
 pub returns : goal.returns
-returns c = c.tell_capacity.ensures ∙ ap capacity_told c.smallest_capacity_in.ensures
+returns c = c.tell_capacity.ensures ∙ ap capacity_told c.smallest_capacity.ensures
