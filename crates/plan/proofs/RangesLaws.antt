@@ -1,16 +1,15 @@
 -- What the tests of the ranges say. Assumes nothing.
-use mathlib.Core.Path.{◌≡◌, refl}
-use mathlib.Core.Bool.{Bool, true, false, false≢true, ◌&&◌}
+use mathlib.Core.Path.{◌≡◌}
+use mathlib.Core.Bool.{Bool, true}
 use Prim.Native.Nat.{ℕ, ◌%◌, ◌≤◌, ◌<◌}
 use native.Mathlib.Omega.{arith}
-use lib.Dec.{leb}
-use borrow.Author.Tests.{leb-true, le-leb, eqb-true}
 use Rattle.plan.specs.declared.Guest.{Guest}
 use Rattle.plan.specs.Records.{run_of, every_of, deadline_of}
 use Rattle.plan.specs.Marks.{is_bound}
 use Rattle.plan.specs.Ranges.{most_tasks, longest, within, head_ok, guest_ok, task_ok, start_ok, tasks_ok}
+use Rattle.std.proofs.lemmas.Bool.Decides.{nat_tests}
 use Rattle.lists.specs.All.{all_to}
-use Rattle.lists.proofs.All.{and_left, and_right, and_true, all_at}
+use Rattle.lists.proofs.All.{and_left, and_right, all_at}
 
 -- a task in its ranges
 pub record TaskIn (run every deadline : ℕ) : Type 0 where
@@ -38,63 +37,41 @@ pub record GuestIn (g : Guest) : Type 0 where
 
 -- a number that is from low to high
 pub within_says : (low high x : ℕ) → within low high x ≡ true → (low ≤ x) × (x ≤ high)
-within_says low high x e = (leb-true low x (and_left (leb low x) _ e), leb-true x high (and_right (leb low x) _ e))
+within_says low high x e = grind (arith, nat_tests)
 
 -- a number from 1 to high passes the test
 pub within_right : (high x : ℕ) → 1 ≤ x → x ≤ high → within 1 high x ≡ true
-within_right high x l h = rw (le-leb 1 x l, le-leb x high h) refl
+within_right high x l h = grind (arith, nat_tests)
 
 -- a guest that passes refusal 4's test is in its ranges
 pub head_says :
     (id capacity period tasks : ℕ) → head_ok id capacity period tasks ≡ true → HeadIn id capacity period tasks
 unfolding head_ok
-head_says id capacity period tasks e =
-    let p3 = and_left _ (within 1 most_tasks tasks) e in
-    let p2 = and_left _ (within 1 longest period) p3 in
-    let w1 = within_says 1 period capacity (and_right (leb 1 id) _ p2) in
-    let w2 = within_says 1 longest period (and_right (leb 1 id && within 1 period capacity) _ p3) in
-    let w3 = within_says 1 most_tasks tasks
-    (and_right (leb 1 id && within 1 period capacity && within 1 longest period) _ e) in
-    record {
-      named = leb-true 1 id (and_left (leb 1 id) _ p2);
-      some = w1.0;
-      fits = w1.1;
-      short = w2.1;
-      many = w3.0;
-      few = w3.1;
-    }
+head_says id capacity period tasks e = grind (arith, nat_tests)
 
 -- a guest in its ranges passes refusal 4's test
 pub head_right :
     {id capacity period tasks : ℕ} → HeadIn id capacity period tasks → head_ok id capacity period tasks ≡ true
 unfolding head_ok
-head_right {id} {capacity} {period} {tasks} h =
-    and_true (and_true (and_true (le-leb 1 id h.named) (within_right period capacity h.some h.fits))
-    (within_right longest period (omega (arith, h.some, h.fits)) h.short))
-    (within_right most_tasks tasks h.many h.few)
+head_right {id} {capacity} {period} {tasks} h = grind (arith, nat_tests)
 
 -- a task that passes refusal 6's test is in its ranges
 pub task_says_lem : (run every deadline : ℕ) → task_ok run every deadline ≡ true → TaskIn run every deadline
 unfolding task_ok
-task_says_lem run every deadline e =
-    let p2 = and_left _ (within 1 every deadline) e in
-    let w1 = within_says 1 longest run (and_left (within 1 longest run) _ p2) in
-    let w2 = within_says 1 longest every (and_right (within 1 longest run) _ p2) in
-    let w3 = within_says 1 every deadline (and_right (within 1 longest run && within 1 longest every) _ e) in
-    record { runs = w1.0; run_short = w1.1; some = w2.0; short = w2.1; due = w3.0; in_time = w3.1 }
+task_says_lem run every deadline e = grind (arith, nat_tests)
 
 -- a bound task whose period passes is a multiple of its guest's
 pub start_says : (b : Bool) (period every : ℕ) → start_ok b period every ≡ true → b ≡ true → every % period ≡ 0
 unfolding start_ok
-start_says true period every e h = eqb-true (every % period) 0 e
-start_says false period every e h = absurd (false≢true h)
+start_says b period every e h = grind (arith, nat_tests)
 
 -- a guest that passes both tests is in its ranges with all its tasks
 pub guest_says_lem : (g : Guest) → guest_ok g ≡ true → tasks_ok g ≡ true → GuestIn g
 unfolding tasks_ok
-guest_says_lem g h t = record {
-  head = head_says g.id g.capacity g.period g.tasks h;
-  tasks = λ i l.
-      task_says_lem (run_of g i) (every_of g i) (deadline_of g i) (all_at _ g.tasks i l (and_left (all_to _ g.tasks) _ t));
-  starts = λ i l b. start_says (is_bound g i) g.period (every_of g i) (all_at _ g.tasks i l (and_right (all_to _ g.tasks) _ t)) b;
-}
+guest_says_lem g h t =
+    let inner = and_left (all_to _ g.tasks) _ t in
+    let starts = and_right (all_to _ g.tasks) _ t in record {
+      head = head_says g.id g.capacity g.period g.tasks h;
+      tasks = λ i l. task_says_lem (run_of g i) (every_of g i) (deadline_of g i) (all_at _ g.tasks i l inner);
+      starts = λ i l b. start_says (is_bound g i) g.period (every_of g i) (all_at _ g.tasks i l starts) b;
+    }
