@@ -1,11 +1,14 @@
 -- What the marks of tasks say. Assumes nothing.
 use mathlib.Core.Path.{◌≡◌, refl, sym, ap, ◌∙◌}
-use mathlib.Core.Bool.{Bool, true, false, false≢true, not, ◌||◌, or-true}
-use Prim.Native.Nat.{ℕ, zero, suc, ◌+◌, ◌-◌, ◌*◌, ◌/◌, ◌%◌, ◌^◌, ◌≤◌, ◌<◌}
-use native.Mathlib.Nat.{zero-div, zero-mod, one-le-pow, pow-zero, pow-suc, pow-le-pow_right, mod-lt, mod-eq_of_lt, div-add-mod', add-mul-div_right, add-mul-mod_self_right}
+use mathlib.Core.Bool.{true, false}
+use Prim.Native.Nat.{ℕ, ◌*◌, ◌/◌, ◌%◌, ◌^◌, ◌≤◌, ◌<◌}
+use native.Mathlib.Nat.{zero-div, zero-mod, one-le-pow, pow-le-pow_right, mod-lt, mod-eq_of_lt}
 use native.Mathlib.Omega.{arith}
 use lib.Dec.{eqb}
-use borrow.Author.Tests.{eqb-true, eqb-false, ne_eqb}
+use Rattle.std.specs.Int.{bit_at}
+use Rattle.std.proofs.lemmas.Nat.{div-add-mod'}
+use Rattle.std.proofs.lemmas.Nat.Bits.{bit_at_cat_low}
+use Rattle.std.proofs.lemmas.Bool.Decides.{nat_tests}
 use Rattle.lists.specs.All.{all_to}
 use Rattle.lists.specs.Exactly.{◌exactly_when◌}
 use Rattle.plan.specs.declared.Guest.{Guest}
@@ -24,29 +27,12 @@ pub starts_unmarked : (marks period : ℕ) (every : ℕ → ℕ) (n : ℕ) → m
 unfolding start_ok
 starts_unmarked marks period every n e = sym (all_by _ n (λ i l. rw (e, unmarked i) refl))
 
--- a power of two is a multiple of twice a smaller one
-split : (d i : ℕ) → 2 ^ (suc d + i) ≡ 2 ^ d * 2 * 2 ^ i
-split d zero = let e : suc d + 0 ≡ suc d = omega arith in rw (e, pow-suc 2 d, pow-zero 2) (omega arith)
-split d (suc i) =
-    let e : suc d + suc i ≡ suc (suc d + i) = omega arith in
-    rw (e, pow-suc 2 (suc d + i), split d i, pow-suc 2 i) (omega arith)
-
 -- the marks of the first n tasks have the bits of all the marks there
-same_by : (marks d i : ℕ) → marks % 2 ^ (suc d + i) / 2 ^ i % 2 ≡ marks / 2 ^ i % 2
-same_by marks d i =
-    let m = marks / 2 ^ (suc d + i) in
-    let r = marks % 2 ^ (suc d + i) in
-    let e : r + m * 2 ^ d * 2 * 2 ^ i ≡ marks =
-    omega (arith, div-add-mod' marks (2 ^ (suc d + i)), ap (λ (x : ℕ). m * x) (split d i)) in
-    let q : marks / 2 ^ i ≡ r / 2 ^ i + m * 2 ^ d * 2 =
-    ap (λ (x : ℕ). x / 2 ^ i) (sym e) ∙ add-mul-div_right r (m * 2 ^ d * 2) (one-le-pow i 2 (omega arith)) in
-    sym (ap (λ (x : ℕ). x % 2) q ∙ add-mul-mod_self_right (r / 2 ^ i) (m * 2 ^ d) 2)
-
 pub marks_same : (marks n i : ℕ) → i < n → marked (marks_of marks n) i ≡ marked marks i
 unfolding marked marks_of
 marks_same marks n i h =
-    let e : suc (n - suc i) + i ≡ n = omega arith in
-    ap (λ (x : ℕ). eqb x 1) (rw e at (same_by marks (n - suc i) i))
+    ap (λ (x : ℕ). eqb x 1)
+    (sym (bit_at_cat_low (marks / 2 ^ n) n (marks % 2 ^ n) i h) ∙ ap (λ (x : ℕ). bit_at x i) (div-add-mod' marks (2 ^ n)))
 
 -- 1 moved up by as many places as there can be tasks is that power of two, in 32 bits
 pub moved_up_lem : (n : ℕ) → n ≤ most_tasks → 1 * 2 ^ n % 4294967296 ≡ 2 ^ n
@@ -71,36 +57,19 @@ unfolding marks_of
 marks_fit marks n h = mod-eq_of_lt h
 
 -- ---- where a task may start
--- a task that is not bound may start anywhere
-pub unbound_starts : (g : Guest) (position i : ℕ) → is_bound g i ≡ false → may_start g position i ≡ true
-unfolding may_start
-unbound_starts g position i e = rw e refl
-
--- any task may start at position 0
-pub starts_at_0 : (g : Guest) (position i : ℕ) → position ≡ 0 → may_start g position i ≡ true
-unfolding may_start
-starts_at_0 g position i e = rw e (or-true (not (is_bound g i)))
-
 -- a task may start that, if it is bound, has its guest at position 0
 pub starts_here : (g : Guest) (position i : ℕ) → (is_bound g i ≡ true → position ≡ 0) → may_start g position i ≡ true
-starts_here g position i h = by (is_bound g i) refl
-  where
-    by : (b : Bool) → is_bound g i ≡ b → may_start g position i ≡ true
-    by true e = starts_at_0 g position i (h e)
-    by false e = unbound_starts g position i e
+unfolding may_start
+starts_here g position i h = grind (arith, nat_tests)
 
 -- a bound task that may start has its guest at position 0
 pub bound_starts : (g : Guest) (position i : ℕ) → may_start g position i ≡ true → is_bound g i ≡ true → position ≡ 0
 unfolding may_start
-bound_starts g position i e b = eqb-true position 0 (rw b at e)
+bound_starts g position i e b = grind (arith, nat_tests)
 
 -- a task may not start exactly where it is bound and its guest past position 0
 pub may_not_start :
     (g : Guest) (position i : ℕ)
     → (may_start g position i ≡ false) exactly_when ((is_bound g i ≡ true) × (0 < position))
 unfolding may_start
-may_not_start g position i = (by (is_bound g i), λ h. rw h.0 (ne_eqb position 0 (λ z. omega (arith, h.1))))
-  where
-    by : (b : Bool) → (not b || eqb position 0) ≡ false → (b ≡ true) × (0 < position)
-    by true e = (refl, omega (arith, eqb-false position 0 e))
-    by false e = absurd (false≢true (sym e))
+may_not_start g position i = (λ e. grind (arith, nat_tests), λ h. grind (arith, nat_tests))
