@@ -1,5 +1,5 @@
 -- The search makes few tests for each guest of a plan that passes the check. Assumes nothing.
-use Rattle.std.specs.Prelude.{Some, is_some}
+use Rattle.std.specs.Prelude.{Option, Some, None, is_some, Ok}
 use mathlib.Core.Path.{◌≡◌, refl, sym, ◌∙◌, ap, fun_ext}
 use mathlib.Core.Bool.{Bool, true, false}
 use Prim.Native.Nat.{ℕ, ◌+◌, ◌-◌, ◌≤◌, ◌<◌}
@@ -20,6 +20,7 @@ use Rattle.response.specs.Task.{gap, system_of, response_to}
 use Rattle.response.specs.Columns.{ServersOf, TasksOf, above_of}
 use Rattle.response.specs.declared.servers.Servers.{Servers}
 use Rattle.response.specs.declared.tasks.Tasks.{Tasks}
+use Rattle.capacity.specs.Answer.{capacity_says}
 use Rattle.capacity.specs.Capacity.{at_capacity, with_capacity, works, smallest}
 use Rattle.capacity.specs.Search.{fits_at, met_at, meets_at, tried_system, few}
 use Rattle.capacity.specs.Tries.{tests_in, tests_of, most_tests}
@@ -147,3 +148,8 @@ module _ (p : Plan) (ok : (plan_refusal p).number ≡ 0) (k : ℕ) (h : k < p.co
           own.tasks plan_halving ((plan_in p ok).guests k h).head.short own.tasks 0 1 (omega arith)
           (omega arith) in
           omega (arith, tests_are (charged own) (λ j l. refl) e, t)
+
+-- what is said to be the smallest is what was found
+pub said_found : (f : Option ℕ) (a : ℕ) → capacity_says f ≡ Ok a → f ≡ Some a
+said_found (Some c) a e = cc
+said_found None a e = absurd cc

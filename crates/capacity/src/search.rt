@@ -29,6 +29,7 @@ struct Span {
 
 // The capacity to try next: the lowest up to 32; then twice the lowest, until one was found that works or is unfit;
 // then the middle.
+#[tactic(auto, unfolding(crate::specs::Search::next_try))]
 fn next_try(lo: u32, hi: u32, period: u32) -> u32
     requires { (lo < hi) × ((hi ≤ period + 1) × (period ≤ longest)) }
     ensures { (result ≡ next_try period lo hi) × ((lo ≤ result) × (result < hi)) }

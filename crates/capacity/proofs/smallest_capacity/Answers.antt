@@ -1,6 +1,7 @@
 -- `capacity::smallest_capacity` meets its promise: the search for the guest at its seat. Assumes nothing.
 use Rattle.std.proofs.lemmas.Result.{err_from_is_err_and}
-use mathlib.Core.Path.{◌∙◌}
+use mathlib.Core.Path.{◌≡◌, ◌∙◌}
+use Rattle.capacity.specs.Capacity.{smallest}
 use Rattle.plan.proofs.LookUp.{look_order, look_here, look_few}
 use Rattle.response.proofs.SeatLaws.{sits_seated, sits_in}
 use Rattle.capacity.proofs.Answer.{capacity_refused, capacity_found}
@@ -24,7 +25,7 @@ pub returns : goal.returns
 returns g c =
     let t = c.in_ok-seat.ensures in
     let p = g.P.AsPlan.plan c.args.plan.now in
-    c.ok_or.ensures.value
-    ∙ capacity_found _ _ t.looks
-    (rw c.guest-g.ensures at c.smallest_at.ensures
-    ∙ smallest_is p (look_order _ _ t.looks) t.servers c.in_ok-seat.seat.place (look_here _ _ t.looks))
+    let found : c.smallest_at.result ≡ smallest p c.in_ok-seat.seat.place =
+    rw c.guest-g.ensures at c.smallest_at.ensures
+    ∙ smallest_is p (look_order _ _ t.looks) t.servers c.in_ok-seat.seat.place (look_here _ _ t.looks) in
+    c.ok_or.ensures.value ∙ capacity_found p c.args.id t.looks found
