@@ -1,5 +1,4 @@
 // The plan's records handed over: verdicts, acceptance, the smallest capacity and the order of a guest's tasks.
-use capacity::CapacityAnswer;
 use casework::say;
 use draft::text::Row;
 use plan::Plan;
@@ -23,12 +22,12 @@ fn accept(rt: &impl Print, p: Plan) -> io::Result<()> {
 }
 
 fn smallest(rt: &impl Print, p: Plan, id: u32) -> io::Result<()> {
-    match capacity::smallest_capacity(p, id) {
-        CapacityAnswer::Refused(number, place) => {
+    match capacity::smallest_capacity(&p, id) {
+        Err(refusal) => {
             say::text(rt, b": ")?;
-            show::print(rt, Line::Refused(number, place))
+            show::print(rt, Line::Refused(refusal.number, refusal.place))
         }
-        CapacityAnswer::Smallest(c) => {
+        Ok(c) => {
             say::number(rt, b": capacity ", c)?;
             say::text(rt, b"\n")
         }
