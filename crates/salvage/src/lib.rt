@@ -2,13 +2,16 @@
 #![tactic(auto)]
 
 ghost use Rattle.std.specs.Prelude.{◌≡◌, ◌≤◌};
+ghost use Rattle.lists.specs.Refusals.{unless_number};
 ghost use Rattle.plan.specs.Ranges.{most_guests};
 ghost use Rattle.salvage.specs.Outcome.{listed_in, salvage_number, answer_of};
 ghost use Rattle.salvage.specs.Promises.{Salvages};
 
 use block::layout;
+use kept::Kept;
 use plan::Refusal;
 
+mod kept;
 mod mover;
 mod sifter;
 
@@ -32,11 +35,10 @@ pub struct Salvaged {
     pub fates: [Fate; 8],
 }
 
-// Blocks gone through: the places in the file of those that are kept, how many these are, and the list.
-#[derive(Clone, Copy)]
+// Blocks gone through: the places in the file of those that are kept, and the list.
+#[derive(Drop)]
 pub struct Sifted {
-    pub kept: [usize; 8],
-    pub count: usize,
+    pub kept: Kept,
     pub fates: [Fate; 8],
 }
 
@@ -45,26 +47,29 @@ fn listed_in(size: usize) -> usize
     ensures { result ≡ listed_in size }
 {
     if size <= blockfile::MOST_BYTES {
-        return size / layout::SIZE;
+        size / layout::SIZE
+    } else {
+        0
     }
-    0
 }
 
-// The number that salvage refuses by, 0 for none, for a file and an output of so many bytes and so many kept blocks.
-fn salvage_number(size: usize, kept: usize, room: usize) -> u32
+// Whether salvage does not refuse, or the number that it refuses by, for a file and an output of so many bytes and so
+// many kept blocks.
+#[tactic(auto, unfolding(crate::specs::Outcome::salvage_number, lists::specs::Refusals::refusal, lists::specs::Refusals::unless))]
+fn salvage_number(size: usize, kept: usize, room: usize) -> Result<(), u32>
     requires { kept ≤ most_guests }
-    ensures { result ≡ salvage_number size kept room }
+    ensures { result ≡ unless_number (salvage_number size kept room) tt }
 {
     if blockfile::MOST_BYTES < size {
-        return 1;
+        return Err(1);
     }
     if room < layout::SIZE * kept {
-        return 12;
+        return Err(12);
     }
     if kept < 1 {
-        return 20;
+        return Err(20);
     }
-    0
+    Ok(())
 }
 
 // The answer: a refusal's number or 0, the bytes of so many blocks, and the list.
@@ -86,13 +91,10 @@ pub fn salvage(file: &[u8], out: &mut [u8]) -> Salvaged
 {
     let n = listed_in(file.len());
     let sifted = sifter::sift(file, n);
-    let count = sifted.count;
-    let fates = sifted.fates;
-    let number = salvage_number(file.len(), count, out.len());
-    if 0 < number {
-        return told(number, 0, n, fates);
+    let kept = sifted.kept.places();
+    if let Err(number) = salvage_number(file.len(), kept.len(), out.len()) {
+        return told(number, 0, n, sifted.fates);
     }
-    let kept = sifted.kept;
-    mover::put_moved_up(file, &kept, count, out);
-    told(0, count, n, fates)
+    mover::put_moved_up(file, kept, out);
+    told(0, kept.len(), n, sifted.fates)
 }

@@ -1,62 +1,37 @@
 // The blocks of a file gone through once: which are kept, and what becomes of each. It meets specs/Keeping.antt,
 // specs/Fates.antt and specs/Sifting.antt.
-ghost use Rattle.std.specs.Prelude.{◌≡◌, ℕ, ◌<◌, ◌≤◌, true, not, ◌==◌};
-ghost use Rattle.lists.specs.All.{all_to};
+ghost use Rattle.std.specs.Prelude.{◌≡◌, ℕ, ◌<◌, ◌≤◌, length};
 ghost use Rattle.lists.specs.Places.{nth};
+ghost use Rattle.lists.specs.Refusals.{unless_number};
 ghost use Rattle.plan.specs.Ranges.{most_guests};
-ghost use Rattle.block.specs.Reading.{block_number};
-ghost use Rattle.blockfile.specs.File.{block_at, id_at, blocks_in};
-ghost use Rattle.salvage.specs.Fates.{fate_by};
+ghost use Rattle.blockfile.specs.File.{blocks_in};
+ghost use Rattle.salvage.specs.Keeping.{new_among, number_after};
 ghost use Rattle.salvage.specs.Sifting.{sifted_of};
 
+use crate::kept::Kept;
 use crate::{Fate, Sifted};
 
-// Whether the id of block k is none of those of the first `count` blocks of `kept`.
-fn new_among(file: &[u8], kept: &[usize; 8], count: usize, k: usize) -> bool
-    requires { (k < blocks_in file.now)
-        × ((count ≤ most_guests) × ((j : ℕ) → j < count → nth kept.now j < blocks_in file.now)) }
-    ensures { result
-        ≡ all_to (λ j. not (id_at file.now (nth kept.now j) == id_at file.now k))
-        count }
+// Whether the id of block k is none of those of the kept blocks.
+fn new_among(file: &[u8], kept: &[usize], k: usize) -> bool
+    requires { (k < blocks_in file.now) × ((j : ℕ) → j < length kept.now → nth kept.now j < blocks_in file.now) }
+    ensures { result ≡ new_among file.now kept.now k }
 {
     let id = blockfile::id_at(file, k);
-    let mut ok = true;
-    let mut j: usize = 0;
-    while j < count {
-        ok = ok & !(blockfile::id_at(file, kept[j]) == id);
-        j += 1;
+    for j in kept {
+        if blockfile::id_at(file, *j) == id {
+            return false;
+        }
     }
-    ok
+    true
 }
 
-// The number that block k is dropped by after these, 0 where it is kept.
-fn number_after(file: &[u8], kept: &[usize; 8], count: usize, k: usize) -> u32
-    requires { (k < blocks_in file.now)
-        × ((count ≤ most_guests) × ((j : ℕ) → j < count → nth kept.now j < blocks_in file.now)) }
-    ensures { result
-        ≡ block_number (block_at file.now k) true
-        (all_to (λ j. not (id_at file.now (nth kept.now j) == id_at file.now k))
-        count) }
+// Whether block k is kept after these, or else the number that it is dropped by.
+#[tactic(auto, unfolding(crate::specs::Keeping::number_after))]
+fn number_after(file: &[u8], kept: &[usize], k: usize) -> Result<(), u32>
+    requires { (k < blocks_in file.now) × ((j : ℕ) → j < length kept.now → nth kept.now j < blocks_in file.now) }
+    ensures { result ≡ unless_number (number_after file.now kept.now k) tt }
 {
-    block::block_number(
-        blockfile::block_at(file, k),
-        true,
-        new_among(file, kept, count, k),
-    )
-}
-
-// What becomes of a block with this number, after so many kept ones.
-fn fate_by(number: u32, count: usize) -> Fate
-    requires { count ≤ most_guests }
-    ensures { result ≡ fate_by number count }
-{
-    if number < 1 {
-        return Fate {
-            number: 0,
-            place: count as u32,
-        };
-    }
-    Fate { number, place: 0 }
+    block::block_number(blockfile::block_at(file, k), true, new_among(file, kept, k))
 }
 
 // The first n blocks gone through.
@@ -64,21 +39,22 @@ pub fn sift(file: &[u8], n: usize) -> Sifted
     requires { (n ≤ most_guests) × (n ≤ blocks_in file.now) }
     ensures { result ≡ sifted_of file.now n }
 {
-    let mut kept = [0usize; 8];
-    let mut count: usize = 0;
+    let mut kept = Kept::none();
     let mut fates = [Fate {
         number: 0,
         place: 0,
     }; 8];
-    let mut k: usize = 0;
-    while k < n {
-        let number = number_after(file, &kept, count, k);
-        fates[k] = fate_by(number, count);
-        if number < 1 {
-            kept[count] = k;
-            count += 1;
+    for k in 0..n {
+        match number_after(file, kept.places(), k) {
+            Ok(()) => {
+                fates[k] = Fate {
+                    number: 0,
+                    place: kept.places().len() as u32,
+                };
+                kept.push(k);
+            }
+            Err(number) => fates[k] = Fate { number, place: 0 },
         }
-        k += 1;
     }
-    Sifted { kept, count, fates }
+    Sifted { kept, fates }
 }

@@ -1,5 +1,5 @@
--- `salvage::mover::put_moved_up` meets its contract: after j turns the first j blocks stand. Assumes nothing.
-use Rattle.std.proofs.Common.{◌≡◌, ◌-◌, ◌*◌, ◌≤◌, ◌++◌, length, drop}
+-- After j turns the first j blocks stand.
+use Rattle.std.proofs.Common.{◌≡◌, ◌*◌, ◌++◌, drop}
 use Rattle.lists.specs.Places.{nth}
 use Rattle.block.specs.Layout.{block_size}
 use Rattle.blockfile.specs.File.{block_at}
@@ -9,9 +9,4 @@ use Rattle.salvage.proofs.mover.put_moved_up.Given as goal
 
 abbrev pub invariant-loop-j : goal.invariant-loop-j
 invariant-loop-j l =
-    (l.j ≤ l.count)
-    × ((l.out ≡ joined (λ i. moved (block_at l.file (nth l.kept i)) i) l.j ++ drop (block_size * l.j) l.initial.out)
-    × (length l.out ≡ length l.initial.out))
-
-abbrev pub decreases-loop-j : goal.decreases-loop-j
-decreases-loop-j l = l.count - l.j
+    l.out ≡ joined (λ i. moved (block_at l.file (nth l.kept i)) i) l.j ++ drop (block_size * l.j) l.initial.out
