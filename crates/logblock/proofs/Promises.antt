@@ -2,6 +2,7 @@
 use mathlib.Core.Path.{◌≡◌}
 use mathlib.Core.List.{List}
 use Prim.Native.Nat.{ℕ}
+use Rattle.std.specs.Prelude.{Result}
 use Rattle.plan.specs.declared.Refusal.{Refusal}
 use Rattle.logblock.specs.declared.Entries.{Entries}
 use Rattle.logblock.specs.Promises.{WritesLog}
@@ -9,7 +10,7 @@ use Rattle.plan.proofs.Promises.{one_outcome}
 
 -- `write_log` has one refusal and leaves one content of the lent bytes.
 pub writes_log_once :
-    (es : Entries) (before : List ℕ) (r s : Refusal) (x y : List ℕ)
+    (es : Entries) (before : List ℕ) (r s : Result (Unit {0}) Refusal) (x y : List ℕ)
     → WritesLog es before r x
     → WritesLog es before s y
     → (r ≡ s) × (x ≡ y)

@@ -1,12 +1,12 @@
--- How the code comes to the writer's number and to the log block written. Assumes nothing.
+-- When the writer does not refuse, and how the code comes to the log block written. Assumes nothing.
 use mathlib.Core.Path.{◌≡◌, sym, ◌∙◌}
-use mathlib.Core.Bool.{true, false}
+use mathlib.Core.Bool.{true}
 use mathlib.Core.List.{List, [], ◌++◌}
-use Prim.Native.Nat.{ℕ, ◌≤◌, ◌<◌}
+use Prim.Native.Nat.{ℕ, ◌≤◌}
 use native.Mathlib.Omega.{arith}
 use lib.ListN.{length, set, replicate, length-set, length-replicate}
 use lib.Dec.{leb}
-use borrow.Author.Tests.{le-leb, lt-leb, leb-true}
+use borrow.Author.Tests.{le-leb, leb-true}
 use Rattle.words.specs.Word.{word}
 use Rattle.words.specs.Bytes.{with_word}
 use Rattle.words.specs.Wrap.{wrapped, complement}
@@ -15,26 +15,14 @@ use Rattle.logblock.specs.declared.Entries.{Entries}
 use Rattle.logblock.specs.Layout.{kind_jobs_word, log_kind, first_entry}
 use Rattle.logblock.specs.Entries.{entry_at, jobs_ok}
 use Rattle.logblock.specs.Writing.{log_words, log_of, log_number}
-use Rattle.lists.proofs.Refusals.{none_left, go_on, stop, passed}
+use Rattle.lists.proofs.Refusals.{none_left, go_on, passed}
 use Rattle.blockparts.proofs.Parts.{laid, zeros_laid, put_laid, check_laid, entries_length}
 
--- The writer's number, by the tests that led to it.
-module _ (es : Entries) (n : ℕ) where
-  -- The buffer is short.
-  pub twelve : n < block_size → 12 ≡ log_number es n
-  unfolding log_number
-  twelve h = sym (stop 12 _ (lt-leb block_size n h))
-
-  module _ (h : block_size ≤ n) where
-    -- The number of jobs, or an age, is out of its range.
-    pub eighteen : jobs_ok es.count (λ i. (entry_at es i).age) ≡ false → 18 ≡ log_number es n
-    unfolding log_number
-    eighteen e = sym (go_on 12 _ (le-leb block_size n h) ∙ stop 18 _ e)
-
-    -- Nothing is refused.
-    pub none : jobs_ok es.count (λ i. (entry_at es i).age) ≡ true → 0 ≡ log_number es n
-    unfolding log_number
-    none e = sym (go_on 12 _ (le-leb block_size n h) ∙ go_on 18 _ e ∙ none_left)
+-- Entries in their ranges are refused by no number where there is room for the block.
+pub none :
+    (es : Entries) (n : ℕ) → block_size ≤ n → jobs_ok es.count (λ i. (entry_at es i).age) ≡ true → 0 ≡ log_number es n
+unfolding log_number
+none es n h e = sym (go_on 12 _ (le-leb block_size n h) ∙ go_on 18 _ e ∙ none_left)
 
 -- Entries that the writer does not refuse are in their ranges, and there is room for the block.
 pub record LogIn (es : Entries) (n : ℕ) : Type 0 where

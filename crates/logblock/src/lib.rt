@@ -10,7 +10,7 @@ mod reader;
 mod writer;
 
 pub use layout::MOST_JOBS;
-pub use reader::{age_of, guest_of, jobs_of, own_number, task_of};
+pub use reader::{entry_of, jobs_of, own_number};
 
 // A finished job: its guest's id, its task's number from 1, and its age.
 #[repr(C)]
@@ -30,12 +30,11 @@ pub struct Entries {
 }
 
 // Writes the log block of the entries to the first 512 bytes of the buffer; a refusal writes nothing.
-pub fn write_log(jobs: Entries, buf: &mut [u8]) -> Refusal
+#[tactic(auto, unfolding(crate::specs::Writing::log_number, crate::specs::Entries::jobs_ok, lists::specs::Refusals::refusal, lists::specs::Refusals::unless, blockparts::specs::Parts::written_by))]
+pub fn write_log(jobs: Entries, buf: &mut [u8]) -> Result<(), Refusal>
     ensures { WritesLog jobs buf.old result buf.new }
 {
-    let number = writer::log_number(jobs, buf.len());
-    if number < 1 {
-        writer::put_log(jobs, buf);
-    }
-    Refusal { number, place: 0 }
+    writer::log_number(jobs, buf.len()).map_err(|number| Refusal { number, place: 0 })?;
+    writer::put_log(jobs, buf);
+    Ok(())
 }

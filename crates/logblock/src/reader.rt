@@ -1,44 +1,34 @@
 // A log block read: tested by itself in the order of the refusals, and its numbers.
-ghost use Rattle.std.specs.Prelude.{◌≡◌, ◌≤◌, ◌<◌, length};
+ghost use Rattle.std.specs.Prelude.{◌≡◌, ◌≤◌, ◌<◌};
 ghost use Rattle.lists.specs.All.{all_to};
+ghost use Rattle.lists.specs.Refusals.{unless_number};
 ghost use Rattle.words.specs.Word.{word};
 ghost use Rattle.plan.specs.Ranges.{longest, within};
-ghost use Rattle.block.specs.Layout.{block_size};
 ghost use Rattle.logblock.specs.Layout.{most_jobs, age_word};
 ghost use Rattle.logblock.specs.Reading.{jobs_in, entry_in, jobs_pass, rest_zero, own_number};
 
-use crate::layout;
+use crate::{Entry, layout};
+use block::layout::SIZE;
 
 // The number of jobs.
-pub fn jobs_of(b: &[u8]) -> u32
-    requires { length b.now ≡ block_size }
+pub fn jobs_of(b: &[u8; SIZE]) -> u32
     ensures { result ≡ jobs_in b.now }
 {
     words::word_at(b, layout::KIND_JOBS) / block::layout::HALF
 }
 
-// The guest id of entry i.
-pub fn guest_of(b: &[u8], i: usize) -> u32
-    requires { (i < most_jobs) × (length b.now ≡ block_size) }
-    ensures { result ≡ (entry_in b.now i).guest }
+// Entry i.
+#[tactic(auto, unfolding(crate::specs::Reading::entry_in))]
+pub fn entry_of(b: &[u8; SIZE], i: usize) -> Entry
+    requires { i < most_jobs }
+    ensures { result ≡ entry_in b.now i }
 {
-    words::word_at(b, layout::GUEST + block::layout::ENTRY * i)
-}
-
-// The task number of entry i.
-pub fn task_of(b: &[u8], i: usize) -> u32
-    requires { (i < most_jobs) × (length b.now ≡ block_size) }
-    ensures { result ≡ (entry_in b.now i).task }
-{
-    words::word_at(b, layout::TASK + block::layout::ENTRY * i)
-}
-
-// The age of entry i.
-pub fn age_of(b: &[u8], i: usize) -> u32
-    requires { (i < most_jobs) × (length b.now ≡ block_size) }
-    ensures { result ≡ (entry_in b.now i).age }
-{
-    words::word_at(b, layout::AGE + block::layout::ENTRY * i)
+    let first = block::layout::ENTRY * i;
+    Entry {
+        guest: words::word_at(b, layout::GUEST + first),
+        task: words::word_at(b, layout::TASK + first),
+        age: words::word_at(b, layout::AGE + first),
+    }
 }
 
 // Whether a number of jobs is in its range.
@@ -56,34 +46,30 @@ pub fn age_ok(age: u32) -> bool
 }
 
 // Whether each of the first n ages is in its range.
-fn ages_ok(b: &[u8], n: usize) -> bool
-    requires { (n ≤ most_jobs) × (length b.now ≡ block_size) }
+#[tactic(auto, unfolding(lists::specs::All::all_to, crate::specs::Reading::entry_in))]
+fn ages_ok(b: &[u8; SIZE], n: usize) -> bool
+    requires { n ≤ most_jobs }
     ensures { result ≡ all_to (λ i. within 1 longest (word b.now (age_word i))) n }
 {
     let mut ok = true;
-    let mut i: usize = 0;
-    while i < n {
-        ok = ok & age_ok(age_of(b, i));
-        i += 1;
+    for i in 0..n {
+        ok &= age_ok(entry_of(b, i).age);
     }
     ok
 }
 
 // Whether the number of jobs and each age are in their ranges.
-fn jobs_pass(b: &[u8]) -> bool
-    requires { length b.now ≡ block_size }
+#[tactic(auto, unfolding(crate::specs::Entries::jobs_ok))]
+fn jobs_pass(b: &[u8; SIZE]) -> bool
     ensures { result ≡ jobs_pass b.now }
 {
     let n = jobs_of(b);
-    if !count_ok(n) {
-        return false;
-    }
-    ages_ok(b, n as usize)
+    count_ok(n) && ages_ok(b, n as usize)
 }
 
 // Whether bytes 4-7 and those past the entries are zero.
-fn rest_zero(b: &[u8]) -> bool
-    requires { (jobs_in b.now ≤ most_jobs) × (length b.now ≡ block_size) }
+fn rest_zero(b: &[u8; SIZE]) -> bool
+    requires { jobs_in b.now ≤ most_jobs }
     ensures { result ≡ rest_zero b.now }
 {
     let n = jobs_of(b) as usize;
@@ -95,22 +81,22 @@ fn rest_zero(b: &[u8]) -> bool
         )
 }
 
-// The number that the block b is refused by, by itself; 0 for none.
-pub fn own_number(b: &[u8]) -> u32
-    requires { length b.now ≡ block_size }
-    ensures { result ≡ own_number b.now }
+// Whether the block b is not refused by itself, or the number that it is refused by.
+#[tactic(auto, unfolding(crate::specs::Reading::own_number, crate::specs::Entries::jobs_ok, lists::specs::Refusals::refusal, lists::specs::Refusals::unless))]
+pub fn own_number(b: &[u8; SIZE]) -> Result<(), u32>
+    ensures { result ≡ unless_number (own_number b.now) tt }
 {
     if words::sum_words(b, block::layout::WORDS) != 0 {
-        return 2;
+        return Err(2);
     }
     if words::word_at(b, layout::KIND_JOBS) % block::layout::HALF != layout::LOG_KIND {
-        return 3;
+        return Err(3);
     }
     if !jobs_pass(b) {
-        return 18;
+        return Err(18);
     }
     if !rest_zero(b) {
-        return 5;
+        return Err(5);
     }
-    0
+    Ok(())
 }

@@ -1,6 +1,7 @@
 // A log block written: the entries tested, and their words put straight into the lent buffer.
 ghost use Rattle.std.specs.Prelude.{◌≡◌, ◌++◌, ◌≤◌, length, drop};
 ghost use Rattle.lists.specs.All.{all_to};
+ghost use Rattle.lists.specs.Refusals.{unless_number};
 ghost use Rattle.plan.specs.Ranges.{longest, within};
 ghost use Rattle.block.specs.Layout.{block_size};
 ghost use Rattle.logblock.specs.Layout.{most_jobs};
@@ -11,35 +12,30 @@ use crate::reader::{age_ok, count_ok};
 use crate::{Entries, layout};
 
 // Whether each of the first n ages is in its range.
+#[tactic(auto, unfolding(lists::specs::All::all_to))]
 fn ages_in(jobs: Entries, n: usize) -> bool
     requires { n ≤ most_jobs }
     ensures { result ≡ all_to (λ i. within 1 longest (entry_at jobs i).age) n }
 {
     let mut ok = true;
-    let mut i: usize = 0;
-    while i < n {
-        let entry = jobs.entries[i];
-        ok = ok & age_ok(entry.age);
-        i += 1;
+    for entry in &jobs.entries[..n] {
+        ok &= age_ok(entry.age);
     }
     ok
 }
 
-// The number that the writer refuses by, 0 for none, for a buffer of so many bytes.
-pub fn log_number(jobs: Entries, size: usize) -> u32
-    ensures { result ≡ log_number jobs size }
+// Whether the writer does not refuse, or the number that it refuses by, for a buffer of so many bytes.
+#[tactic(auto, unfolding(crate::specs::Writing::log_number, crate::specs::Entries::jobs_ok, lists::specs::Refusals::refusal, lists::specs::Refusals::unless))]
+pub fn log_number(jobs: Entries, size: usize) -> Result<(), u32>
+    ensures { result ≡ unless_number (log_number jobs size) tt }
 {
     if size < block::layout::SIZE {
-        return 12;
+        return Err(12);
     }
-    let n = jobs.count;
-    if !count_ok(n) {
-        return 18;
+    if !count_ok(jobs.count) || !ages_in(jobs, jobs.count as usize) {
+        return Err(18);
     }
-    if !ages_in(jobs, n as usize) {
-        return 18;
-    }
-    0
+    Ok(())
 }
 
 // The log block of the entries put into the first 512 bytes.
@@ -53,12 +49,9 @@ pub fn put_log(jobs: Entries, buf: &mut [u8])
         layout::KIND_JOBS,
         layout::LOG_KIND + block::layout::HALF * jobs.count,
     );
-    let n = jobs.count as usize;
-    let mut i: usize = 0;
-    while i < n {
+    for i in 0..jobs.count as usize {
         let entry = jobs.entries[i];
         blockparts::put_entry(buf, layout::GUEST, i, entry.guest, entry.task, entry.age);
-        i += 1;
     }
     blockparts::put_check(buf);
 }

@@ -1,6 +1,5 @@
 -- `logblock::reader::ages_ok` meets its contract: a turn tests one age more. Assumes nothing.
 use mathlib.Core.Path.{◌≡◌}
-use Prim.Native.Nat.{◌-◌, ◌≤◌}
 use Rattle.lists.specs.All.{all_to}
 use Rattle.words.specs.Word.{word}
 use Rattle.plan.specs.Ranges.{longest, within}
@@ -8,7 +7,4 @@ use Rattle.logblock.specs.Layout.{age_word}
 use Rattle.logblock.proofs.reader.ages_ok.Given as goal
 
 abbrev pub invariant-loop-i : goal.invariant-loop-i
-invariant-loop-i l = (l.i ≤ l.n) × (l.ok ≡ all_to (λ j. within 1 longest (word l.b (age_word j))) l.i)
-
-abbrev pub decreases-loop-i : goal.decreases-loop-i
-decreases-loop-i l = l.n - l.i
+invariant-loop-i l = l.ok ≡ all_to (λ j. within 1 longest (word l.b (age_word j))) l.i

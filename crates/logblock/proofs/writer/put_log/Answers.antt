@@ -1,9 +1,8 @@
 -- `logblock::writer::put_log` meets its contract: zeros, kind and number of jobs, an entry at each turn, and the check.
 -- Assumes nothing.
-use mathlib.Core.Path.{◌≡◌, refl, ◌∙◌}
+use mathlib.Core.Path.{◌≡◌, ◌∙◌}
 use native.Mathlib.Omega.{arith}
 use lib.ListN.{drop}
-use borrow.Author.Rules.{rules}
 use Rattle.block.specs.Layout.{block_size}
 use Rattle.blockparts.specs.Parts.{with_entries}
 use Rattle.logblock.specs.Layout.{first_entry}
@@ -14,23 +13,14 @@ use Rattle.logblock.proofs.writer.put_log.Goals as goal
 
 pub loop-i-init : goal.loop-i-init
 unfolding with_entries
-loop-i-init c = (search rules, (λ x t l e. e, refl))
+loop-i-init c = λ x t l e. e
 
 pub loop-i-preserved : goal.loop-i-preserved
 loop-i-preserved c =
-    let l = c.loop-i in (
-      search rules,
-      (
-        λ x t n e.
-            c.put_entry.ensures
-            ∙ entries_laid first_entry _ _ _ l.i x l.buf t (omega (arith, c.requires.1)) n (l.invariant.1.0 x t n e),
-        c.put_entry.auto.buf ∙ l.invariant.1.1,
-      ),
-    )
-
-pub shape_of-buf : goal.shape_of-buf
-shape_of-buf c =
-    c.put_check.auto.buf ∙ c.loop-i.invariant.1.1 ∙ c.put_word.auto.b ∙ c.put_zeros.auto.b
+    let l = c.loop-i in
+    λ x t n e.
+    c.put_entry.ensures
+    ∙ entries_laid first_entry _ _ _ l.i x l.buf t (omega (arith, c.requires.1)) n (l.invariant x t n e)
 
 pub returns : goal.returns
 unfolding log_words
@@ -41,5 +31,5 @@ returns c =
     c.put_check.ensures
     ∙ log_laid a.jobs t c.loop-i.buf
     (rw e at
-    (c.loop-i.invariant.1.0 (opening a.jobs) t (opening_length a.jobs)
+    (c.loop-i.invariant (opening a.jobs) t (opening_length a.jobs)
     (opening_laid a.jobs t c.put_zeros.new.b _ c.put_zeros.ensures c.put_word.ensures)))

@@ -2,7 +2,7 @@
 -- Assumes nothing.
 use mathlib.Core.Path.{◌≡◌}
 use mathlib.Core.List.{List}
-use Prim.Native.Nat.{ℕ, ◌-◌, ◌≤◌}
+use Prim.Native.Nat.{ℕ}
 use lib.ListN.{length}
 use Rattle.block.specs.Layout.{block_words}
 use Rattle.blockparts.specs.Parts.{with_entries}
@@ -15,12 +15,7 @@ use Rattle.logblock.proofs.writer.put_log.Given as goal
 abbrev pub invariant-loop-i : goal.invariant-loop-i
 invariant-loop-i l =
     let e : ℕ → Entry = entry_at l.jobs in
-    (l.i ≤ l.n) ×
-    (((x t : List ℕ)
+    (x t : List ℕ)
     → length x ≡ block_words
     → l.initial.buf ≡ laid x t
-    → l.buf ≡ laid (with_entries first_entry (λ j. (e j).guest) (λ j. (e j).task) (λ j. (e j).age) l.i x) t)
-    × (length l.buf ≡ length l.initial.buf))
-
-abbrev pub decreases-loop-i : goal.decreases-loop-i
-decreases-loop-i l = l.n - l.i
+    → l.buf ≡ laid (with_entries first_entry (λ j. (e j).guest) (λ j. (e j).task) (λ j. (e j).age) l.i x) t
