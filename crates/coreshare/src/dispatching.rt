@@ -9,38 +9,33 @@ use crate::{Run, Tick, Told};
 use dispatcher::{Answer, Dispatcher, Released, Started};
 use plan::Plan;
 
+// What is told of no tick.
+const NOTHING: Told = Told {
+    kind: 0,
+    guest: 0,
+    task: 0,
+    age: 0,
+    margin: 0,
+};
+
 // A tick's answer is told as a number for its case, with the case's values.
+#[tactic(auto, unfolding(crate::specs::Told::told))]
 pub fn tell(answer: Answer) -> Told
     ensures { result ≡ told answer }
 {
     match answer {
-        Answer::Silent => Told {
-            kind: 0,
-            guest: 0,
-            task: 0,
-            age: 0,
-            margin: 0,
-        },
-        Answer::Nobody => Told {
-            kind: 1,
-            guest: 0,
-            task: 0,
-            age: 0,
-            margin: 0,
-        },
+        Answer::Silent => NOTHING,
+        Answer::Nobody => Told { kind: 1, ..NOTHING },
         Answer::Idled(guest) => Told {
             kind: 2,
             guest,
-            task: 0,
-            age: 0,
-            margin: 0,
+            ..NOTHING
         },
         Answer::Worked(guest, task) => Told {
             kind: 3,
             guest,
             task,
-            age: 0,
-            margin: 0,
+            ..NOTHING
         },
         Answer::Finished {
             guest,
@@ -79,35 +74,28 @@ pub extern "C" fn cs_sheet(state: Dispatcher, pairs: &[u64], answers: &mut [u32]
 }
 
 #[unsafe(no_mangle)]
+#[tactic(auto, unfolding(crate::specs::Told::tick_told))]
 pub extern "C" fn cs_tick(state: Dispatcher) -> Tick
     ensures { TellsTick state result }
 {
     let ticked = state.tick();
-    let refusal = ticked.refusal;
-    let answer = ticked.answer;
-    let told = tell(answer);
-    let state = ticked.state;
     Tick {
-        refusal,
-        answer: told,
-        state,
+        refusal: ticked.refusal,
+        answer: tell(ticked.answer),
+        state: ticked.state,
     }
 }
 
 #[unsafe(no_mangle)]
+#[tactic(auto, unfolding(crate::specs::Told::run_told))]
 pub extern "C" fn cs_run(state: Dispatcher, ticks: u32) -> Run
     ensures { TellsRun state ticks result }
 {
     let ran = state.run(ticks);
-    let refusal = ran.refusal;
-    let answer = ran.answer;
-    let done = ran.done;
-    let told = tell(answer);
-    let state = ran.state;
     Run {
-        refusal,
-        done,
-        answer: told,
-        state,
+        refusal: ran.refusal,
+        done: ran.done,
+        answer: tell(ran.answer),
+        state: ran.state,
     }
 }

@@ -10,8 +10,9 @@ ghost use Rattle.coreshare.specs.Promises.{TellsTick, TellsRun};
 
 use crate::dispatching::tell;
 use crate::{RunIn, TickIn};
-use dispatcher::{release_in, run_in, start_in};
+use dispatcher::{Answer, release_in, run_in, start_in};
 use plan::Refusal;
+use rows::Rows;
 
 #[unsafe(no_mangle)]
 pub extern "C" fn cs_fresh_in(
@@ -31,7 +32,14 @@ pub extern "C" fn cs_fresh_in(
         (state_of (plan_of count rows.now) left.new position.new rest.new
         wait.new age.new usage.new) }
 {
-    start_in(count, rows, left, position, rest, wait, age, usage)
+    let plan = Rows { count, rows };
+    match start_in(&plan, left, position, rest, wait, age, usage) {
+        Ok(()) => Refusal {
+            number: 0,
+            place: 0,
+        },
+        Err(refusal) => refusal,
+    }
 }
 
 #[unsafe(no_mangle)]
@@ -58,7 +66,9 @@ pub extern "C" fn cs_release_in(
               wait.new age.new usage;
         }) }
 {
-    release_in(count, rows, left, position, rest, wait, age, guest, task)
+    let plan = Rows { count, rows };
+    let released = release_in(&plan, left, position, rest, wait, age, guest, task);
+    released.err().unwrap_or(0)
 }
 
 #[unsafe(no_mangle)]
@@ -111,16 +121,21 @@ pub extern "C" fn cs_tick_in(
               wait.new age.new usage.new;
         }) }
 {
-    let ran = run_in(count, rows, left, position, rest, wait, age, usage, 1);
-    let answer = ran.answer;
-    let told = tell(answer);
-    TickIn {
-        number: ran.number,
-        answer: told,
+    let plan = Rows { count, rows };
+    match run_in(&plan, left, position, rest, wait, age, usage, 1) {
+        Ok(outcome) => TickIn {
+            number: 0,
+            answer: tell(outcome.answer),
+        },
+        Err(number) => TickIn {
+            number,
+            answer: tell(Answer::Silent),
+        },
     }
 }
 
 #[unsafe(no_mangle)]
+#[tactic(auto, unfolding(crate::specs::Told::run_told))]
 pub extern "C" fn cs_run_in(
     count: u32,
     rows: &[[u32; 54]; 8],
@@ -145,12 +160,17 @@ pub extern "C" fn cs_run_in(
               wait.new age.new usage.new;
         }) }
 {
-    let ran = run_in(count, rows, left, position, rest, wait, age, usage, ticks);
-    let answer = ran.answer;
-    let told = tell(answer);
-    RunIn {
-        number: ran.number,
-        done: ran.done,
-        answer: told,
+    let plan = Rows { count, rows };
+    match run_in(&plan, left, position, rest, wait, age, usage, ticks) {
+        Ok(outcome) => RunIn {
+            number: 0,
+            done: outcome.done,
+            answer: tell(outcome.answer),
+        },
+        Err(number) => RunIn {
+            number,
+            done: 0,
+            answer: tell(Answer::Silent),
+        },
     }
 }
