@@ -5,6 +5,7 @@ use mathlib.Core.List.{List}
 use Prim.Native.Nat.{ℕ, ◌+◌, ◌≤◌, ◌<◌}
 use native.Mathlib.Nat.{eq-or-lt_of_le}
 use native.Mathlib.Omega.{arith}
+use Rattle.std.proofs.lemmas.Grind.{common_steps}
 use lib.ListN.{set, replicate, length-set}
 use lib.Seq.{get_or-set_same, get_or-set_other}
 use Rattle.plan.specs.declared.Columns.{Columns}
@@ -20,10 +21,7 @@ filled_none f = record { long = refl; holds = λ z h. absurd (omega arith) }
 pub filled_next : (f : ℕ → ℕ) {r : List ℕ} (k : ℕ) → k < 16 → Filled r f k → Filled (set r k (f k)) f (k + 1)
 filled_next f {r} k l c = record {
   long = length-set r k (f k) ∙ c.long;
-  holds = λ z h. ⊎_elim
-      (λ q. rw q (get_or-set_same r k (f k) 0 (omega (arith, c.long))))
-      (λ q. get_or-set_other r k z (f k) 0 (λ p. omega arith) ∙ c.holds z q)
-      (eq-or-lt_of_le {n = z} {m = k} (omega arith));
+  holds = λ z h. grind (arith, common_steps, c.holds z);
 }
 
 -- a loop's end: an array that holds k numbers holds the first n of them

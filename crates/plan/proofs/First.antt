@@ -2,12 +2,10 @@
 use mathlib.Core.Path.{◌≡◌, refl, sym, ap, ◌∙◌}
 use mathlib.Core.Bool.{Bool, true, false}
 use mathlib.Core.List.{List, [], ◌∷◌}
-use mathlib.Core.Logic.{⊎_elim}
 use Prim.Native.Nat.{ℕ, zero, suc, ◌+◌, ◌-◌, ◌≤◌, ◌<◌}
-use native.Mathlib.Nat.{eq-or-lt_of_le}
 use native.Mathlib.Numerals.{add-one}
 use native.Mathlib.Omega.{arith}
-use native.Mathlib.Decide.{dec_le}
+use native.Mathlib.Decide.{dec_le, ℕ_discrete}
 use Rattle.lists.specs.Refusals.{Test, refusal, ◌or_refuse◌}
 use Rattle.plan.specs.declared.Refusal.{Refusal}
 use Rattle.plan.specs.First.{refused, fine, or_else, first_refused, refused_by, refused_or, unless_refused}
@@ -32,7 +30,7 @@ first_next f n k x h e p =
 -- a loop's end: no place is left
 pub first_end : (f : ℕ → ℕ) (n k : ℕ) → n ≤ k → fine ≡ first_refused f (n - k) k
 unfolding first_refused
-first_end f n k h = let q : n - k ≡ 0 = omega arith in rw q refl
+first_end f n k h = let q : n - k ≡ 0 = omega arith in rw q
 
 -- a number above 0 goes before what comes after
 pub refused_here : (x k : ℕ) (after : Refusal) → 0 < x → refused x k ≡ or_else x k after
@@ -58,8 +56,7 @@ unfolding first_refused
 none_refused f zero k e z l h = absurd (omega arith)
 none_refused f (suc m) k e z l h =
     let p = after_zero (f k) k (first_refused f m (suc k)) e in
-    ⊎_elim (λ q. rw (← q) p.0) (λ q. none_refused f m (suc k) p.1 z q (omega arith))
-    (eq-or-lt_of_le {n = k} {m = z} l)
+    elim (ℕ_discrete k z) [ yes q ↦ rw (← q) p.0 | no q ↦ none_refused f m (suc k) p.1 z (omega arith) (omega arith) ]
 
 -- where no place has a number nothing is refused
 pub first_fine : (f : ℕ → ℕ) (m k : ℕ) → ((z : ℕ) → k ≤ z → z < k + m → f z ≡ 0) → first_refused f m k ≡ fine

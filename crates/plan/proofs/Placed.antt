@@ -23,9 +23,8 @@ in_list p o k h =
     elim (dec_lt k (length p.guests)) [
       | yes l ↦ l
       | no n ↦
-          let e : (guest_at p.guests k).id ≡ 0 =
-          ap (λ (g : Guest). g.id) (get_or-eq_default p.guests absent {n = k} (omega arith)) in
-          absurd (omega (arith, (o.guests k h).head.named))
+          let out = get_or-eq_default p.guests absent {n = k} (omega arith) in
+          absurd (omega (arith, (o.guests k h).head.named, ap (λ (g : Guest). g.id) out))
     ]
 
 -- A plan whose guest is put where it stands is the plan.
