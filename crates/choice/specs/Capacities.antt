@@ -30,6 +30,6 @@ unfoldable pub least_capacities : Plan → Chosen
 least_capacities p = refuse_or (answering p) (records_then p (all_periodic p or_refuse 23 ∷ [])) (chosen_from p p p.count 0)
 
 -- What a choice comes to: the plan with the least capacities, or the refusal.
-abbrev pub Chooses : Plan → Result Plan Refusal → Type 0
-Chooses p (Ok q) = answering q 0 0 ≡ least_capacities p
-Chooses p (Err r) = answering p r.number r.place ≡ least_capacities p
+abbrev pub ComesTo : Plan → Result Plan Refusal → Type 0
+ComesTo p (Ok q) = answering q 0 0 ≡ least_capacities p
+ComesTo p (Err r) = answering p r.number r.place ≡ least_capacities p

@@ -1,5 +1,5 @@
 // The least capacities, guest by guest.
-ghost use Rattle.choice.specs.Capacities.{Chooses};
+ghost use Rattle.choice.specs.Capacities.{ComesTo};
 
 use capacity::smallest_at;
 use plan::{Plan, Refusal, columns_of, start_check};
@@ -9,7 +9,7 @@ use response::servers_of;
 // 11 with the place of the first guest at which none works. The servers follow the plan, so that no search reads it
 // again.
 pub fn choose(mut plan: Plan) -> Result<Plan, Refusal>
-    ensures { Chooses plan result }
+    ensures { ComesTo plan result }
 {
     start_check(&plan)?;
     let mut servers = servers_of(&columns_of(&plan));

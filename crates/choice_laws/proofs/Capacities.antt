@@ -1,6 +1,6 @@
 -- The least capacities are accepted, and the least of all choices: those above take no more than in any other choice, so
 -- that what works there for a guest works here. Assumes nothing.
-use Rattle.std.specs.Prelude.{Option, Some, None}
+use Rattle.std.specs.Prelude.{Option, Some, None, Ok}
 use mathlib.Core.Path.{◌≡◌, refl, sym, ◌∙◌, ap, subst}
 use mathlib.Core.Bool.{true, false, false≢true}
 use Prim.Native.Nat.{ℕ, zero, suc, ◌+◌, ◌≤◌, ◌<◌}
@@ -81,12 +81,12 @@ module _ (p : Plan) (ok : (start_refusal p).number ≡ 0) where
       subst (λ (r : Chosen). Stage p r.plan p.count) (sym answer_is)
       (chosen_stage p p.count 0 p (stage_first p order) (omega arith) y) in
       record {
-        accepts = sym (acceptance_only _ s.order Accepted (accepted_good _ (stage_last p _ s)));
+        accepts = sym (acceptance_only _ s.order (Ok Accepted) (accepted_good _ (stage_last p _ s)));
         others = s.others;
       }
 
   -- another choice, at which the plan is accepted
-  module _ (c : ℕ → ℕ) (e : acceptance (with_capacities p c) ≡ Accepted) where
+  module _ (c : ℕ → ℕ) (e : acceptance (with_capacities p c) ≡ Ok Accepted) where
     abbrev P : Plan
     P = with_capacities p c
 

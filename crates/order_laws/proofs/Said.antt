@@ -1,5 +1,6 @@
 -- A guest and all above are fitted with all its tasks met exactly where the verdict of each of its tasks says so.
 -- Assumes nothing.
+use Rattle.std.specs.Prelude.{Result, Ok, Err}
 use mathlib.Core.Path.{◌≡◌, refl, sym, ◌∙◌}
 use mathlib.Core.Bool.{Bool, true, false, false≢true, ◌&&◌}
 use mathlib.Core.Logic.{inl, inr}
@@ -8,6 +9,7 @@ use native.Mathlib.Omega.{arith}
 use Rattle.lists.specs.All.{all_to}
 use Rattle.plan.specs.Records.{guest_at}
 use Rattle.plan.specs.declared.Plan.{Plan}
+use Rattle.plan.specs.declared.Refusal.{Refusal}
 use Rattle.response.specs.Guest.{fitted_to}
 use Rattle.response.specs.Met.{all_met}
 use Rattle.verdict.specs.Verdict.{task_verdict}
@@ -21,34 +23,33 @@ use Rattle.plan.proofs.Order.{plan_in}
 use Rattle.verdict_laws.proofs.Acceptances.{said_met}
 use Rattle.verdict_laws.proofs.Guests.{fitted_all, all_fitted}
 use Rattle.verdict_laws.proofs.Tasks.{met_in_time, in_time_met, task_verdict_means}
-use Rattle.verdict.specs.declared.TaskVerdict.TheVariants as task
 
 -- Whether a verdict says met.
-abbrev is_met : TaskVerdict → Bool
-is_met (task.Refused n place) = false
-is_met (Met r) = true
-is_met (UnmetAt r) = false
-is_met Unmet = false
-is_met Unjudged = false
+abbrev is_met : Result TaskVerdict Refusal → Bool
+is_met (Err r) = false
+is_met (Ok (Met r)) = true
+is_met (Ok (UnmetAt r)) = false
+is_met (Ok Unmet) = false
+is_met (Ok Unjudged) = false
 
 -- One that does not, and is no refusal, says unmet or unjudged.
-not_met : (q : Plan) (k i : ℕ) (v : TaskVerdict) → TaskMeans q k i v → is_met v ≡ false → SaysNotMet v
-not_met q k i (task.Refused n place) m e = absurd m
-not_met q k i (Met r) m e = absurd (false≢true (sym e))
-not_met q k i (UnmetAt r) m e = inl (inl (r, refl))
-not_met q k i Unmet m e = inl (inr refl)
-not_met q k i Unjudged m e = inr refl
+not_met : (q : Plan) (k i : ℕ) (v : Result TaskVerdict Refusal) → TaskMeans q k i v → is_met v ≡ false → SaysNotMet v
+not_met q k i (Err r) m e = absurd m
+not_met q k i (Ok (Met r)) m e = absurd (false≢true (sym e))
+not_met q k i (Ok (UnmetAt r)) m e = inl (inl (r, refl))
+not_met q k i (Ok Unmet) m e = inl (inr refl)
+not_met q k i (Ok Unjudged) m e = inr refl
 
 -- One that does has a response.
-is_met_lem : (v : TaskVerdict) → is_met v ≡ true → (r : ℕ) × (v ≡ Met r)
-is_met_lem (task.Refused n place) e = absurd (false≢true e)
-is_met_lem (Met r) e = (r, refl)
-is_met_lem (UnmetAt r) e = absurd (false≢true e)
-is_met_lem Unmet e = absurd (false≢true e)
-is_met_lem Unjudged e = absurd (false≢true e)
+is_met_lem : (v : Result TaskVerdict Refusal) → is_met v ≡ true → (r : ℕ) × (v ≡ Ok (Met r))
+is_met_lem (Err r) e = absurd (false≢true e)
+is_met_lem (Ok (Met r)) e = (r, refl)
+is_met_lem (Ok (UnmetAt r)) e = absurd (false≢true e)
+is_met_lem (Ok Unmet) e = absurd (false≢true e)
+is_met_lem (Ok Unjudged) e = absurd (false≢true e)
 
 -- Met is not unmet or unjudged.
-met_not : {v : TaskVerdict} {r : ℕ} → v ≡ Met r → SaysNotMet v → ⊥
+met_not : {v : Result TaskVerdict Refusal} {r : ℕ} → v ≡ Ok (Met r) → SaysNotMet v → ⊥
 met_not e (inl (inl (r, q))) = (let z : ◌≡◌ {A = ℕ} 0 1 = cc in omega arith)
 met_not e (inl (inr q)) = (let z : ◌≡◌ {A = ℕ} 0 1 = cc in omega arith)
 met_not e (inr q) = (let z : ◌≡◌ {A = ℕ} 0 1 = cc in omega arith)
@@ -67,7 +68,7 @@ module _ (q : Plan) (id k : ℕ) (t : There q id k) where
       }
 
   -- Where each verdict says so, it is so, since a guest has a task.
-  said_works : ((i : ℕ) → i < (guest_at q.guests k).tasks → (r : ℕ) × (task_verdict q id (suc i) ≡ Met r))
+  said_works : ((i : ℕ) → i < (guest_at q.guests k).tasks → (r : ℕ) × (task_verdict q id (suc i) ≡ Ok (Met r)))
       → (fitted_to q k && all_met q k) ≡ true
   said_works a =
       and_true

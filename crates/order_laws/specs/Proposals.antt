@@ -1,5 +1,5 @@
 -- What is said of the order proposed for a guest's tasks.
-use Rattle.std.specs.Prelude.{◌≡◌, true, false, List, ℕ, suc, ◌≤◌, ◌<◌}
+use Rattle.std.specs.Prelude.{◌≡◌, true, false, List, ℕ, suc, ◌≤◌, ◌<◌, Ok}
 use Rattle.lists.specs.Places.{nth}
 use Rattle.plan.specs.Marks.{is_bound}
 use Rattle.plan.specs.Records.{guest_at, run_of, every_of, deadline_of}
@@ -54,7 +54,7 @@ pub record OnlyReordered (p : Plan) (k : ℕ) (q : Plan) : Type 0 where
 pub record SaidMet (q : Plan) (id k : ℕ) : Type 0 where
   pub fitted : fitted_to q k ≡ true
   pub met : all_met q k ≡ true
-  pub said : (i : ℕ) → i < (guest_at q.guests k).tasks → (r : ℕ) × (task_verdict q id (suc i) ≡ Met r)
+  pub said : (i : ℕ) → i < (guest_at q.guests k).tasks → (r : ℕ) × (task_verdict q id (suc i) ≡ Ok (Met r))
 
 -- In every order of the tasks of the guest at place k some task is not met: unmet, or unjudged where that guest or one
 -- above is unfit.

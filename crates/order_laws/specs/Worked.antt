@@ -1,5 +1,5 @@
 -- Worked orders: what is proposed for plans of document 01 and for two more.
-use Rattle.std.specs.Prelude.{◌≡◌, [], ◌∷◌}
+use Rattle.std.specs.Prelude.{◌≡◌, [], ◌∷◌, Ok}
 use Rattle.plan.specs.declared.Plan.{Plan}
 use Rattle.verdict.specs.Verdict.{task_verdict}
 use Rattle.verdict.specs.declared.TaskVerdict.TheVariants.{Met, Unmet}
@@ -20,10 +20,10 @@ equals_ordered = plan_of (guest 7 10 10 0 (1 ∷ 1 ∷ 2 ∷ []) (10 ∷ 30 ∷ 
 -- What is proposed.
 pub record WorkedOrders : Type 0 where
   -- As handed in the second task is unmet; what is proposed is plan A, where both are met.
-  pub handed_in : task_verdict exchanged 9 2 ≡ Unmet
+  pub handed_in : task_verdict exchanged 9 2 ≡ Ok Unmet
   pub exchanged_back : proposed exchanged 9 ≡ answering A 0 0
-  pub first : task_verdict (proposed exchanged 9).plan 9 1 ≡ Met 36
-  pub second : task_verdict (proposed exchanged 9).plan 9 2 ≡ Met 80
+  pub first : task_verdict (proposed exchanged 9).plan 9 1 ≡ Ok (Met 36)
+  pub second : task_verdict (proposed exchanged 9).plan 9 2 ≡ Ok (Met 80)
   -- Equals stay as handed in, whatever their periods are.
   pub equals_kept : proposed equals 7 ≡ answering equals_ordered 0 0
   -- No order works where a deadline is one tick too short, for an unfit guest, and for one under it.
