@@ -1,5 +1,5 @@
 -- How the code comes to the records' refusal, and what records that pass say. Assumes nothing.
-use mathlib.Core.Path.{◌≡◌, refl, sym, ap, ◌∙◌}
+use mathlib.Core.Path.{◌≡◌, refl, sym, ◌∙◌}
 use mathlib.Core.Bool.{Bool, true, false, ◌&&◌}
 use mathlib.Core.List.{List, [], ◌∷◌}
 use Prim.Native.Nat.{ℕ, zero, suc, ◌≤◌, ◌<◌}
@@ -26,18 +26,15 @@ pub none : (g : Guest) (new : Bool) → guest_ok g ≡ true → new ≡ true →
 unfolding number_of
 none g new p q e = sym (go_on 4 _ (and_true p q) ∙ go_on 6 _ e ∙ none_left)
 
--- the ids in a column are the records'
-pub new_id_is : (gs : List Guest) (ids : List ℕ) (k : ℕ) → k < most_guests
-    → Filled ids (λ j. (guest_at gs j).id) most_guests → new_id (nth ids) k ≡ new_id (λ j. (guest_at gs j).id) k
-unfolding new_id
-new_id_is gs ids k h f = all_ext _ _ k (λ j l. rw (f.holds j (omega arith), f.holds k (omega arith)) refl)
-
--- the code's number is the guest's
+-- the number that the code comes to, by the ids in a column, is the guest's
 pub number_is : (gs : List Guest) (ids : List ℕ) (k : ℕ) → k < most_guests
-    → Filled ids (λ j. (guest_at gs j).id) most_guests → {new : Bool} {x : ℕ}
-    → new ≡ new_id (nth ids) k → x ≡ number_of (guest_at gs k) new → x ≡ guest_number gs k
-unfolding guest_number
-number_is gs ids k h f e q = q ∙ ap (λ (b : Bool). number_of (guest_at gs k) b) (e ∙ new_id_is gs ids k h f)
+    → Filled ids (λ j. (guest_at gs j).id) most_guests → {g : Guest} {new : Bool} → g ≡ guest_at gs k → new ≡ new_id (nth ids) k
+    → number_of g new ≡ guest_number gs k
+unfolding guest_number new_id
+number_is gs ids k h f e q =
+    let same : new_id (nth ids) k ≡ new_id (λ j. (guest_at gs j).id) k =
+    all_ext _ _ k (λ j l. rw (f.holds j (omega arith), f.holds k (omega arith)) refl) in
+    rw (e, q, same) refl
 
 -- a plan of no guest, or of more than 8, is refused by 1
 pub count_out : (p : Plan) → within 1 most_guests p.count ≡ false → refused 1 0 ≡ plan_refusal p

@@ -46,7 +46,7 @@ pub struct Plan {
     pub guests: [Guest; 8],
 }
 
-// A refusal's number and place; number 0 for none.
+// A refusal's number and place, as C is handed it: number 0 for none.
 #[repr(C)]
 #[derive(Clone, Copy)]
 pub struct Refusal {
@@ -54,7 +54,7 @@ pub struct Refusal {
     pub place: u32,
 }
 
-// Five numbers of each guest of a plan, a column for each number.
+// Five numbers of each guest of a plan, a column for each number: a search or a sum goes along one of them.
 #[derive(Clone, Copy)]
 pub struct Columns {
     pub ids: [u32; 16],

@@ -1,4 +1,4 @@
-// Document 01's ranges, on numbers and lent columns.
+// Document 01's ranges, on numbers and lent columns: the reader of blocks asks for them before it makes a guest.
 ghost use Rattle.std.specs.Prelude.{◌≡◌, ◌&&◌, ◌≤◌};
 ghost use Rattle.lists.specs.Places.{nth};
 ghost use Rattle.lists.specs.All.{all_to};

@@ -3,7 +3,6 @@
 use Rattle.std.proofs.Common.{◌≡◌, ◌<◌, ◌-◌, arith, sym, ap, ◌∙◌}
 use Rattle.lists.proofs.Refusals.{ok_number, err_number}
 use Rattle.plan.specs.Ranges.{most_guests}
-use Rattle.plan.specs.Order.{number_of}
 use Rattle.plan.proofs.First.{first_here, first_next, first_end, ok_unless, err_unless}
 use Rattle.plan.proofs.RangesLaws.{within_says}
 use Rattle.plan.proofs.Order.{number_is, count_out, counted}
@@ -26,18 +25,16 @@ returns-in-Err g c =
     let p = g.P.AsPlan.plan c.args.plan.now in
     let below : c.loop-k.k < p.count = omega (arith, c.count-count.ensures) in
     let e = err_number _ _ (sym c.in-Err.is ∙ c.guest_passes.ensures) in
-    let number = number_is p.guests _ c.loop-k.k (omega arith) c.columns_of-columns.ensures.ids c.new_id-new.ensures
-    (e.0 ∙ ap (λ x. number_of x c.new_id-new.result) c.guest.ensures) in
-    err_unless _ _ (first_here _ p.count _ _ below number (omega (arith, e)) ∙ c.loop-k.invariant.left) (omega (arith, e))
+    let number = number_is p.guests _ c.loop-k.k (omega arith) c.columns_of-columns.ensures.ids c.guest.ensures c.new_id-new.ensures in
+    err_unless _ _ (first_here _ p.count _ _ below (e.0 ∙ number) (omega (arith, e)) ∙ c.loop-k.invariant.left) (omega (arith, e))
 
 pub loop-k-preserved : goal.loop-k-preserved
 loop-k-preserved g c =
     let p = g.P.AsPlan.plan c.args.plan.now in
     let below : c.loop-k.k < p.count = omega (arith, c.count-count.ensures) in
     let e = ok_number _ (sym c.in_default.is ∙ c.guest_passes.ensures) in
-    let number = number_is p.guests _ c.loop-k.k (omega arith) c.columns_of-columns.ensures.ids c.new_id-new.ensures
-    (sym e.0 ∙ ap (λ x. number_of x c.new_id-new.result) c.guest.ensures) in
-    record { few = c.loop-k.invariant.few; left = first_next _ p.count _ _ below number (omega arith) ∙ c.loop-k.invariant.left }
+    let number = number_is p.guests _ c.loop-k.k (omega arith) c.columns_of-columns.ensures.ids c.guest.ensures c.new_id-new.ensures in
+    record { few = c.loop-k.invariant.few; left = first_next _ p.count _ _ below (sym e.0 ∙ number) (omega arith) ∙ c.loop-k.invariant.left }
 
 pub returns : goal.returns
 returns g c =
