@@ -11,13 +11,13 @@ use lib.Dec.{eqb}
 use borrow.Author.Tests.{eqb-true}
 use Rattle.plan.specs.Ranges.{within}
 use Rattle.block.specs.Layout.{block_size}
-use Rattle.plan.specs.First.{refused, first_refused}
+use Rattle.plan.specs.First.{fine, refused, first_refused}
 use Rattle.blockfile.specs.File.{block_at, id_at, blocks_in, most_bytes, size_ok, number_at, sized_by, blocks_refusal, file_refusal, first_with}
 use Rattle.lists.proofs.All.{and_left, and_right}
 use Rattle.lists.proofs.Search.{First, least_says, least_is}
 use Rattle.lists.specs.Search.{least}
 use Rattle.plan.proofs.RangesLaws.{within_says}
-use Rattle.plan.proofs.First.{none_refused}
+use Rattle.plan.proofs.First.{none_refused, first_fine}
 
 -- A right length.
 pub record SizeIn (n : ℕ) : Type 0 where
@@ -47,6 +47,16 @@ sized_none : (b placed : Bool) (s : List ℕ) → (sized_by b placed s).number �
 unfolding sized_by
 sized_none true placed s e = (refl, e)
 sized_none false placed s e = absurd (omega arith)
+
+-- Where the refusal has number 0 it has place 0.
+pub blocks_fine : (placed : Bool) (s : List ℕ) → (blocks_refusal placed s).number ≡ 0 → blocks_refusal placed s ≡ fine
+unfolding blocks_refusal sized_by
+blocks_fine placed s e = by (size_ok (length s)) e
+  where
+    by : (b : Bool) → (sized_by b placed s).number ≡ 0 → sized_by b placed s ≡ fine
+    by true e =
+        first_fine (number_at placed s) (blocks_in s) 0 (λ z l h. none_refused (number_at placed s) (blocks_in s) 0 e z l h)
+    by false e = absurd (omega arith)
 
 -- Bytes that are not refused: a right length, and no block has a number.
 pub record BlocksIn (placed : Bool) (s : List ℕ) : Type 0 where

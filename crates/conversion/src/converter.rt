@@ -6,7 +6,7 @@ ghost use Rattle.block.specs.Reading.{task_count};
 ghost use Rattle.blockfile.specs.File.{block_at, blocks_in};
 ghost use Rattle.conversion.specs.Converting.{converted_block, converted_bytes};
 
-use block::layout;
+use block::layout::SIZE;
 
 // Block k with its guest made Periodic, put into the first 512 bytes.
 fn put_periodic(bytes: &[u8], k: usize, out: &mut [u8])
@@ -16,7 +16,7 @@ fn put_periodic(bytes: &[u8], k: usize, out: &mut [u8])
 {
     let mut guest = blockfile::guest_at(bytes, k);
     guest.deferrable = 0;
-    blockwriter::put_block(guest, k as u32, out);
+    blockwriter::put_block(&guest, k as u32, out);
 }
 
 // Every block converted, put in one after the other.
@@ -26,11 +26,7 @@ pub fn put_converted(bytes: &[u8], out: &mut [u8])
     ensures { out.new
         ≡ converted_bytes bytes.now ++ drop (block_size * blocks_in bytes.now) out.old }
 {
-    let n = bytes.len() / layout::SIZE;
-    let mut k: usize = 0;
-    while k < n {
-        let to = layout::SIZE * k;
-        put_periodic(bytes, k, &mut out[to..]);
-        k += 1;
+    for k in 0..bytes.len() / SIZE {
+        put_periodic(bytes, k, &mut out[SIZE * k..]);
     }
 }

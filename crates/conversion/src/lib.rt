@@ -2,6 +2,7 @@
 #![tactic(auto)]
 
 ghost use Rattle.std.specs.Prelude.{◌≡◌};
+ghost use Rattle.plan.specs.First.{unless_refused};
 ghost use Rattle.conversion.specs.Outcome.{convert_refusal};
 ghost use Rattle.conversion.specs.Promises.{Converts};
 
@@ -9,34 +10,26 @@ use plan::Refusal;
 
 mod converter;
 
-// The refusal for an output of so many bytes: the reading order, then 12.
-fn refusal_of(bytes: &[u8], room: usize) -> Refusal
-    ensures { result ≡ convert_refusal bytes.now room }
+// Whether the plan's bytes are read and an output of so many bytes has room, or else the refusal: the reading order,
+// then 12.
+fn check(bytes: &[u8], room: usize) -> Result<(), Refusal>
+    ensures { result ≡ unless_refused (convert_refusal bytes.now room) tt }
 {
-    let reading = blockfile::refusal_of(bytes, true);
-    if 0 < reading.number {
-        return reading;
-    }
+    blockfile::check_blocks(bytes, true)?;
     if room < bytes.len() {
-        return Refusal {
+        return Err(Refusal {
             number: 12,
             place: 0,
-        };
+        });
     }
-    Refusal {
-        number: 0,
-        place: 0,
-    }
+    Ok(())
 }
 
 // Writes the plan with every guest made Periodic to the first bytes of the output; a refusal writes nothing.
-pub fn convert(plan: &[u8], out: &mut [u8]) -> Refusal
+pub fn convert(plan: &[u8], out: &mut [u8]) -> Result<(), Refusal>
     ensures { Converts plan.now out.old result out.new }
 {
-    let refusal = refusal_of(plan, out.len());
-    if 0 < refusal.number {
-        return refusal;
-    }
+    check(plan, out.len())?;
     converter::put_converted(plan, out);
-    refusal
+    Ok(())
 }

@@ -7,7 +7,8 @@ use Prim.Native.Nat.{ℕ, zero, suc, ◌≤◌, ◌<◌}
 use native.Mathlib.Omega.{arith}
 use lib.Dec.{eqb}
 use Rattle.plan.specs.declared.Refusal.{Refusal}
-use Rattle.plan.specs.First.{or_else}
+use Rattle.std.specs.Option.{ok_or}
+use Rattle.plan.specs.First.{or_else, refused, unless_refused}
 use Rattle.blockfile.specs.File.{block_at, id_at, blocks_in, file_refusal, first_with}
 use Rattle.planfile.specs.Finder.{place_or_seven, found_place, part_by, found}
 use Rattle.lists.proofs.Search.{Says, least_says}
@@ -64,3 +65,16 @@ found_within s id e =
     (least_says (λ k. eqb (id_at s k) id) (blocks_in s) 0) z in
     let q : (found_place s id).place ≡ (place_or_seven (first_with s id)).place = ap (λ (r : Refusal). r.place) o.1 in
     omega arith
+
+-- What was found as a place, or refusal 7.
+placed_or_seven : (f : Option ℕ) → ok_or f (refused 7 0) ≡ unless_refused (place_or_seven f) (place_or_seven f).place
+placed_or_seven (Some k) = refl
+placed_or_seven None = refl
+
+-- Where reading is not refused, finding comes to that of the search.
+pub found_or_seven : (s : List ℕ) (id : ℕ) → (file_refusal s).number ≡ 0
+    → ok_or (first_with s id) (refused 7 0) ≡ unless_refused (found_place s id) (found_place s id).place
+found_or_seven s id e =
+    let q : place_or_seven (first_with s id) ≡ found_place s id =
+    place_found s id (file_refusal s) _ refl (omega arith) refl in
+    rw (← q) (placed_or_seven (first_with s id))

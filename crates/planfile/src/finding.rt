@@ -1,21 +1,25 @@
-// What the search for a guest's block comes to. It meets specs/Finder.antt.
-ghost use Rattle.std.specs.Prelude.{◌≡◌};
-ghost use Rattle.planfile.specs.Finder.{place_or_seven};
+// A guest's block found by the guest's id.
+ghost use Rattle.planfile.specs.Promises.{Finds, FindsPlace};
 
 use plan::Refusal;
 
-// What was found as number and place: 0 and the place, or refusal 7.
-pub fn place_or_seven(f: Option<u32>) -> Refusal
-    ensures { result ≡ place_or_seven f }
+// The place of a guest's block, or the refusal: the reading order, then 7.
+pub fn find_place(bytes: &[u8], id: u32) -> Result<u32, Refusal>
+    ensures { FindsPlace bytes.now id result }
 {
-    match f {
-        Some(k) => Refusal {
-            number: 0,
-            place: k,
-        },
-        None => Refusal {
-            number: 7,
-            place: 0,
-        },
+    blockfile::check_blocks(bytes, true)?;
+    blockfile::first_with(bytes, id).ok_or(Refusal {
+        number: 7,
+        place: 0,
+    })
+}
+
+// The guest's block as it stands in the bytes; an empty part on a refusal.
+pub fn find(bytes: &[u8], id: u32) -> &[u8]
+    ensures { Finds bytes.now id result.now }
+{
+    match find_place(bytes, id) {
+        Ok(place) => blockfile::block_at(bytes, place as usize),
+        Err(_) => &bytes[..0],
     }
 }
