@@ -25,20 +25,11 @@ pub fn new_id(ids: &[u32; 16], k: usize) -> bool
 pub fn guest_passes(g: &Guest, new: bool) -> Result<(), u32>
     ensures { result ≡ unless_number (number_of g.now new) tt }
 {
-    if !head_ok(g.id, g.capacity, g.period, g.tasks) {
+    if !(head_ok(g.id, g.capacity, g.period, g.tasks) & new) {
         return Err(4);
     }
-    if !new {
-        return Err(4);
-    }
-    if !tasks_ok(
-        g.marks,
-        g.period,
-        &g.run,
-        &g.every,
-        &g.deadline,
-        g.tasks as usize,
-    ) {
+    let n = g.tasks as usize;
+    if !tasks_ok(g.marks, g.period, &g.run, &g.every, &g.deadline, n) {
         return Err(6);
     }
     Ok(())
