@@ -1,147 +1,115 @@
 // Plans made step by step, and their bytes written block by block, by the writer or as old cards have them.
 #![tactic(auto)]
 
+ghost use Rattle.std.specs.Prelude.{◌≤◌};
+
 use block::layout;
 use plan::{Guest, Plan, Refusal};
 
 pub mod text;
 
+// The most guests of a plan, and the most tasks of a guest.
+const MOST_GUESTS: u32 = 8;
+
+const MOST_TASKS: u32 = 16;
+
 // The length of 8 blocks, the most that a plan has.
 pub const MOST_BYTES: usize = 8 * layout::SIZE;
 
-// A guest with no task yet.
-pub fn guest(id: u32, capacity: u32, period: u32, charge: u16) -> Guest {
-    let mut g = plan::blank_guest();
-    g.id = id;
-    g.capacity = capacity;
-    g.period = period;
-    g.charge = charge;
-    g
+// A task's numbers, and whether it is bound.
+#[derive(Clone, Copy)]
+pub struct Task {
+    pub run: u32,
+    pub every: u32,
+    pub deadline: u32,
+    pub bound: bool,
 }
 
-// The guest with one task more, below the others, and its mark if it is bound; a seventeenth is left out.
-pub fn with_task(g: Guest, run: u32, every: u32, deadline: u32, bound: bool) -> Guest {
-    let mut g = g;
-    let mut runs = g.run;
-    let mut periods = g.every;
-    let mut deadlines = g.deadline;
-    let n = g.tasks;
-    if n < 16 {
-        let i = n as usize;
-        runs[i] = run;
-        periods[i] = every;
-        deadlines[i] = deadline;
-        g.run = runs;
-        g.every = periods;
-        g.deadline = deadlines;
-        g.tasks = n + 1;
-        if bound {
-            let first: u16 = 1;
-            g.marks = g.marks | (first << i);
-        }
+// The guest with one task more, below the others; a seventeenth has no room.
+fn with_task(mut g: Guest, task: Task) -> Option<Guest> {
+    if MOST_TASKS <= g.tasks {
+        return None;
     }
-    g
+    let i = g.tasks as usize;
+    g.run[i] = task.run;
+    g.every[i] = task.every;
+    g.deadline[i] = task.deadline;
+    g.tasks += 1;
+    if task.bound {
+        g.marks |= 1 << i;
+    }
+    Some(g)
 }
 
-// The plan with one guest more, below the others; a ninth is left out.
-pub fn with_guest(p: Plan, g: Guest) -> Plan {
-    let mut guests = p.guests;
-    let n = p.count;
-    if n < 8 {
-        guests[n as usize] = g;
-        return Plan {
-            count: n + 1,
-            guests,
-        };
+// The plan with one guest more, below the others; a ninth has no room.
+fn with_guest(mut p: Plan, g: Guest) -> Option<Plan> {
+    if MOST_GUESTS <= p.count {
+        return None;
     }
-    p
+    p.guests[p.count as usize] = g;
+    p.count += 1;
+    Some(p)
+}
+
+// The plan with one task more in its last guest; it has no room where there is no guest.
+fn with_last_task(mut p: Plan, task: Task) -> Option<Plan> {
+    let last = p.count.checked_sub(1)?;
+    if MOST_GUESTS <= last {
+        return None;
+    }
+    let k = last as usize;
+    p.guests[k] = with_task(p.guests[k], task)?;
+    Some(p)
 }
 
 // How many bytes the plan's blocks have; none with more than 8 guests.
-pub fn length(p: Plan) -> u32 {
-    let size = layout::SIZE as u32;
-    if p.count <= 8 { size * p.count } else { 0 }
-}
-
-// Word k of the block at the buffer's start set.
-fn put(buf: &mut [u8], k: usize, value: u32) {
-    if k < layout::WORDS {
-        if 4 * k + 4 <= buf.len() {
-            words::put_word(buf, k, value);
-        }
-    }
-}
-
-// The word of kind 2 at a place.
-fn extended_at(place: u32) -> u32 {
-    if place < 8 {
-        return layout::EXTENDED_KIND + layout::HALF * place;
-    }
-    0
-}
-
-// The check of the block at the buffer's start made right.
-fn seal(buf: &mut [u8]) {
-    if layout::SIZE <= buf.len() {
-        blockparts::put_check(buf);
+pub fn length(p: &Plan) -> usize
+    ensures { result ≤ MOST_BYTES }
+{
+    if p.count <= MOST_GUESTS {
+        layout::SIZE * p.count as usize
+    } else {
+        0
     }
 }
 
 // The block at the buffer's start made a Deferrable guest's: the kind, byte 22 and the check.
 fn defer(marks: u16, place: u32, buf: &mut [u8]) {
-    put(buf, layout::KIND_PLACE, extended_at(place));
-    put(
-        buf,
-        layout::MARKS_SERVER,
-        (marks as u32) + layout::HALF * layout::DEFERRABLE_SERVER,
-    );
-    seal(buf);
+    if (place <= layout::LAST_PLACE) & (layout::SIZE <= buf.len()) {
+        words::put_word(
+            buf,
+            layout::KIND_PLACE,
+            layout::EXTENDED_KIND + layout::HALF * place,
+        );
+        let server = layout::HALF * layout::DEFERRABLE_SERVER;
+        words::put_word(buf, layout::MARKS_SERVER, u32::from(marks) + server);
+        blockparts::put_check(buf);
+    }
 }
 
-// A Deferrable guest's block as old cards have it, which the writer writes no more.
-fn old_block(g: Guest, place: u32, buf: &mut [u8]) -> Refusal {
-    let mut written = g;
-    written.deferrable = 0;
-    let r = blockwriter::write(written, place, buf);
-    if r.number < 1 {
+// A guest's block, or that of a Deferrable guest as old cards have it, which the writer writes no more.
+fn write_block(mut g: Guest, place: u32, buf: &mut [u8], old: bool) -> Result<(), Refusal> {
+    let deferred = old & (0 < g.deferrable);
+    if deferred {
+        g.deferrable = 0;
+    }
+    blockwriter::write(g, place, buf)?;
+    if deferred {
         defer(g.marks, place, buf);
     }
-    r
+    Ok(())
 }
 
-// A guest's block at its place; a place past the buffer's end is a buffer too short.
-fn write_block(g: Guest, place: usize, buf: &mut [u8], old: bool) -> Refusal {
-    if place < 8 {
-        let a = layout::SIZE * place;
-        if a <= buf.len() {
-            if old & (0 < g.deferrable) {
-                return old_block(g, place as u32, &mut buf[a..]);
-            }
-            return blockwriter::write(g, place as u32, &mut buf[a..]);
-        }
+// The plan's blocks, one after the other, up to the first that is refused; none with more than 8 guests. An old card can
+// have Deferrable guests.
+pub fn write(p: &Plan, buf: &mut [u8], old: bool) -> Result<(), Refusal> {
+    if MOST_GUESTS < p.count {
+        return Ok(());
     }
-    Refusal {
-        number: 12,
-        place: 0,
+    for place in 0..p.count {
+        let k = place as usize;
+        let at = buf.len().min(layout::SIZE * k);
+        write_block(p.guests[k], place, &mut buf[at..], old)?;
     }
-}
-
-// The plan's blocks, one after the other, up to the first that is refused. An old card can have Deferrable guests.
-pub fn write(p: Plan, buf: &mut [u8], old: bool) -> Refusal {
-    let guests = p.guests;
-    let count = p.count as usize;
-    let mut k: usize = 0;
-    if count <= 8 {
-        while k < count {
-            let r = write_block(guests[k], k, buf, old);
-            if 0 < r.number {
-                return r;
-            }
-            k += 1;
-        }
-    }
-    Refusal {
-        number: 0,
-        place: 0,
-    }
+    Ok(())
 }
