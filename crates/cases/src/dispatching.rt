@@ -3,135 +3,87 @@ use crate::sheets;
 use casework::say;
 use dispatcher::{Answer, Dispatcher};
 use draft::text::Row;
-use plan::Plan;
+use plan::{Plan, Refusal};
 use std::io;
 
-pub fn fresh(p: Plan) -> Dispatcher {
-    let started = Dispatcher::fresh(p);
-    started.state
+// A call without an answer: whether it is refused, and the state that it gives.
+fn called(rt: &impl Print, refusal: Refusal, state: Dispatcher) -> io::Result<Dispatcher> {
+    say::refusal(rt, refusal)?;
+    println!(rt)?;
+    Ok(state)
 }
 
-fn start(rt: &impl Print, p: Plan) -> io::Result<Dispatcher> {
-    let started = Dispatcher::fresh(p);
-    say::refusal(rt, started.refusal)?;
-    say::text(rt, b"\n")?;
-    Ok(started.state)
-}
-
-fn release(rt: &impl Print, d: Dispatcher, id: u32, task: u32) -> io::Result<Dispatcher> {
-    let released = d.release(id, task);
-    say::refusal(rt, released.refusal)?;
-    say::text(rt, b"\n")?;
-    Ok(released.state)
-}
-
-// Who had the tick.
-fn had(rt: &impl Print, guest: u32, task: u32) -> io::Result<()> {
-    say::number(rt, b", guest ", guest)?;
-    say::number(rt, b" task ", task)
-}
-
-// A finished job.
-fn finished(rt: &impl Print, age: u32, late: bool) -> io::Result<()> {
-    say::number(rt, b" finished, age ", age)?;
-    if late {
-        say::text(rt, b", late")?;
-    }
-    Ok(())
-}
-
+// Who had the tick, and a finished job.
 fn answer(rt: &impl Print, a: Answer) -> io::Result<()> {
     match a {
-        Answer::Silent => say::text(rt, b", no answer")?,
-        Answer::Nobody => say::text(rt, b", nobody")?,
-        Answer::Idled(guest) => say::number(rt, b", idled by guest ", guest)?,
-        Answer::Worked(guest, task) => had(rt, guest, task)?,
+        Answer::Silent => println!(rt; ", no answer"),
+        Answer::Nobody => println!(rt; ", nobody"),
+        Answer::Idled(guest) => println!(rt; ", idled by guest {guest}"),
+        Answer::Worked(guest, task) => println!(rt; ", guest {guest} task {task}"),
         Answer::Finished {
             guest,
             task,
             age,
             margin,
         } => {
-            had(rt, guest, task)?;
-            finished(rt, age, margin < 0)?;
+            let late = if margin < 0 { ", late" } else { "" };
+            println!(rt; ", guest {guest} task {task} finished, age {age}{late}")
         }
     }
-    say::text(rt, b"\n")
 }
 
 fn tick(rt: &impl Print, d: Dispatcher) -> io::Result<Dispatcher> {
     let ticked = d.tick();
-    let a = ticked.answer;
     say::refusal(rt, ticked.refusal)?;
-    answer(rt, a)?;
+    answer(rt, ticked.answer)?;
     Ok(ticked.state)
 }
 
 fn run(rt: &impl Print, d: Dispatcher, ticks: u32) -> io::Result<Dispatcher> {
     let ran = d.run(ticks);
-    let a = ran.answer;
     say::refusal(rt, ran.refusal)?;
-    say::number(rt, b", ticks ", ran.done)?;
-    answer(rt, a)?;
+    print!(rt; ", ticks {}", ran.done)?;
+    answer(rt, ran.answer)?;
     Ok(ran.state)
 }
 
-// Capacity left or position of guest k set.
-fn with_server(d: Dispatcher, first: u8, k: usize, value: u32) -> Dispatcher {
-    let mut d = d;
+// `Left` or `Position` of guest k set, or the number of its server, `Deferrable`, in the state's records.
+pub fn set_guest(d: &mut Dispatcher, first: u8, k: usize, value: u32) {
     if k < 8 {
-        if first == b'L' {
-            d.left[k] = value;
-        } else {
-            d.position[k] = value;
+        match first {
+            b'L' => d.left[k] = value,
+            b'P' => d.position[k] = value,
+            _ => d.plan.guests[k].deferrable = value,
         }
     }
-    d
 }
 
-// The number of guest k's server set, in the state's records.
-fn with_kind(d: Dispatcher, k: usize, value: u32) -> Dispatcher {
-    let mut d = d;
-    let plan = d.plan;
-    let mut guests = plan.guests;
-    let count = plan.count;
-    if k < 8 {
-        guests[k].deferrable = value;
-    }
-    let plan = Plan { count, guests };
-    d.plan = plan;
-    d
-}
-
-// Run left, wait or age of the job at place k set.
-fn with_job(d: Dispatcher, first: u8, k: usize, value: u32) -> Dispatcher {
-    let mut d = d;
+// `Wait` or `Age` of the job at place k set, or its run left, `Job`.
+pub fn set_job(d: &mut Dispatcher, first: u8, k: usize, value: u32) {
     if k < 128 {
-        if first == b'J' {
-            d.rest[k] = value;
-        } else if first == b'W' {
-            d.wait[k] = value;
-        } else {
-            d.age[k] = value;
+        match first {
+            b'W' => d.wait[k] = value,
+            b'A' => d.age[k] = value,
+            _ => d.rest[k] = value,
         }
     }
-    d
 }
 
-// `Start` from the plan; `Release` a guest's task; `Hand` in a sheet of releases; `Tick`; `Go` on for so many ticks;
-// `Left`, `Position`, `Deferrable`, `Job`, `Wait` or `Age` at a place set to a number.
-pub fn call(rt: &impl Print, p: Plan, d: Dispatcher, row: Row) -> io::Result<Dispatcher> {
-    let x = row.numbers;
-    let first = row.first;
-    match first {
-        b'S' => start(rt, p),
-        b'R' => release(rt, d, x[0], x[1]),
+// `Start` from the plan; `Release` a guest's task; `Hand` in a sheet of releases; `Tick`; `Go` on for so many ticks.
+pub fn call(rt: &impl Print, p: &Plan, d: Dispatcher, row: Row) -> io::Result<Dispatcher> {
+    let [a, b, ..] = row.numbers;
+    match row.first {
+        b'S' => {
+            let started = Dispatcher::fresh(*p);
+            called(rt, started.refusal, started.state)
+        }
+        b'R' => {
+            let released = d.release(a, b);
+            called(rt, released.refusal, released.state)
+        }
         b'H' => sheets::hand_in(rt, d, row),
         b'T' => tick(rt, d),
-        b'G' => run(rt, d, x[0]),
-        b'L' | b'P' => Ok(with_server(d, first, x[0] as usize, x[1])),
-        b'D' => Ok(with_kind(d, x[0] as usize, x[1])),
-        b'J' | b'W' | b'A' => Ok(with_job(d, first, x[0] as usize, x[1])),
+        b'G' => run(rt, d, a),
         _ => Ok(d),
     }
 }

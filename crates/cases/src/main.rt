@@ -5,15 +5,14 @@
 // a line that starts with # says why the outcome is right and is left out.
 #![tactic(auto)]
 
+use casework::say;
 use dispatcher::Dispatcher;
-use draft::text;
-use draft::text::Row;
+use draft::text::{Row, row_of, with_line};
 use plan::Plan;
 use std::io::{self, Read};
 
 mod amending;
 mod dispatching;
-mod echo;
 mod files;
 mod judging;
 mod sheets;
@@ -21,80 +20,101 @@ mod sheets;
 // The most bytes of the cases.
 const MOST_READ: u64 = 32768;
 
+// What is in hand: the plan, the standing plan that it is an amendment of, and the dispatcher's state.
+#[derive(Clone, Copy)]
+struct Desk {
+    plan: Plan,
+    standing: Plan,
+    dispatcher: Dispatcher,
+}
+
+// Nothing is in hand.
+fn bare() -> Desk {
+    let plan = plan::blank_plan();
+    Desk {
+        plan,
+        standing: plan,
+        dispatcher: Dispatcher::fresh(plan).state,
+    }
+}
+
 // The plan with these marks for the guest at a place, also past its tasks.
-fn with_marks(p: Plan, place: u32, marks: u32) -> Plan {
-    let mut guests = p.guests;
-    let count = p.count;
-    let k = place as usize;
-    if k < 8 {
-        if marks <= 65535 {
-            guests[k].marks = marks as u16;
+fn set_marks(p: &mut Plan, place: u32, marks: u32) {
+    if let Ok(marks) = u16::try_from(marks) {
+        let k = place as usize;
+        if k < 8 {
+            p.guests[k].marks = marks;
         }
     }
-    Plan { count, guests }
 }
 
-// The plan after a line: `new` empties it, `count` says how many of its guests count, `marks` sets those of a guest,
-// `order` has a guest's tasks reordered.
-fn planned(rt: &impl Print, p: Plan, row: Row) -> io::Result<Plan> {
-    let x = row.numbers;
-    if row.first == b'n' {
-        return Ok(plan::blank_plan());
+// What a line that is not answered does: `new` empties the plan, `count` says how many of its guests count, `marks` sets
+// those of a guest; `Keep` makes it the standing plan; others set a number of the dispatcher's state, or add to the plan.
+fn change(desk: &mut Desk, row: Row) {
+    let [a, b, ..] = row.numbers;
+    match row.first {
+        b'n' => desk.plan = plan::blank_plan(),
+        b'c' => desk.plan.count = a,
+        b'm' => set_marks(&mut desk.plan, a, b),
+        b'K' => desk.standing = desk.plan,
+        b'L' | b'P' | b'D' => dispatching::set_guest(
+            &mut desk.dispatcher,
+            row.first,
+            a as usize,
+            b,
+        ),
+        b'J' | b'W' | b'A' => dispatching::set_job(&mut desk.dispatcher, row.first, a as usize, b),
+        _ => desk.plan = with_line(desk.plan, row).unwrap_or(desk.plan),
     }
-    if row.first == b'c' {
-        let guests = p.guests;
-        return Ok(Plan {
-            count: x[0],
-            guests,
-        });
-    }
-    if row.first == b'm' {
-        return Ok(with_marks(p, x[0], x[1]));
-    }
-    if row.first == b'o' {
-        return judging::ordered(rt, p, x[0]);
-    }
-    Ok(text::with_line(p, row))
 }
 
-// The standing plan after a line: `Keep` makes it the plan in hand.
-fn kept(standing: Plan, p: Plan, row: Row) -> Plan {
-    if row.first == b'K' {
-        return p;
+// What a line asks of the plan in hand: `print` it, `read` so many of its bytes, `damage` a block or leave it
+// `unmended`, `find` a guest; `write` one; `verdict` of a guest or a task, `accept`, the `smallest` capacity; `order`
+// of a guest's tasks, which is the plan's from here on; `Offer` a guest of the standing plan the plan as a sheet.
+fn ask(rt: &impl Print, desk: &mut Desk, row: Row) -> io::Result<()> {
+    match row.first {
+        b'p' => {
+            println!(rt)?;
+            files::ask(rt, &desk.plan, row)
+        }
+        b'r' | b'd' | b'u' | b'f' => files::ask(rt, &desk.plan, row),
+        b'w' => files::write(rt, &desk.plan, row),
+        b'v' => judging::verdict(rt, &desk.plan, row),
+        b'a' => judging::accept(rt, &desk.plan),
+        b's' => judging::smallest(rt, &desk.plan, row),
+        b'O' => amending::offer(rt, &desk.standing, &desk.plan, row),
+        b'o' => {
+            desk.plan = judging::ordered(rt, &desk.plan, row)?;
+            Ok(())
+        }
+        _ => Ok(()),
     }
-    standing
 }
 
-// The dispatcher's state after a line; what the line asks is asked, and the answer ends the line.
-fn asked(
-    rt: &impl Print,
-    standing: Plan,
-    p: Plan,
-    d: Dispatcher,
-    row: Row,
-) -> io::Result<Dispatcher> {
-    echo::end(rt, row)?;
-    files::ask(rt, p, row)?;
-    judging::ask(rt, p, row)?;
-    amending::ask(rt, standing, p, row)?;
-    dispatching::call(rt, p, d, row)
+// The line's outcome: an answer ends the line itself, but for what `print` writes.
+fn asked(rt: &impl Print, desk: &mut Desk, row: Row) -> io::Result<()> {
+    match row.first {
+        0 | b'n' | b'c' | b'm' | b'g' | b't' | b'K' | b'L' | b'P' | b'D' | b'J' | b'W' | b'A' => {
+            change(desk, row);
+            println!(rt)
+        }
+        b'S' | b'R' | b'H' | b'T' | b'G' => {
+            desk.dispatcher = dispatching::call(rt, &desk.plan, desk.dispatcher, row)?;
+            Ok(())
+        }
+        _ => ask(rt, desk, row),
+    }
 }
 
-fn lines(rt: &impl Print, text: &[u8]) -> io::Result<()> {
-    let mut p = plan::blank_plan();
-    let mut standing = p;
-    let mut d = dispatching::fresh(p);
-    let mut row = text::blank_row();
-    for i in 0..text.len() {
-        let b = text[i];
-        if b == b'\n' {
-            p = planned(rt, p, row)?;
-            standing = kept(standing, p, row);
-            d = asked(rt, standing, p, d, row)?;
-            row = text::blank_row();
-        } else {
-            row = text::with_byte(row, b);
-            echo::byte(rt, row, b)?;
+// Each line with its outcome; what stands behind the last line's end is written out again alone.
+fn lines(rt: &impl Print, input: &[u8]) -> io::Result<()> {
+    let mut desk = bare();
+    for part in input.split_inclusive(|b| *b == b'\n') {
+        let line = part.strip_suffix(b"\n").unwrap_or(part);
+        let row = row_of(line);
+        say::echo(rt, line, row)?;
+        if line.len() < part.len() {
+            asked(rt, &mut desk, row)?;
         }
     }
     Ok(())

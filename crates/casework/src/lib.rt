@@ -1,4 +1,4 @@
-// What the programs of stored cases share: words and numbers written, and bytes damaged.
+// What the programs of stored cases share: lines and refusals written, and bytes damaged.
 #![tactic(auto)]
 
 pub mod damage;

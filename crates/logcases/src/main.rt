@@ -3,8 +3,8 @@
 // written out again, a call with its outcome; a line that starts with # says why the outcome is right and is left out.
 #![tactic(auto)]
 
-use draft::text;
-use draft::text::Row;
+use casework::{damage, say};
+use draft::text::{Row, row_of, with_line};
 use plan::Plan;
 use statement::{Entries, Statement};
 use std::io::{self, Read};
@@ -15,99 +15,74 @@ mod stating;
 // The most bytes of the cases.
 const MOST_READ: u64 = 16384;
 
-// What is in hand: the plan, the jobs of the log's next block, the statement, the log with its length, and the line.
+// What is in hand: the plan, the jobs of the log's next block, the statement, and the log with its length.
 #[derive(Clone, Copy)]
 struct Desk {
     plan: Plan,
     jobs: Entries,
     statement: Statement,
-    log: [u8; 2048],
+    log: [u8; logging::MOST_BYTES],
     length: usize,
-    row: Row,
-}
-
-// The plan after a line: `new` empties it.
-fn planned(p: Plan, row: Row) -> Plan {
-    if row.first == b'n' {
-        return plan::blank_plan();
-    }
-    text::with_line(p, row)
-}
-
-// Whether a line is answered, so that its answer ends it.
-fn is_answered(first: u8) -> bool {
-    (first == b'W') | (first == b'E') | (first == b'M')
-}
-
-// Writes a byte of the line in hand, unless the line is left out, or it is the end of one that is answered.
-fn echo(rt: &impl Print, row: Row, b: u8) -> io::Result<()> {
-    if row.first == b'#' {
-        return Ok(());
-    }
-    if (b == b'\n') & is_answered(row.first) {
-        return Ok(());
-    }
-    rt.write_all(&[b])
-}
-
-// The line that a byte ends; a line of nothing where it ends none.
-fn ended(row: Row, b: u8) -> Row {
-    if b == b'\n' {
-        return row;
-    }
-    text::blank_row()
-}
-
-// The line in hand after a byte.
-fn grown(row: Row, b: u8) -> Row {
-    if b == b'\n' {
-        return text::blank_row();
-    }
-    text::with_byte(row, b)
-}
-
-// What is in hand after a byte.
-fn step(rt: &impl Print, desk: Desk, b: u8) -> io::Result<Desk> {
-    let row = desk.row;
-    echo(rt, text::with_byte(row, b), b)?;
-    let line = ended(row, b);
-    let plan = planned(desk.plan, line);
-    let jobs = logging::with_job(desk.jobs, line);
-    let mut log = desk.log;
-    let length = logging::logged(rt, jobs, &mut log, desk.length, line)?;
-    logging::damaged(&mut log, line);
-    let statement = stating::asked(rt, plan, desk.statement, &log, line)?;
-    let row = grown(row, b);
-    Ok(Desk {
-        plan,
-        jobs,
-        statement,
-        log,
-        length,
-        row,
-    })
 }
 
 // Nothing is in hand.
 fn bare() -> Desk {
-    let plan = plan::blank_plan();
-    let jobs = logging::no_jobs();
-    let statement = stating::empty();
-    let row = text::blank_row();
     Desk {
-        plan,
-        jobs,
-        statement,
-        log: [0; 2048],
+        plan: plan::blank_plan(),
+        jobs: logging::no_jobs(),
+        statement: stating::empty(),
+        log: [0; logging::MOST_BYTES],
         length: 0,
-        row,
     }
 }
 
+// What a line that is not answered does: `new` begins anew, but for the log's bytes; `clear` forgets the jobs gathered,
+// `Job` adds one; `damage` and `unmended` change the log; `Blocks`, `Line` and `Sum` set numbers of the statement.
+fn change(desk: &mut Desk, row: Row) {
+    match row.first {
+        b'n' => {
+            let log = desk.log;
+            *desk = Desk { log, ..bare() };
+        }
+        b'c' => desk.jobs = logging::no_jobs(),
+        b'J' => logging::add(&mut desk.jobs, row.numbers),
+        b'd' | b'u' => damage::damage(&mut desk.log, row),
+        b'B' => desk.statement.blocks = u64::from(row.numbers[0]),
+        b'L' => stating::set_line(&mut desk.statement, row.numbers),
+        b'S' => stating::set_sum(&mut desk.statement, row.numbers),
+        _ => desk.plan = with_line(desk.plan, row).unwrap_or(desk.plan),
+    }
+}
+
+// What a line asks: `Write` puts the jobs gathered into a block of so many bytes at the log's end, `Extend` adds so many
+// bytes of the log to the statement, `Margins` asks for the sum of a line. The answer ends the line.
+fn asked(rt: &impl Print, desk: &mut Desk, row: Row) -> io::Result<()> {
+    let [a, b, ..] = row.numbers;
+    match row.first {
+        b'W' => {
+            desk.length = logging::write(rt, &desk.jobs, &mut desk.log, desk.length, a)?;
+            println!(rt)
+        }
+        b'E' => stating::extend(rt, &desk.plan, &mut desk.statement, &desk.log, a),
+        b'M' => stating::compare(rt, &desk.statement, a, b),
+        b'#' => Ok(()),
+        _ => {
+            change(desk, row);
+            println!(rt)
+        }
+    }
+}
+
+// Each line with its outcome; what stands behind the last line's end is written out again alone.
 fn lines(rt: &impl Print, input: &[u8]) -> io::Result<()> {
     let mut desk = bare();
-    for i in 0..input.len() {
-        desk = step(rt, desk, input[i])?;
+    for part in input.split_inclusive(|b| *b == b'\n') {
+        let line = part.strip_suffix(b"\n").unwrap_or(part);
+        let row = row_of(line);
+        say::echo(rt, line, row)?;
+        if line.len() < part.len() {
+            asked(rt, &mut desk, row)?;
+        }
     }
     Ok(())
 }
