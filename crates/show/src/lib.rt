@@ -1,6 +1,8 @@
 // The lines of the printing program: made from the verdicts, and printed.
 #![tactic(auto)]
 
+ghost use Rattle.std.specs.Prelude.{◌≡◌};
+ghost use Rattle.show.specs.Lines.{guest_shown, task_shown, plan_shown};
 ghost use Rattle.show.specs.Promises.{ShowsGuest, ShowsTask, ShowsPlan};
 
 use plan::{Plan, Refusal};
@@ -38,22 +40,22 @@ impl fmt::Display for Line {
     }
 }
 
-// The line of the guest with an id.
-pub fn guest_line(plan: &Plan, id: u32) -> Line
-    ensures { ShowsGuest plan.now id result }
+// The line of a guest's verdict.
+pub fn guest_shown(id: u32, v: Result<GuestVerdict, Refusal>) -> Line
+    ensures { result ≡ guest_shown id v }
 {
-    match verdict::guest_verdict(plan, id) {
+    match v {
         Err(Refusal { number, place }) => Line::Refused(number, place),
         Ok(GuestVerdict::Fitted(x)) => Line::Fitted(id, x),
         Ok(GuestVerdict::Unfit) => Line::Unfit(id),
     }
 }
 
-// The line of one of its tasks, by its number from 1.
-pub fn task_line(plan: &Plan, id: u32, task: u32) -> Line
-    ensures { ShowsTask plan.now id task result }
+// The line of a task's verdict, by its number from 1.
+pub fn task_shown(task: u32, v: Result<TaskVerdict, Refusal>) -> Line
+    ensures { result ≡ task_shown task v }
 {
-    match verdict::task_verdict(plan, id, task) {
+    match v {
         Err(Refusal { number, place }) => Line::Refused(number, place),
         Ok(TaskVerdict::Met(r)) => Line::Met(task, r),
         Ok(TaskVerdict::UnmetAt(r)) => Line::UnmetAt(task, r),
@@ -62,15 +64,36 @@ pub fn task_line(plan: &Plan, id: u32, task: u32) -> Line
     }
 }
 
-// The plan's line.
-pub fn last_line(plan: &Plan) -> Line
-    ensures { ShowsPlan plan.now result }
+// The line of a plan's acceptance.
+pub fn plan_shown(a: Result<Acceptance, Refusal>) -> Line
+    ensures { result ≡ plan_shown a }
 {
-    match verdict::accept(plan) {
+    match a {
         Err(Refusal { number, place }) => Line::Refused(number, place),
         Ok(Acceptance::Accepted) => Line::Accepted,
         Ok(Acceptance::NotAccepted) => Line::NotAccepted,
     }
+}
+
+// The line of the guest with an id.
+pub fn guest_line(plan: &Plan, id: u32) -> Line
+    ensures { ShowsGuest plan.now id result }
+{
+    guest_shown(id, verdict::guest_verdict(plan, id))
+}
+
+// The line of one of its tasks, by its number from 1.
+pub fn task_line(plan: &Plan, id: u32, task: u32) -> Line
+    ensures { ShowsTask plan.now id task result }
+{
+    task_shown(task, verdict::task_verdict(plan, id, task))
+}
+
+// The plan's line.
+pub fn last_line(plan: &Plan) -> Line
+    ensures { ShowsPlan plan.now result }
+{
+    plan_shown(verdict::accept(plan))
 }
 
 // A guest's line, and after it its tasks', of which there are no more than 16.
