@@ -7,8 +7,7 @@ ghost use Rattle.plan.specs.Filled.{ColumnsOf};
 ghost use Rattle.plan.specs.LookUp.{LooksUp};
 ghost use Rattle.plan.specs.Ranges.{most_guests};
 
-use crate::checking::check;
-use crate::{AsPlan, Columns, Refusal};
+use crate::{AsPlan, Columns, Refusal, check};
 
 // The first place of the first n whose id is `id`, or n where there is none: the specs' `first_from` counts so.
 #[tactic(auto, unfolding(lists::specs::Search::first_from), using(lists::proofs::Search::first_skip))]

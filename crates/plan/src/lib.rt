@@ -4,22 +4,23 @@
 ghost use Rattle.std.specs.Prelude.{◌≡◌};
 ghost use Rattle.plan.specs.Records.{blank, blank_plan};
 ghost use Rattle.plan.specs.Charge.{charged_run};
+ghost use Rattle.plan.specs.Promises.{Checks};
 
-mod checking;
 mod column;
 mod find;
 mod given;
 mod guests;
 mod marks;
 mod ranges;
+mod starting;
 
-pub use checking::{check, start_check};
 pub use column::columns_of;
 pub use find::{has_task, look_up, place_of};
 pub use given::AsPlan;
 pub use guests::{guest_passes, new_id};
 pub use marks::{is_marked, live_marks};
 pub use ranges::{LONGEST, count_ok, head_ok, tasks_ok};
+pub use starting::start_check;
 
 // A guest: its server, its tasks' marks, and a column for each number of its tasks. The server is Deferrable where
 // `deferrable` is not 0, and else Periodic. `every` is each task's period.
@@ -98,4 +99,28 @@ pub fn charged_run(run: u32, charge: u16) -> u64
     ensures { result ≡ charged_run run charge }
 {
     u64::from(run) + 2 * u64::from(charge)
+}
+
+// The records' refusal: 1, then 4 and 6 guest by guest.
+pub fn check<P: AsPlan>(plan: &P) -> Result<(), Refusal>
+    ensures { Checks (P.plan plan.now) result }
+{
+    let count = plan.count();
+    if !count_ok(count) {
+        return Err(Refusal {
+            number: 1,
+            place: 0,
+        });
+    }
+    let columns = columns_of(plan);
+    for k in 0..count as usize {
+        let new = new_id(&columns.ids, k);
+        if let Err(number) = guest_passes(&plan.guest(k), new) {
+            return Err(Refusal {
+                number,
+                place: k as u32,
+            });
+        }
+    }
+    Ok(())
 }

@@ -6,7 +6,7 @@ use Rattle.plan.specs.Ranges.{most_guests}
 use Rattle.plan.proofs.First.{first_here, first_next, first_end, ok_unless, err_unless}
 use Rattle.plan.proofs.RangesLaws.{within_says}
 use Rattle.plan.proofs.Order.{number_is, count_out, counted}
-use Rattle.plan.proofs.checking.check.Goals as goal
+use Rattle.plan.proofs.check.Goals as goal
 
 pub returns-then-not-count_ok : goal.returns-then-not-count_ok
 returns-then-not-count_ok g c =

@@ -3,7 +3,7 @@ use Rattle.std.proofs.Common.{arith, sym, ◌∙◌}
 use Rattle.plan.proofs.First.{ok_says, ok_unless, err_unless}
 use Rattle.plan.proofs.Order.{check_order}
 use Rattle.plan.proofs.PeriodicLaws.{periodic_tested, deferrable_refused, starts_by}
-use Rattle.plan.proofs.checking.start_check.Goals as goal
+use Rattle.plan.proofs.starting.start_check.Goals as goal
 
 pub returns-then-not-all_periodic : goal.returns-then-not-all_periodic
 returns-then-not-all_periodic g c =

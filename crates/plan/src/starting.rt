@@ -1,40 +1,13 @@
-// The checks on records handed over as a plan.
+// The check on records that are to be started.
 ghost use Rattle.std.specs.Prelude.{◌≡◌, ◌≤◌, eqb};
 ghost use Rattle.lists.specs.All.{all_to};
 ghost use Rattle.lists.specs.Places.{nth};
 ghost use Rattle.plan.specs.First.{unless_refused};
 ghost use Rattle.plan.specs.Periodic.{start_refusal};
-ghost use Rattle.plan.specs.Promises.{Checks};
 ghost use Rattle.plan.specs.Ranges.{most_guests};
 
 use crate::column::columns_of;
-use crate::guests::{guest_passes, new_id};
-use crate::ranges::count_ok;
-use crate::{AsPlan, Refusal};
-
-// The records' refusal: 1, then 4 and 6 guest by guest.
-pub fn check<P: AsPlan>(plan: &P) -> Result<(), Refusal>
-    ensures { Checks (P.plan plan.now) result }
-{
-    let count = plan.count();
-    if !count_ok(count) {
-        return Err(Refusal {
-            number: 1,
-            place: 0,
-        });
-    }
-    let columns = columns_of(plan);
-    for k in 0..count as usize {
-        let new = new_id(&columns.ids, k);
-        if let Err(number) = guest_passes(&plan.guest(k), new) {
-            return Err(Refusal {
-                number,
-                place: k as u32,
-            });
-        }
-    }
-    Ok(())
-}
+use crate::{AsPlan, Refusal, check};
 
 // Whether each of the first n guests is Periodic.
 #[tactic(auto, unfolding(lists::specs::All::all_to))]

@@ -4,7 +4,7 @@ use Rattle.std.proofs.Common.{◌≡◌, ◌-◌, ◌≤◌}
 use Rattle.plan.specs.Ranges.{most_guests}
 use Rattle.plan.specs.First.{first_refused}
 use Rattle.plan.specs.Order.{guest_number, plan_refusal}
-use Rattle.plan.proofs.checking.check.Given as goal
+use Rattle.plan.proofs.check.Given as goal
 
 abbrev pub invariant-loop-k : goal.invariant-loop-k
 invariant-loop-k g l =
