@@ -11,7 +11,12 @@ use Rattle.lists.specs.Table.{table}
 use Rattle.dispatcher.specs.declared.Dispatcher.{Dispatcher}
 use Rattle.dispatcher.specs.Valid.{state_ok}
 use Rattle.sheet.specs.Sheet.{pair_guest, pair_task, pair_released, state_after, answer_to}
-use Rattle.sheet.specs.Lent.{PairTaken, AllTaken}
+use Rattle.dispatcher.specs.declared.Released.{Released}
+use Rattle.dispatcher.specs.InPlace.{released_in}
+use Rattle.sheet.specs.Lent.{AllTaken}
+use Rattle.std.specs.Prelude.{Result, unwrap_or}
+use Rattle.std.specs.Result.{result_err}
+use Rattle.dispatcher.proofs.Release.{told_by_number}
 use Rattle.lists.proofs.Table.{table_turn}
 use Rattle.dispatcher_laws.proofs.Release.{release_took, ok_took}
 
@@ -44,18 +49,22 @@ ok_meanwhile {i} {d} {e} {pairs} ok T = rw T.state (ok_after d pairs i ok)
 
 -- One pair more.
 pub taken_next :
-    {i x : ℕ} {d e after : Dispatcher} {pairs before answers : List ℕ}
+    {i : ℕ} {d e after : Dispatcher} {pairs before answers : List ℕ}
     → i < length before
     → TakenTo i d e pairs before answers
-    → PairTaken e after (nth pairs i) x
-    → TakenTo (i + 1) d after pairs before (set answers i x)
+    → (r : Result Unit ℕ)
+    → released_in r after ≡ pair_released e (nth pairs i)
+    → TakenTo (i + 1) d after pairs before (set answers i (unwrap_or (result_err r) 0))
 unfolding state_after answer_to
-taken_next {i} {x} {d} {e} {after} {pairs} {before} {answers} h T P = record {
-  state = rw add-one (P.state ∙ ap (λ (s : Dispatcher). (pair_released s (nth pairs i)).state) T.state);
-  answer =
-      table_turn (answer_to d pairs) 0 i before answers x h T.answer
-      (P.answer ∙ ap (λ (s : Dispatcher). (pair_released s (nth pairs i)).refusal.number) T.state);
-}
+taken_next {i} {d} {e} {after} {pairs} {before} {answers} h T r P =
+    let q = told_by_number r after P in
+    record {
+      state = rw add-one (ap (λ (z : Released). z.state) q ∙ ap (λ (s : Dispatcher). (pair_released s (nth pairs i)).state) T.state);
+      answer =
+          table_turn (answer_to d pairs) 0 i before answers _ h T.answer
+          (ap (λ (z : Released). z.refusal.number) q
+          ∙ ap (λ (s : Dispatcher). (pair_released s (nth pairs i)).refusal.number) T.state);
+    }
 
 -- All are.
 pub taken_all :

@@ -1,41 +1,47 @@
 // A sheet of releases: many tasks are released in one call, and the state is checked once.
 #![tactic(auto)]
 
+ghost use Rattle.arrays.specs.Place.{Small};
+ghost use Rattle.jobs.specs.Barred.{Clear};
 ghost use Rattle.sheet.specs.Promises.{Sheets};
 
 use dispatcher::{Dispatcher, Released};
-use plan::Refusal;
-use rows::rows_of;
+use jobs::Bars;
+use plan::{Columns, Refusal};
 
 mod pairs;
 mod placing;
 
 pub use placing::release_all_in; // Inner: for the calls in place.
 
+// What a sheet looks at, gathered once: the plan's n guests, the tasks that may not be released where the guests stand,
+// and what a taken release sets at each place.
+#[derive(Clone, Copy)]
+pub struct Gathered<'a> {
+    n: usize,
+    columns: &'a Columns,
+    bars: &'a Bars,
+    runs: &'a [u32; 128],
+    periods: &'a [u32; 128],
+    ghost small: { Small n columns.now.tasks },
+    ghost nothing: { Clear bars.now.clear n bars.now.barred },
+}
+
 // Releases the pairs one by one in order, and answers each in its place; a sheet refused whole changes nothing.
 pub fn release_all(mut state: Dispatcher, pairs: &[u64], answers: &mut [u32]) -> Released
     ensures { Sheets state pairs.now answers.old result answers.new }
 {
-    let left = state.left;
-    let position = state.position;
-    let mut rest = state.rest;
-    let mut wait = state.wait;
-    let mut age = state.age;
-    let rows = rows_of(state.plan);
-    let number = release_all_in(
-        state.plan.count,
-        &rows,
-        &left,
-        &position,
-        &mut rest,
-        &mut wait,
-        &mut age,
+    let refused = release_all_in(
+        &state.plan,
+        &state.left,
+        &state.position,
+        &mut state.rest,
+        &mut state.wait,
+        &mut state.age,
         pairs,
         answers,
     );
-    state.rest = rest;
-    state.wait = wait;
-    state.age = age;
+    let number = refused.err().unwrap_or(0);
     Released {
         refusal: Refusal { number, place: 0 },
         state,

@@ -1,7 +1,8 @@
--- `sheet::release_all` meets its promise: the rows of the state's plan say the plan, and what the sheet in place gives is
--- put back into the state. Assumes nothing.
+-- What the sheet in place gives is told by its number.
+use Rattle.dispatcher.proofs.Release.{told_by_number}
 use Rattle.sheet.proofs.release_all.Goals as goal
 
 pub returns : goal.returns
 returns c =
-    rw c.rows_of-rows.ensures at (c.release_all_in-number.ensures c.args.state.usage)
+    let r = c.release_all_in-refused.ensures c.args.state.usage in
+    (rw (c.unwrap_or-number.ensures, c.err.ensures.value) (told_by_number c.release_all_in-refused.result _ r.0), r.1)

@@ -1,44 +1,53 @@
--- `sheet::placing::release_all_in` meets its contract: the check once, then the whole refusals in order, then the pairs. Assumes
--- nothing.
-use mathlib.Core.Path.{refl}
-use mathlib.Core.List.{[]}
-use Rattle.rows.specs.Words.{plan_of}
+-- The check once, then the whole refusals in order, then the pairs.
+use Rattle.std.proofs.Common.{Some, None, []}
+use Rattle.std.proofs.lemmas.Result.{err_from_is_err_and}
 use Rattle.dispatcher.specs.Lent.{state_of}
 use Rattle.dispatcher.proofs.LentCheck.{examines}
-use Rattle.sheet.proofs.Whole.{whole_refused, whole_taken, state_in, room_enough, plan_fine, small, sheet_columns}
+use Rattle.sheet.proofs.Whole.{state_refuses, room_refuses, room_none, whole_taken, room_enough, plan_fine, small, sheet_columns}
 use Rattle.sheet.proofs.placing.release_all_in.Goals as goal
 
-pub returns-then-number-gt0 : goal.returns-then-number-gt0
-returns-then-number-gt0 c =
-    λ usage. whole_refused _ _ _ (examines c.examine-checked.ensures usage) c.whole_number-number.ensures c.if-number-gt0.true
-
-pub put_jobs-found-requires : goal.put_jobs-found-requires
-put_jobs-found-requires c =
-    let a = c.args in
-    let d = state_of (plan_of a.count a.rows.now) a.left.now a.position.now a.rest.now a.wait.now a.age.now [] in (
-      plan_fine d a.pairs.now a.answers.now (examines c.examine-checked.ensures []) c.whole_number-number.ensures
-          c.if-number-gt0.false,
-      record { runs_long = refl; periods_long = refl },
-    )
-
-pub take_all-requires : goal.take_all-requires
-take_all-requires c =
-    let a = c.args in
-    let d = state_of (plan_of a.count a.rows.now) a.left.now a.position.now a.rest.now a.wait.now a.age.now [] in
-    let E = examines c.examine-checked.ensures [] in
-    let N = c.whole_number-number.ensures in (
-      (small d a.pairs.now a.answers.now E N c.if-number-gt0.false, c.put_jobs-found.ensures.1.nothing),
-      room_enough d a.pairs.now a.answers.now E N c.if-number-gt0.false,
-    )
-
-pub returns : goal.returns
-returns c =
+pub returns-in_default : goal.returns-in_default
+returns-in_default g c =
     let a = c.args in
     λ usage.
-    let d = state_of (plan_of a.count a.rows.now) a.left.now a.position.now a.rest.now a.wait.now a.age.now usage in
-    let E = examines c.examine-checked.ensures usage in
-    let N = c.whole_number-number.ensures in
-    whole_taken d a.pairs.now a.answers.now E N c.if-number-gt0.false
-    (c.take_all.ensures (plan_of a.count a.rows.now) a.left.now a.position.now usage
-    (sheet_columns d a.pairs.now a.answers.now E N c.if-number-gt0.false c.put_jobs-found.ensures)
-    (state_in d a.pairs.now a.answers.now E N c.if-number-gt0.false))
+    let d = state_of (g.P.AsPlan.plan a.plan.now) a.left.now a.position.now a.rest.now a.wait.now a.age.now usage in
+    state_refuses d a.pairs.now a.answers.now (examines d None c.in_default.ensures)
+
+pub returns-in_err-room_for : goal.returns-in_err-room_for
+returns-in_err-room_for g c =
+    let a = c.args in
+    let e = err_from_is_err_and c.from_residual.result c.from_residual.ensures.1 in
+    λ usage.
+    let d = state_of (g.P.AsPlan.plan a.plan.now) a.left.now a.position.now a.rest.now a.wait.now a.age.now usage in
+    rw (e.1, e.2) (room_refuses d a.pairs.now a.answers.now (examines d (Some c.in-Some.columns) c.in-Some.ensures) c.in_err-room_for.ensures)
+
+pub put_jobs-bars-requires : goal.put_jobs-bars-requires
+put_jobs-bars-requires g c =
+    let a = c.args in
+    let d = state_of (g.P.AsPlan.plan a.plan.now) a.left.now a.position.now a.rest.now a.wait.now a.age.now [] in
+    plan_fine d a.pairs.now a.answers.now (examines d (Some c.in-Some.columns) c.in-Some.ensures)
+
+pub invariant_of-sheet : goal.invariant_of-sheet
+invariant_of-sheet g c =
+    let a = c.args in
+    let d = state_of (g.P.AsPlan.plan a.plan.now) a.left.now a.position.now a.rest.now a.wait.now a.age.now [] in
+    let E = examines d (Some c.in-Some.columns) c.in-Some.ensures in
+    rw c.count.ensures (record { small = small d a.pairs.now a.answers.now E; nothing = c.put_jobs-bars.ensures.1.nothing })
+
+pub take_all-requires : goal.take_all-requires
+take_all-requires g c =
+    let a = c.args in
+    let d = state_of (g.P.AsPlan.plan a.plan.now) a.left.now a.position.now a.rest.now a.wait.now a.age.now [] in
+    let E = examines d (Some c.in-Some.columns) c.in-Some.ensures in
+    room_enough d a.pairs.now a.answers.now E (room_none d a.pairs.now a.answers.now E c.in_ok-room_for.ensures)
+
+pub returns : goal.returns
+returns g c =
+    let a = c.args in
+    let p = g.P.AsPlan.plan a.plan.now in
+    λ usage.
+    let d = state_of p a.left.now a.position.now a.rest.now a.wait.now a.age.now usage in
+    let E = examines d (Some c.in-Some.columns) c.in-Some.ensures in
+    whole_taken d a.pairs.now a.answers.now E (room_none d a.pairs.now a.answers.now E c.in_ok-room_for.ensures)
+    (c.take_all.ensures p a.left.now a.position.now usage
+    (rw c.count.ensures (sheet_columns d a.pairs.now a.answers.now E c.put_jobs-bars.ensures)) E.okay)
