@@ -67,6 +67,7 @@ pub fn response_at(servers: &Servers, k: usize) -> Option<u32>
 }
 
 // Whether the first n guests are fitted.
+#[tactic(auto, unfolding(lists::specs::All::all_to, crate::specs::Columns::fitted_at))]
 pub fn all_fitted(servers: &Servers, n: usize) -> bool
     requires { AboveIn servers.now n × Ranged servers.now n }
     ensures { result ≡ all_to (fitted_of servers.now) n }

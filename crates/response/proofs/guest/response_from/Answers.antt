@@ -24,15 +24,6 @@ loop-capacities-init c =
       c.none-edges.ensures _ _ _ _ _,
     )
 
-pub move_on-requires : goal.move_on-requires
-move_on-requires c =
-    let i = c.loop-capacities.invariant.0 in
-    let above = c.requires.above_in.0 in
-    record {
-      n_bound = (above.0, (λ j h. omega (arith, i.high, i.short, above.1.1 j h), λ j h. omega (arith, above.1.0 j h)));
-      behind = c.loop-capacities.invariant.1;
-    }
-
 pub overflow_add-next : goal.overflow_add-next
 overflow_add-next c = omega (arith, kept_most c.move_on.ensures, c.requires.above_in.0.0)
 
