@@ -14,6 +14,7 @@ use Rattle.plan.specs.declared.Guest.{Guest}
 use Rattle.plan.specs.Records.{run_of, every_of, deadline_of}
 use Rattle.plan.specs.Marks.{marks_of, live_marks}
 use Rattle.plan.specs.Ranges.{guest_ok, tasks_ok, most_tasks}
+use Rattle.plan.specs.First.{fine}
 use Rattle.plan.specs.Server.{is_periodic}
 use Rattle.block.specs.Layout.{block_size, block_words, kind_place_word, last_place, id_word, capacity_word, period_word, tasks_charge_word, marks_server_word, first_task, half_wrap, halves}
 use Rattle.blockparts.specs.Parts.{with_check}
@@ -139,3 +140,7 @@ pub refused_write_same : (g : Guest) (place : ℕ) (before : List ℕ) → 0 < (
     → written g place before ≡ before
 refused_write_same g place before h =
     sym (by_refused (write_number g place (length before)) (block_of g place) before h)
+
+-- A write that is not refused has number and place 0.
+pub write_fine : (g : Guest) (place n : ℕ) → (write_refusal g place n).number ≡ 0 → write_refusal g place n ≡ fine
+write_fine g place n e = rw e refl

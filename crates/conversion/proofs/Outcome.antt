@@ -50,6 +50,10 @@ module _ (s : List ℕ) (room : ℕ) where
       let z = after_zero (file_refusal s).number (file_refusal s).place (refused (room_number (length s) room) 0) e in
       (z.0, leb-true (length s) room (passed (leb (length s) room) 12 [] (omega arith) z.1).0)
 
+  -- A conversion that is not refused has number and place 0.
+  pub convert_fine : (convert_refusal s room).number ≡ 0 → convert_refusal s room ≡ fine
+  convert_fine e = let i = convert_in e in sym (none (omega (arith, i.0)) i.1)
+
 -- What a plan's bytes have that are read without a refusal.
 module _ (s : List ℕ) (ok : (file_refusal s).number ≡ 0) where
   -- Its blocks are at most eight, and nothing is behind them.

@@ -3,13 +3,16 @@ use mathlib.Core.Path.{◌≡◌, ap}
 use mathlib.Core.List.{List}
 use Prim.Native.Nat.{ℕ}
 use Rattle.plan.specs.First.{refused}
+use Rattle.plan.specs.declared.Guest.{Guest}
 use Rattle.plan.specs.declared.Plan.{Plan}
+use Rattle.plan.specs.declared.Refusal.{Refusal}
+use Rattle.planfile.specs.declared.Reading.{Reading}
 use Rattle.dispatcher.specs.declared.Dispatcher.{Dispatcher}
 use Rattle.coreshare.specs.declared.Verdict.{Verdict}
 use Rattle.coreshare.specs.declared.Told.{Told}
 use Rattle.coreshare.specs.declared.Tick.{Tick}
 use Rattle.coreshare.specs.declared.Run.{Run}
-use Rattle.coreshare.specs.Promises.{TellsGuest, TellsTask, TellsPlan, TellsCapacity, TellsGuestIn, TellsTaskIn, TellsPair, TellsCapacityIn, TellsTick, TellsRun}
+use Rattle.coreshare.specs.Promises.{TellsGuest, TellsTask, TellsPlan, TellsCapacity, TellsGuestIn, TellsTaskIn, TellsPair, TellsCapacityIn, TellsTick, TellsRun, TellsReading, TellsCheck, TellsWrite, TellsPlace, TellsConverted}
 use Rattle.plan.proofs.Promises.{one_outcome}
 
 -- Two outcomes that the promise of `cs_guest_verdict` permits coincide.
@@ -75,3 +78,27 @@ tells_run_in_place_once d ticks n m done did a b s t p q =
       (ap (λ (r : Run). r.refusal.number) e, ap (λ (r : Run). r.done) e),
       (ap (λ (r : Run). r.answer) e, ap (λ (r : Run). r.state) e),
     )
+
+-- Two outcomes that the promise of `cs_read` permits coincide.
+pub tells_reading_once : (s : List ℕ) (r q : Reading) → TellsReading s r → TellsReading s q → r ≡ q
+tells_reading_once s r q = one_outcome
+
+-- Two outcomes that the promise of `cs_check` permits coincide.
+pub tells_check_once : (p : Plan) (r s : Refusal) → TellsCheck p r → TellsCheck p s → r ≡ s
+tells_check_once p r s = one_outcome
+
+-- Two outcomes that the promise of `cs_write` permits coincide, and so do the bytes that they leave.
+pub tells_write_once : (g : Guest) (p : ℕ) (before : List ℕ) (r s : Refusal) (x y : List ℕ) → TellsWrite g p before r x
+    → TellsWrite g p before s y
+    → (r ≡ s) × (x ≡ y)
+tells_write_once g p before r s x y a b = (one_outcome a.0 b.0, one_outcome a.1 b.1)
+
+-- Two outcomes that the promise of `cs_find` permits coincide.
+pub tells_place_once : (s : List ℕ) (id : ℕ) (r q : Refusal) → TellsPlace s id r → TellsPlace s id q → r ≡ q
+tells_place_once s id r q = one_outcome
+
+-- Two outcomes that the promise of `cs_convert` permits coincide, and so do the bytes that they leave.
+pub tells_converted_once : (s before : List ℕ) (r q : Refusal) (x y : List ℕ) → TellsConverted s before r x
+    → TellsConverted s before q y
+    → (r ≡ q) × (x ≡ y)
+tells_converted_once s before r q x y a b = (one_outcome a.0 b.0, one_outcome a.1 b.1)

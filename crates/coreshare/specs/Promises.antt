@@ -1,7 +1,15 @@
--- Ten exports tell an enum's case as a number, and each promises its entry's outcome, told so. The others give what
--- their entries give and carry the entries' own promises.
-use Rattle.std.specs.Prelude.{◌≡◌, List, ℕ}
+-- Ten exports tell an enum's case as a number, and five a refusal or its absence as a struct, and each promises its
+-- entry's outcome, told so. The others give what their entries give and carry the entries' own promises.
+use Rattle.std.specs.Prelude.{◌≡◌, List, ℕ, length}
+use Rattle.plan.specs.declared.Guest.{Guest}
 use Rattle.plan.specs.declared.Plan.{Plan}
+use Rattle.plan.specs.declared.Refusal.{Refusal}
+use Rattle.plan.specs.Order.{plan_refusal}
+use Rattle.blockwriter.specs.Writing.{write_refusal, written}
+use Rattle.planfile.specs.declared.Reading.{Reading}
+use Rattle.planfile.specs.Records.{read_of}
+use Rattle.planfile.specs.Finder.{found_place}
+use Rattle.conversion.specs.Outcome.{convert_refusal, converted_out}
 use Rattle.verdict.specs.Verdict.{guest_verdict, task_verdict, acceptance}
 use Rattle.capacity.specs.Answer.{smallest_capacity}
 use Rattle.amendment.specs.Verdict.{pair_or}
@@ -51,3 +59,23 @@ TellsTick d r = r ≡ tick_told (tick d)
 -- `cs_run` gives the refusal, the ticks done, the last answer told in numbers, and the next state.
 abbrev pub TellsRun : Dispatcher → ℕ → Run → Type 0
 TellsRun d n r = r ≡ run_told (run d n)
+
+-- `cs_read` gives the refusal, or number 0, and the plan's records, or on a refusal zeros.
+abbrev pub TellsReading : List ℕ → Reading → Type 0
+TellsReading s r = r ≡ read_of s
+
+-- `cs_check` gives the records' refusal, or number 0.
+abbrev pub TellsCheck : Plan → Refusal → Type 0
+TellsCheck p r = r ≡ plan_refusal p
+
+-- `cs_write` gives the refusal, or number 0, and settles every byte of the lent buffer.
+abbrev pub TellsWrite : Guest → (place : ℕ) → (before : List ℕ) → Refusal → (after : List ℕ) → Type 0
+TellsWrite g place before r after = (r ≡ write_refusal g place (length before)) × (after ≡ written g place before)
+
+-- `cs_find` gives the found block's place, or the refusal.
+abbrev pub TellsPlace : List ℕ → (id : ℕ) → Refusal → Type 0
+TellsPlace s id r = r ≡ found_place s id
+
+-- `cs_convert` gives the refusal, or number 0, and settles every byte of the lent output.
+abbrev pub TellsConverted : (plan before : List ℕ) → Refusal → (after : List ℕ) → Type 0
+TellsConverted plan before r after = (r ≡ convert_refusal plan (length before)) × (after ≡ converted_out plan before)

@@ -2,6 +2,7 @@
 -- cases numbers of their own.
 use Rattle.std.specs.Prelude.{ℕ, pos, Result, Ok, Err}
 use Rattle.plan.specs.declared.Refusal.{Refusal}
+use Rattle.plan.specs.First.{fine}
 use Rattle.verdict.specs.declared.GuestVerdict.{GuestVerdict}
 use Rattle.verdict.specs.declared.TaskVerdict.{TaskVerdict}
 use Rattle.verdict.specs.declared.Acceptance.{Acceptance}
@@ -16,6 +17,11 @@ use Rattle.coreshare.specs.declared.Run.{Run}
 use Rattle.verdict.specs.declared.GuestVerdict.TheVariants as guest
 use Rattle.verdict.specs.declared.TaskVerdict.TheVariants as task
 use Rattle.verdict.specs.declared.Acceptance.TheVariants as plan
+
+-- A refusal, or none, is told as number and place: those of none are 0.
+abbrev pub refusal_told : Result Unit Refusal → Refusal
+refusal_told (Ok u) = fine
+refusal_told (Err r) = r
 
 -- A refusal is told by its number, with its place.
 abbrev pub refusing : (number place : ℕ) → Verdict

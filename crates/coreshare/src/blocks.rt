@@ -1,35 +1,49 @@
 // Plan blocks and records. A found part of the bytes does not cross to C; its place does.
-ghost use Rattle.plan.specs.Promises.{Checks};
-ghost use Rattle.blockwriter.specs.Promises.{Writes};
-ghost use Rattle.planfile.specs.Promises.{Reads, FindsPlace};
+ghost use Rattle.coreshare.specs.Promises.{TellsReading, TellsCheck, TellsWrite, TellsPlace};
 
+use crate::telling::tell_refusal;
 use plan::{Guest, Plan, Refusal};
 use planfile::Reading;
 
 #[unsafe(no_mangle)]
 pub extern "C" fn cs_read(bytes: &[u8]) -> Reading
-    ensures { Reads bytes.now result }
+    ensures { TellsReading bytes.now result }
 {
-    planfile::read(bytes)
+    match planfile::read(bytes) {
+        Ok(plan) => Reading {
+            refusal: Refusal {
+                number: 0,
+                place: 0,
+            },
+            plan,
+        },
+        Err(refusal) => Reading {
+            refusal,
+            plan: plan::blank_plan(),
+        },
+    }
 }
 
 #[unsafe(no_mangle)]
 pub extern "C" fn cs_check(plan: Plan) -> Refusal
-    ensures { Checks plan result }
+    ensures { TellsCheck plan result }
 {
-    plan::check(plan)
+    tell_refusal(plan::check(&plan))
 }
 
 #[unsafe(no_mangle)]
 pub extern "C" fn cs_write(guest: Guest, place: u32, buf: &mut [u8]) -> Refusal
-    ensures { Writes guest place buf.old result buf.new }
+    ensures { TellsWrite guest place buf.old result buf.new }
 {
-    blockwriter::write(guest, place, buf)
+    tell_refusal(blockwriter::write(guest, place, buf))
 }
 
 #[unsafe(no_mangle)]
 pub extern "C" fn cs_find(bytes: &[u8], id: u32) -> Refusal
-    ensures { FindsPlace bytes.now id result }
+    ensures { TellsPlace bytes.now id result }
 {
-    planfile::find_place(bytes, id)
+    match planfile::find_place(bytes, id) {
+        Ok(place) => Refusal { number: 0, place },
+        Err(refusal) => refusal,
+    }
 }

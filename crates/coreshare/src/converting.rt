@@ -1,11 +1,12 @@
-// A plan's bytes with every Deferrable guest made Periodic. The outcome crosses as it is.
-ghost use Rattle.conversion.specs.Promises.{Converts};
+// A plan's bytes with every Deferrable guest made Periodic.
+ghost use Rattle.coreshare.specs.Promises.{TellsConverted};
 
+use crate::telling::tell_refusal;
 use plan::Refusal;
 
 #[unsafe(no_mangle)]
 pub extern "C" fn cs_convert(plan: &[u8], out: &mut [u8]) -> Refusal
-    ensures { Converts plan.now out.old result out.new }
+    ensures { TellsConverted plan.now out.old result out.new }
 {
-    conversion::convert(plan, out)
+    tell_refusal(conversion::convert(plan, out))
 }

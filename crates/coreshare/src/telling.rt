@@ -1,6 +1,6 @@
 // Each case of an answer told as a number.
 ghost use Rattle.std.specs.Prelude.{◌≡◌};
-ghost use Rattle.coreshare.specs.Told.{refusing, saying, guest_told, task_told, plan_told, capacity_told};
+ghost use Rattle.coreshare.specs.Told.{refusal_told, refusing, saying, guest_told, task_told, plan_told, capacity_told};
 
 use crate::Verdict;
 use plan::Refusal;
@@ -27,6 +27,19 @@ fn say(verdict: u32, ticks: u32) -> Verdict
         place: 0,
         verdict,
         ticks,
+    }
+}
+
+// A refusal, or none, as number and place: those of none are 0.
+pub fn tell_refusal(outcome: Result<(), Refusal>) -> Refusal
+    ensures { result ≡ refusal_told outcome }
+{
+    match outcome {
+        Ok(()) => Refusal {
+            number: 0,
+            place: 0,
+        },
+        Err(refusal) => refusal,
     }
 }
 
