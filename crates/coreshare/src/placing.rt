@@ -13,6 +13,7 @@ use crate::{RunIn, TickIn};
 use dispatcher::{Answer, release_in, run_in, start_in};
 use plan::Refusal;
 use rows::Rows;
+use sheet::release_all_in;
 
 #[unsafe(no_mangle)]
 pub extern "C" fn cs_fresh_in(
@@ -96,7 +97,9 @@ pub extern "C" fn cs_sheet_in(
         })
         answers.new }
 {
-    sheet::release_all_in(count, rows, left, position, rest, wait, age, pairs, answers)
+    let plan = Rows { count, rows };
+    let released = release_all_in(&plan, left, position, rest, wait, age, pairs, answers);
+    released.err().unwrap_or(0)
 }
 
 #[unsafe(no_mangle)]
