@@ -6,10 +6,10 @@ use std::io;
 
 // The card's bytes converted into lent ones.
 fn convert(rt: &impl Print, card: &[u8], out: &mut [u8]) -> io::Result<()> {
-    let r = conversion::convert(card, out);
-    say::refusal(rt, r)?;
+    let converted = conversion::convert(card, out);
+    say::outcome(rt, converted)?;
     println!(rt)?;
-    if r.number < 1 {
+    if converted.is_ok() {
         looking::look(rt, out, card.len())?;
     }
     Ok(())

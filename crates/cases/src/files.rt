@@ -10,14 +10,12 @@ const BLOCK_MORE: usize = draft::MOST_BYTES + layout::SIZE;
 
 // The finder's companion, and how many bytes the part found has.
 fn find(rt: &impl Print, bytes: &[u8], id: u32) -> io::Result<()> {
-    let r = planfile::find_place(bytes, id);
-    let part = planfile::find(bytes, id);
-    println!(rt;
-        ": number {} place {}, bytes {}",
-        r.number,
-        r.place,
-        part.len()
-    )
+    let (number, place) = match planfile::find_place(bytes, id) {
+        Ok(place) => (0, place),
+        Err(r) => (r.number, r.place),
+    };
+    let many = planfile::find(bytes, id).len();
+    println!(rt; ": number {number} place {place}, bytes {many}")
 }
 
 // The plan's blocks, zeros past them, and the line's damage to them, in as many bytes as the line says, else those of

@@ -41,7 +41,7 @@ pub fn write(
     if (layout::SIZE < room as usize) | (log.len() < end) {
         return Ok(length);
     }
-    let r = statement::write_log(*jobs, &mut log[length..end]);
-    say::refusal(rt, r)?;
-    Ok(if 0 < r.number { length } else { end })
+    let written = statement::write_log(*jobs, &mut log[length..end]);
+    say::outcome(rt, written)?;
+    Ok(if written.is_ok() { end } else { length })
 }

@@ -107,19 +107,21 @@ fn print_guest(rt: &impl Print, plan: &Plan, id: u32, tasks: u32) -> io::Result<
     Ok(())
 }
 
+// All lines of a plan.
+fn print_plan(rt: &impl Print, plan: &Plan) -> io::Result<()> {
+    for (k, g) in plan.guests.iter().enumerate() {
+        if k < plan.count as usize {
+            print_guest(rt, plan, g.id, g.tasks)?;
+        }
+    }
+    rt.println(last_line(plan))
+}
+
 // Prints the lines of a plan's bytes; of a refused plan the refusal alone. A write that fails is the error that comes
 // back, and the lines before it are printed.
 pub fn show(rt: &impl Print, bytes: &[u8]) -> io::Result<()> {
-    let reading = planfile::read(bytes);
-    let refusal = reading.refusal;
-    if 0 < refusal.number {
-        return rt.println(Line::Refused(refusal.number, refusal.place));
+    match planfile::read(bytes) {
+        Err(Refusal { number, place }) => rt.println(Line::Refused(number, place)),
+        Ok(plan) => print_plan(rt, &plan),
     }
-    let plan = reading.plan;
-    for (k, g) in plan.guests.iter().enumerate() {
-        if k < plan.count as usize {
-            print_guest(rt, &plan, g.id, g.tasks)?;
-        }
-    }
-    rt.println(last_line(&plan))
 }
