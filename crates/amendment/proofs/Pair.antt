@@ -4,11 +4,12 @@ use mathlib.Core.Bool.{true, false}
 use mathlib.Core.List.{List, []}
 use Prim.Native.Nat.{ℕ, zero, suc, ◌≤◌, ◌<◌}
 use native.Mathlib.Omega.{arith}
+use Rattle.std.proofs.Common.{Ok, Err}
 use Rattle.plan.specs.declared.Refusal.{Refusal}
 use Rattle.plan.specs.First.{first_refused, refused_by}
 use Rattle.blockfile.specs.File.{blocks_in, blocks_refusal, file_refusal}
 use Rattle.amendment.specs.declared.Located.{Located}
-use Rattle.amendment.specs.Pair.{in_plan, in_sheet, known_at, foreign_number, sheet_refusal, pair_refusal}
+use Rattle.amendment.specs.Pair.{in_plan, in_sheet, known_at, foreign_number, sheet_refusal, pair_refusal, located_by, unless_located}
 use Rattle.lists.proofs.Refusals.{none_left, go_on, stop, passed}
 use Rattle.plan.proofs.First.{refused_here, or_after, after_zero, none_refused, number_refuses, number_passes}
 use Rattle.blockfile.proofs.File.{BlocksIn, blocks_in_lem, FileIn, file_in}
@@ -64,6 +65,37 @@ module _ (plan sheet : List ℕ) where
   pair_fine r q e h d l =
       rw (← e, ← d)
       (number_passes in_sheet q.number q.place (in_plan 0 0) l ∙ number_passes in_plan r.number r.place _ h)
+
+-- An outcome that a pair's refusal ends, or does not.
+module _ {A : Type 0} (r : Located) where
+  err_by : (n k w : ℕ) (v : A) {s : Located} → Err s ≡ located_by n k w v
+      → (s ≡ record { number = n; place = k; sheet = w }) × (0 < n)
+  err_by zero k w v e = absurd cc
+  err_by (suc n) k w v e = (cc, omega arith)
+
+  ok_by : (n k w : ℕ) {v p : A} → Ok p ≡ located_by n k w v → (n ≡ 0) × (p ≡ v)
+  ok_by zero k w e = (refl, cc)
+  ok_by (suc n) k w e = absurd cc
+
+  by_err : (n k w : ℕ) (v : A) → 0 < n → Err (record { number = n; place = k; sheet = w }) ≡ located_by n k w v
+  by_err zero k w v h = absurd (omega arith)
+  by_err (suc n) k w v h = refl
+
+  by_ok : (n k w : ℕ) (v : A) → n ≤ 0 → Ok v ≡ located_by n k w v
+  by_ok zero k w v h = refl
+  by_ok (suc n) k w v h = absurd (omega arith)
+
+  pub err_says : (v : A) {s : Located} → Err s ≡ unless_located r v → (s ≡ r) × (0 < r.number)
+  err_says v e = err_by r.number r.place r.sheet v e
+
+  pub ok_says : {v p : A} → Ok p ≡ unless_located r v → (r.number ≡ 0) × (p ≡ v)
+  ok_says e = ok_by r.number r.place r.sheet e
+
+  pub err_located : (v : A) {s : Located} → s ≡ r → 0 < s.number → Err s ≡ unless_located r v
+  err_located v {s} e h = rw e (by_err r.number r.place r.sheet v (rw e at h))
+
+  pub ok_located : (v : A) → r.number ≤ 0 → Ok v ≡ unless_located r v
+  ok_located v h = by_ok r.number r.place r.sheet v h
 
 neither : (n k m j : ℕ) → (refused_by in_plan n k (refused_by in_sheet m j (in_plan 0 0))).number ≡ 0 → (n ≡ 0) × (m ≡ 0)
 unfolding refused_by

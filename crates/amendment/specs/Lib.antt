@@ -2,6 +2,5 @@ pub mod Pair
 pub mod Amended
 pub mod Finder
 pub mod Verdict
-pub mod Reading
 pub mod Promises
 pub mod Told

@@ -1,6 +1,6 @@
 -- The pair of a standing plan and an amendment sheet: 1 to 8 blocks in any order, each with its guest's place in the
 -- plan. The refusals of a pair, in their order.
-use Rattle.std.specs.Prelude.{Bool, false, List, [], ◌∷◌, ℕ, eqb, Option, Some, None}
+use Rattle.std.specs.Prelude.{Bool, false, List, [], ◌∷◌, ℕ, zero, suc, eqb, Option, Some, None, Result, Ok, Err}
 use Rattle.lists.specs.Refusals.{refusal, ◌or_refuse◌}
 use Rattle.plan.specs.declared.Refusal.{Refusal}
 use Rattle.plan.specs.First.{or_else, first_refused, refuse_or}
@@ -38,3 +38,11 @@ sheet_refusal plan sheet =
 -- The pair's refusal: the plan's, then the sheet's; number 0 for none.
 unfoldable pub pair_refusal : (plan sheet : List ℕ) → Located
 pair_refusal plan sheet = refuse_or in_plan (file_refusal plan) (refuse_or in_sheet (sheet_refusal plan sheet) (in_plan 0 0))
+
+-- A pair's refusal, or the answer where its number is 0.
+abbrev pub located_by : {A : Type 0} → (number place sheet : ℕ) → A → Result A Located
+located_by zero place sheet answer = Ok answer
+located_by (suc n) place sheet answer = Err (record { number = suc n; place = place; sheet = sheet })
+
+abbrev pub unless_located : {A : Type 0} → Located → A → Result A Located
+unless_located r answer = located_by r.number r.place r.sheet answer

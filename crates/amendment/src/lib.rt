@@ -4,17 +4,15 @@
 
 ghost use Rattle.amendment.specs.Promises.{LocatesIn, FindsIn, GuestJudgedIn, TaskJudgedIn, AcceptsPair, SizedIn};
 
-use capacity::CapacityAnswer;
-use plan::Plan;
+use plan::Refusal;
+use records::read;
 use verdict::{Acceptance, GuestVerdict, TaskVerdict};
 
 mod pairs;
 mod records;
 
-pub use records::read; // Inner: the exports hand the amended plan to those of a plan.
-
 // A refusal's number and place, or number 0 and a found block's place; `sheet` is 1 where the place is one in the
-// sheet, 0 where it is one in the plan.
+// sheet, 0 where it is one in the plan. It crosses to C as it is.
 #[repr(C)]
 #[derive(Clone, Copy)]
 pub struct Located {
@@ -23,20 +21,12 @@ pub struct Located {
     pub sheet: u32,
 }
 
-// A pair read: the refusal, or where it has number 0 the amended plan.
-#[derive(Clone, Copy)]
-pub struct Paired {
-    pub refusal: Located,
-    pub plan: Plan,
-}
-
 // Where the block stands that counts for a guest, or the refusal.
 pub fn find_place(plan: &[u8], sheet: &[u8], id: u32) -> Located
     ensures { LocatesIn plan.now sheet.now id result }
 {
-    let r = pairs::refusal_of(plan, sheet);
-    if 0 < r.number {
-        return r;
+    if let Err(refused) = pairs::check_pair(plan, sheet) {
+        return refused;
     }
     pairs::standing(
         blockfile::first_with(sheet, id),
@@ -59,49 +49,29 @@ pub fn find<'a>(plan: &'a [u8], sheet: &'a [u8], id: u32) -> &'a [u8]
 }
 
 // The verdict of the guest with an id.
-pub fn guest_verdict(plan: &[u8], sheet: &[u8], id: u32) -> GuestVerdict
+pub fn guest_verdict(plan: &[u8], sheet: &[u8], id: u32) -> Result<GuestVerdict, Refusal>
     ensures { GuestJudgedIn plan.now sheet.now id result }
 {
-    let r = read(plan, sheet);
-    let refusal = r.refusal;
-    if 0 < refusal.number {
-        return GuestVerdict::Refused(refusal.number, refusal.place);
-    }
-    verdict::guest_verdict(r.plan, id)
+    verdict::guest_verdict(&read(plan, sheet)?, id)
 }
 
 // The verdict of task number `task`, from 1, of the guest with an id.
-pub fn task_verdict(plan: &[u8], sheet: &[u8], id: u32, task: u32) -> TaskVerdict
+pub fn task_verdict(plan: &[u8], sheet: &[u8], id: u32, task: u32) -> Result<TaskVerdict, Refusal>
     ensures { TaskJudgedIn plan.now sheet.now id task result }
 {
-    let r = read(plan, sheet);
-    let refusal = r.refusal;
-    if 0 < refusal.number {
-        return TaskVerdict::Refused(refusal.number, refusal.place);
-    }
-    verdict::task_verdict(r.plan, id, task)
+    verdict::task_verdict(&read(plan, sheet)?, id, task)
 }
 
 // Whether all guests are fitted and all tasks met.
-pub fn accept(plan: &[u8], sheet: &[u8]) -> Acceptance
+pub fn accept(plan: &[u8], sheet: &[u8]) -> Result<Acceptance, Refusal>
     ensures { AcceptsPair plan.now sheet.now result }
 {
-    let r = read(plan, sheet);
-    let refusal = r.refusal;
-    if 0 < refusal.number {
-        return Acceptance::Refused(refusal.number, refusal.place);
-    }
-    verdict::accept(r.plan)
+    verdict::accept(&read(plan, sheet)?)
 }
 
 // The smallest capacity of the guest with an id.
-pub fn smallest_capacity(plan: &[u8], sheet: &[u8], id: u32) -> CapacityAnswer
+pub fn smallest_capacity(plan: &[u8], sheet: &[u8], id: u32) -> Result<u32, Refusal>
     ensures { SizedIn plan.now sheet.now id result }
 {
-    let r = read(plan, sheet);
-    let refusal = r.refusal;
-    if 0 < refusal.number {
-        return CapacityAnswer::Refused(refusal.number, refusal.place);
-    }
-    capacity::smallest_capacity(r.plan, id)
+    capacity::smallest_capacity(&read(plan, sheet)?, id)
 }

@@ -1,95 +1,78 @@
 // What a pair is refused by, and where a guest's block stands. It meets specs/Pair.antt and specs/Finder.antt.
 ghost use Rattle.std.specs.Prelude.{◌≡◌, ◌≤◌, ◌<◌};
-ghost use Rattle.plan.specs.First.{first_refused};
+ghost use Rattle.plan.specs.First.{first_refused, unless_refused};
 ghost use Rattle.plan.specs.Ranges.{most_guests};
 ghost use Rattle.blockfile.specs.File.{blocks_in};
-ghost use Rattle.amendment.specs.Pair.{is_found_at, known_at, foreign_number, sheet_refusal, pair_refusal};
+ghost use Rattle.amendment.specs.Pair.{known_at, foreign_number, sheet_refusal, pair_refusal, unless_located};
 ghost use Rattle.amendment.specs.Finder.{standing};
 
 use crate::Located;
-use block::layout;
+use block::layout::SIZE;
 use plan::Refusal;
 
-// Whether a search found that place.
-fn is_found_at(f: Option<u32>, place: u32) -> bool
-    ensures { result ≡ is_found_at f place }
-{
-    match f {
-        Some(k) => k == place,
-        None => false,
-    }
-}
-
 // Whether the sheet's block k has the id of a guest of the plan, and that guest's place.
+#[tactic(auto, unfolding(crate::specs::Pair::is_found_at))]
 fn known_at(plan: &[u8], sheet: &[u8], k: usize) -> bool
     requires { (blocks_in plan.now ≤ most_guests) × (k < blocks_in sheet.now) }
     ensures { result ≡ known_at plan.now sheet.now k }
 {
-    let f = blockfile::first_with(plan, blockfile::id_at(sheet, k));
-    is_found_at(f, block::place_of(blockfile::block_at(sheet, k)))
+    match blockfile::first_with(plan, blockfile::id_at(sheet, k)) {
+        Some(place) => place == block::place_of(blockfile::block_at(sheet, k)),
+        None => false,
+    }
 }
 
-// The first of the sheet's n blocks that is of no guest of the plan.
-fn first_foreign(plan: &[u8], sheet: &[u8], n: usize) -> Refusal
+// Whether each of the sheet's n blocks is of a guest of the plan, or else the first that is of none.
+fn check_known(plan: &[u8], sheet: &[u8], n: usize) -> Result<(), Refusal>
     requires { (blocks_in plan.now ≤ most_guests) × ((n ≤ most_guests) × (n ≤ blocks_in sheet.now)) }
-    ensures { result ≡ first_refused (foreign_number plan.now sheet.now) n 0 }
+    ensures { result ≡ unless_refused (first_refused (foreign_number plan.now sheet.now) n 0) tt }
 {
-    let mut k: usize = 0;
-    while k < n {
+    for k in 0..n {
         if !known_at(plan, sheet, k) {
-            return Refusal {
+            return Err(Refusal {
                 number: 16,
                 place: k as u32,
-            };
+            });
         }
-        k += 1;
     }
-    Refusal {
-        number: 0,
-        place: 0,
-    }
+    Ok(())
 }
 
-// The sheet's refusal.
-fn sheet_refusal(plan: &[u8], sheet: &[u8]) -> Refusal
+// Whether the sheet is not refused, or else its refusal.
+fn check_sheet(plan: &[u8], sheet: &[u8]) -> Result<(), Refusal>
     requires { blocks_in plan.now ≤ most_guests }
-    ensures { result ≡ sheet_refusal plan.now sheet.now }
+    ensures { result ≡ unless_refused (sheet_refusal plan.now sheet.now) tt }
 {
-    let r = blockfile::refusal_of(sheet, false);
-    if 0 < r.number {
-        return r;
-    }
-    first_foreign(plan, sheet, sheet.len() / layout::SIZE)
+    blockfile::check_blocks(sheet, false)?;
+    check_known(plan, sheet, sheet.len() / SIZE)
 }
 
-// The pair's refusal, number 0 for none.
-pub fn refusal_of(plan: &[u8], sheet: &[u8]) -> Located
-    ensures { result ≡ pair_refusal plan.now sheet.now }
+// A refusal at a place in the plan, or in the sheet where `sheet` is 1.
+fn located(r: Refusal, sheet: u32) -> Located
+    ensures { result ≡ record { number = r.number; place = r.place; sheet = sheet } }
 {
-    let p = blockfile::refusal_of(plan, true);
-    if 0 < p.number {
-        return Located {
-            number: p.number,
-            place: p.place,
-            sheet: 0,
-        };
-    }
-    let s = sheet_refusal(plan, sheet);
-    if 0 < s.number {
-        return Located {
-            number: s.number,
-            place: s.place,
-            sheet: 1,
-        };
-    }
     Located {
-        number: 0,
-        place: 0,
-        sheet: 0,
+        number: r.number,
+        place: r.place,
+        sheet,
     }
+}
+
+// Whether the pair is not refused, or else its refusal.
+pub fn check_pair(plan: &[u8], sheet: &[u8]) -> Result<(), Located>
+    ensures { result ≡ unless_located (pair_refusal plan.now sheet.now) tt }
+{
+    if let Err(r) = blockfile::check_blocks(plan, true) {
+        return Err(located(r, 0));
+    }
+    if let Err(r) = check_sheet(plan, sheet) {
+        return Err(located(r, 1));
+    }
+    Ok(())
 }
 
 // Where a block was found, in the sheet if it has one; refusal 7 where in neither.
+#[tactic(auto, unfolding(crate::specs::Finder::standing))]
 pub fn standing(sheet: Option<u32>, plan: Option<u32>) -> Located
     ensures { result ≡ standing sheet plan }
 {

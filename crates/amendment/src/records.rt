@@ -5,12 +5,12 @@ ghost use Rattle.block.specs.Reading.{guest_of};
 ghost use Rattle.blockfile.specs.File.{blocks_in};
 ghost use Rattle.blockfile.specs.Records.{records_of};
 ghost use Rattle.amendment.specs.Amended.{amended_block, amended};
-ghost use Rattle.amendment.specs.Reading.{ReadsPair};
+ghost use Rattle.amendment.specs.Verdict.{pair_read};
 
-use crate::Paired;
-use crate::pairs::refusal_of;
-use block::layout;
-use plan::{Guest, Plan};
+use crate::Located;
+use crate::pairs::check_pair;
+use block::layout::SIZE;
+use plan::{Guest, Plan, Refusal};
 
 // The record of the block that counts for the guest at place k of the plan.
 fn guest_at(plan: &[u8], sheet: &[u8], k: usize) -> Guest
@@ -29,21 +29,19 @@ fn guests_of(plan: &[u8], sheet: &[u8], n: usize) -> [Guest; 8]
     ensures { result ≡ records_of (amended_block plan.now sheet.now) n }
 {
     let mut guests = [plan::blank_guest(); 8];
-    let mut k: usize = 0;
-    while k < n {
-        let g = guest_at(plan, sheet, k);
-        guests[k] = g;
-        k += 1;
+    for k in 0..n {
+        guests[k] = guest_at(plan, sheet, k);
     }
     guests
 }
 
 // The amended plan.
+#[tactic(auto, unfolding(crate::specs::Amended::amended))]
 fn amended(plan: &[u8], sheet: &[u8]) -> Plan
     requires { (blocks_in plan.now ≤ most_guests) × (blocks_in sheet.now ≤ most_guests) }
     ensures { result ≡ amended plan.now sheet.now }
 {
-    let n = plan.len() / layout::SIZE;
+    let n = plan.len() / SIZE;
     let guests = guests_of(plan, sheet, n);
     Plan {
         count: n as u32,
@@ -51,19 +49,12 @@ fn amended(plan: &[u8], sheet: &[u8]) -> Plan
     }
 }
 
-// A pair read; on a refusal a plan of zeros.
-pub fn read(plan: &[u8], sheet: &[u8]) -> Paired
-    ensures { ReadsPair plan.now sheet.now result }
+// A pair read: the amended plan, or the refusal. An answer's refusal does not say whether its place is in the sheet.
+pub fn read(plan: &[u8], sheet: &[u8]) -> Result<Plan, Refusal>
+    ensures { result ≡ pair_read plan.now sheet.now }
 {
-    let refusal = refusal_of(plan, sheet);
-    if 0 < refusal.number {
-        return Paired {
-            refusal,
-            plan: plan::blank_plan(),
-        };
+    if let Err(Located { number, place, .. }) = check_pair(plan, sheet) {
+        return Err(Refusal { number, place });
     }
-    Paired {
-        refusal,
-        plan: amended(plan, sheet),
-    }
+    Ok(amended(plan, sheet))
 }
