@@ -6,7 +6,7 @@ ghost use Rattle.dispatcher.specs.Promises.{Runs};
 use crate::answering::{finished, unfinished};
 use crate::{Answer, Dispatcher, Ran, RunOutcome};
 use plan::{AsPlan, Refusal};
-use refusals::{Lent, examine};
+use refusals::{Lent, NO_COLUMNS, examine_into};
 use steps::steps;
 
 // The longest run, in ticks.
@@ -38,9 +38,10 @@ pub fn run_in<P: AsPlan>(
         wait,
         age,
     };
-    let Some(columns) = examine(plan, &lent) else {
+    let mut columns = NO_COLUMNS;
+    if !examine_into(plan, &lent, &mut columns) {
         return Err(14);
-    };
+    }
     if LONGEST_RUN < ticks {
         return Err(13);
     }

@@ -5,8 +5,8 @@ ghost use Rattle.plan.specs.Ranges.{most_tasks, guest_ok, tasks_ok};
 ghost use Rattle.plan.specs.Marks.{marked};
 ghost use Rattle.refusals.specs.Aims.{AimsAt, Aims};
 
-use crate::validating::examine;
-use crate::{Aim, Lent};
+use crate::validating::examine_into;
+use crate::{Aim, Lent, NO_COLUMNS};
 use plan::{AsPlan, Guest};
 
 // Whether task t of a guest with these marks may be released where the guest stands.
@@ -51,9 +51,10 @@ pub fn aim_by_id<P: AsPlan>(plan: &P, lent: &Lent, guest: u32, task: u32) -> Res
     ensures { Aims (P.plan plan.now) lent.now.left.now lent.now.position.now
         lent.now.rest.now lent.now.wait.now lent.now.age.now guest task result }
 {
-    let Some(columns) = examine(plan, lent) else {
+    let mut columns = NO_COLUMNS;
+    if !examine_into(plan, lent, &mut columns) {
         return Err(14);
-    };
+    }
     let n = plan.count() as usize;
     let k = plan::place_of(&columns.ids, n, guest);
     if n <= k {

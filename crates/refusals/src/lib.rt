@@ -6,7 +6,8 @@ mod ranges;
 mod validating;
 
 pub use aiming::aim_by_id;
-pub use validating::examine;
+use plan::Columns;
+pub use validating::{examine, examine_into};
 
 // A state's numbers, lent to be looked at: two of each guest and three of each of its 16 places.
 #[derive(Clone, Copy)]
@@ -17,6 +18,15 @@ pub struct Lent<'a> {
     pub wait: &'a [u32; 128],
     pub age: &'a [u32; 128],
 }
+
+// Columns that are lent to be filled.
+pub const NO_COLUMNS: Columns = Columns {
+    ids: [0; 16],
+    capacities: [0; 16],
+    periods: [0; 16],
+    tasks: [0; 16],
+    deferrable: [0; 16],
+};
 
 // The place that a release is for, with the run and the wait that it sets there.
 #[derive(Clone, Copy)]

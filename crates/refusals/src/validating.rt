@@ -1,12 +1,13 @@
 // Refusal 14: the plan's own check and all places, in one pass over the records.
 ghost use Rattle.std.specs.Prelude.{◌≡◌, ◌≤◌};
 ghost use Rattle.lists.specs.All.{all_to};
+ghost use Rattle.lists.specs.Choice.{pick};
 ghost use Rattle.plan.specs.Ranges.{most_guests};
 ghost use Rattle.plan.specs.Filled.{ColumnsOf};
 ghost use Rattle.refusals.specs.Check.{goes, past_ok, Examined};
 
-use crate::Lent;
 use crate::ranges::{blank_ok, guest_ok};
+use crate::{Lent, NO_COLUMNS};
 use plan::{AsPlan, Columns};
 
 // Whether the plan's guests are in their ranges, place by place, and their columns.
@@ -50,26 +51,31 @@ fn blanks_ok(n: usize, lent: &Lent) -> bool
     ok
 }
 
-// The columns of a plan whose state is in its ranges.
+// Whether a state is in its ranges; the columns of its plan's guests are then in those that are lent. They are lent since
+// a tick and a release in place have little stack, on which an Option of them would stand three times.
 #[tactic(auto, unfolding(crate::specs::Check::passes))]
+pub fn examine_into<P: AsPlan>(plan: &P, lent: &Lent, columns: &mut Columns) -> bool
+    ensures { Examined (P.plan plan.now) lent.now.left.now lent.now.position.now
+        lent.now.rest.now lent.now.wait.now lent.now.age.now
+        (pick result (Some columns.new) None) }
+{
+    let count = plan.count();
+    if !plan::count_ok(count) {
+        return false;
+    }
+    let n = count as usize;
+    guests_ok(plan, n, lent, columns) & blanks_ok(n, lent)
+}
+
+// The columns of a plan whose state is in its ranges.
 pub fn examine<P: AsPlan>(plan: &P, lent: &Lent) -> Option<Columns>
     ensures { Examined (P.plan plan.now) lent.now.left.now lent.now.position.now
         lent.now.rest.now lent.now.wait.now lent.now.age.now result }
 {
-    let count = plan.count();
-    if !plan::count_ok(count) {
-        return None;
+    let mut columns = NO_COLUMNS;
+    if examine_into(plan, lent, &mut columns) {
+        Some(columns)
+    } else {
+        None
     }
-    let mut columns = Columns {
-        ids: [0; 16],
-        capacities: [0; 16],
-        periods: [0; 16],
-        tasks: [0; 16],
-        deferrable: [0; 16],
-    };
-    let n = count as usize;
-    if !(guests_ok(plan, n, lent, &mut columns) & blanks_ok(n, lent)) {
-        return None;
-    }
-    Some(columns)
 }
