@@ -7,7 +7,7 @@ ghost use Rattle.order.specs.Proposed.{Settles};
 
 use crate::reordering::{by_deadline, may_reorder};
 use plan::{AsPlan, Guest, Refusal};
-use response::{Servers, Trial, all_fitted, gaps_of, guest_response, seat_of, tasks_of, try_guest};
+use response::{Servers, all_fitted, guest_accepted, seat_of};
 
 // Whether all guests above place k are fitted, and g there is fitted with all its tasks met.
 fn works(g: &Guest, servers: &Servers, k: usize) -> bool
@@ -18,13 +18,7 @@ fn works(g: &Guest, servers: &Servers, k: usize) -> bool
     if !all_fitted(servers, k) {
         return false;
     }
-    let f = guest_response(servers, k, g.capacity, g.period);
-    let tasks = tasks_of(g);
-    let late = gaps_of(g.marks, g.period - g.capacity, tasks.count);
-    match try_guest(f, servers, k, g.capacity, g.period, &tasks, &late) {
-        Trial::Works => true,
-        Trial::Unmet | Trial::Unfit => false,
-    }
+    guest_accepted(servers, k, g)
 }
 
 // What becomes of the guest with an id: its place, and the guest with its tasks by deadline; or the refusal.

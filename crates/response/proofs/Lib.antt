@@ -8,5 +8,4 @@ pub mod ServersLaws
 pub mod ColumnsLaws
 pub mod ReadyLaws
 pub mod SeatLaws
-pub mod TrialLaws
 pub mod PlacedLaws

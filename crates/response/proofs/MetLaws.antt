@@ -1,6 +1,6 @@
 -- What a search for a window says of its task, and hands on to the search for the task below. Assumes nothing.
 use Rattle.std.specs.Prelude.{Some, None, is_some}
-use mathlib.Core.Path.{◌≡◌, refl, sym, ap}
+use mathlib.Core.Path.{◌≡◌, refl, sym, ap, ◌∙◌}
 use mathlib.Core.Bool.{true, false}
 use Prim.Native.Nat.{ℕ, suc, ◌+◌, ◌-◌, ◌≤◌, ◌<◌}
 use native.Mathlib.Decide.{dec_lt}
@@ -10,7 +10,9 @@ use Rattle.equation.specs.System.{System, right, response_of, later, task_under}
 use Rattle.rounding.specs.declared.Edges.{Edges}
 use Rattle.rounding.specs.Edges.{Behind}
 use Rattle.response.specs.Ready.{Ready}
-use Rattle.response.specs.Columns.{met_under}
+use Rattle.response.specs.Columns.{met_under, fitted_in, accepted_in}
+use lib.Dec.{leb}
+use borrow.Author.Tests.{le-leb, lt-leb}
 use Rattle.response.specs.Window.{Begins, FindsWindow, MetTo}
 use Rattle.lists.proofs.All.{all_by, all_fails}
 use Rattle.rounding.proofs.EdgesLaws.{kept_more}
@@ -92,12 +94,18 @@ module _ {S : System} {deadline : ℕ → ℕ} {from n r : ℕ} (s : MetSo S dea
   pub met_ends : (r < n → is_some (task_under S r (deadline r)) ≡ false) → MetTo S deadline from n r
   met_ends e = record { low = s.low; high = s.high; met = s.met; unmet = e }
 
--- all tasks are met where none is the first that is not
-pub met_all : (S : System) (deadline : ℕ → ℕ) (n r : ℕ) → MetTo S deadline 0 n r → n ≤ r → met_under S deadline n ≡ true
+-- all tasks are met exactly where none is the first that is not
+pub met_tests : (S : System) (deadline : ℕ → ℕ) (n r : ℕ) → MetTo S deadline 0 n r → leb n r ≡ met_under S deadline n
 unfolding met_under
-met_all S deadline n r s h = all_by (λ i. is_some (task_under S i (deadline i))) n (λ j l. s.met j (omega arith) (omega arith))
+met_tests S deadline n r s =
+    let f = λ (i : ℕ). is_some (task_under S i (deadline i)) in
+    elim (dec_lt r n) [
+      | yes h ↦ lt-leb n r h ∙ all_fails f n r h (s.unmet h)
+      | no h ↦ le-leb n r (omega arith) ∙ sym (all_by f n (λ j l. s.met j (omega arith) (omega arith)))
+    ]
 
--- not all are where one is the first that is not
-pub met_not : (S : System) (deadline : ℕ → ℕ) (n r : ℕ) → MetTo S deadline 0 n r → r < n → met_under S deadline n ≡ false
-unfolding met_under
-met_not S deadline n r s h = sym (all_fails (λ i. is_some (task_under S i (deadline i))) n r h (s.unmet h))
+-- a fitted guest is accepted where all its tasks are met
+pub fit_accepts : (S : System) (deadline : ℕ → ℕ) (n : ℕ) → fitted_in S ≡ true
+    → met_under S deadline n ≡ accepted_in S deadline n
+unfolding accepted_in
+fit_accepts S deadline n e = rw e refl

@@ -6,4 +6,3 @@ pub mod Columns
 pub mod Ready
 pub mod Seat
 pub mod Window
-pub mod Trial

@@ -17,4 +17,4 @@ pub use seat::{Seat, seat_of};
 pub use servers::{Servers, servers_of};
 pub use task::task_response;
 pub use tasks::{Tasks, tasks_of};
-pub use trial::{Trial, try_guest};
+pub use trial::guest_accepted;

@@ -5,14 +5,12 @@ ghost use Rattle.plan.specs.Records.{deadline_of};
 ghost use Rattle.verdict.specs.Verdict.{guest_says, quoted_by, task_says};
 ghost use Rattle.equation.specs.System.{task_under};
 ghost use Rattle.response.specs.Task.{system_of, limit};
-ghost use Rattle.response.specs.Columns.{above_of, fitted_of, accepted_under};
+ghost use Rattle.response.specs.Columns.{above_of, fitted_of};
 ghost use Rattle.response.specs.Ready.{Seated};
 
 use crate::{GuestVerdict, TaskVerdict};
 use plan::Guest;
-use response::{
-    Servers, Trial, all_fitted, gaps_of, guest_response, task_response, tasks_of, try_guest,
-};
+use response::{Servers, all_fitted, gaps_of, task_response, tasks_of};
 
 // The verdict of a guest's response.
 pub fn guest_says(f: Option<u32>) -> GuestVerdict
@@ -62,19 +60,4 @@ pub fn judge_task(servers: &Servers, k: usize, g: &Guest, i: usize) -> TaskVerdi
     let most = g.every[i];
     let f = task_response(servers, k, g.capacity, g.period, &tasks, &late, i, most);
     met_or_not(f, g.deadline[i])
-}
-
-// Whether the guest g at place k is fitted and all its tasks are met.
-pub fn guest_accepted(servers: &Servers, k: usize, g: &Guest) -> bool
-    requires { Seated g.now servers.now k }
-    ensures { result ≡ accepted_under (above_of servers.now k) g.now }
-{
-    let f = guest_response(servers, k, g.capacity, g.period);
-    let tasks = tasks_of(g);
-    let late = gaps_of(g.marks, g.period - g.capacity, tasks.count);
-    match try_guest(f, servers, k, g.capacity, g.period, &tasks, &late) {
-        Trial::Works => true,
-        Trial::Unmet => false,
-        Trial::Unfit => false,
-    }
 }

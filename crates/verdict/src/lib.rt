@@ -3,9 +3,9 @@
 
 ghost use Rattle.verdict.specs.Promises.{GuestJudged, TaskJudged, Accepts};
 
-use judge::{guest_accepted, guest_says, judge_task};
+use judge::{guest_says, judge_task};
 use plan::{AsPlan, Refusal, check, columns_of, has_task};
-use response::{Seat, response_at, seat_of, servers_of};
+use response::{Seat, guest_accepted, response_at, seat_of, servers_of};
 
 mod judge;
 
