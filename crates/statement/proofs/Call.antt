@@ -1,8 +1,9 @@
 -- How the code comes to the outcome of a call. Assumes nothing.
+use Rattle.std.proofs.Common.{Ok, Err}
 use mathlib.Core.Path.{◌≡◌, refl, ap, ◌∙◌}
 use mathlib.Core.Bool.{true, false}
 use mathlib.Core.List.{List, [], ◌∷◌}
-use Prim.Native.Nat.{ℕ, zero, suc, ◌%◌, ◌≤◌, ◌<◌}
+use Prim.Native.Nat.{ℕ, zero, suc, ◌%◌, ◌<◌}
 use native.Mathlib.Omega.{arith}
 use lib.Dec.{eqb}
 use lib.ListN.{length}
@@ -10,95 +11,95 @@ use borrow.Author.Tests.{eq-eqb, ne_eqb}
 use Rattle.lists.specs.Refusals.{Test, refusal, ◌or_refuse◌}
 use Rattle.plan.specs.declared.Plan.{Plan}
 use Rattle.plan.specs.declared.Refusal.{Refusal}
-use Rattle.plan.specs.First.{refused, fine}
+use Rattle.plan.specs.First.{refused, unless_refused}
 use Rattle.plan.specs.Order.{plan_refusal}
-use Rattle.plan.specs.Ranges.{most_guests}
 use Rattle.block.specs.Layout.{block_size}
-use Rattle.blockfile.specs.File.{block_at, blocks_in, file_refusal}
-use Rattle.blockfile.specs.Records.{records_of}
-use Rattle.planfile.specs.declared.Reading.{Reading}
+use Rattle.blockfile.specs.File.{blocks_in, file_refusal}
 use Rattle.planfile.specs.Records.{read_of}
 use Rattle.statement.specs.declared.Statement.{Statement}
 use Rattle.statement.specs.Lines.{statement_ok}
-use Rattle.statement.specs.Lent.{LogTaken}
 use Rattle.statement.specs.Call.{call_refusal, stated_over, unstated, stated_by, stated}
-use Rattle.lists.proofs.Refusals.{none_left, go_on, stop}
-use Rattle.plan.proofs.First.{refused_here, or_after}
-use Rattle.blockfile.proofs.File.{file_in}
-use Rattle.planfile.proofs.Records.{read_fine}
+use Rattle.lists.proofs.Refusals.{none_left, go_on, stop, passed}
+use Rattle.plan.proofs.First.{refused_here, or_after, after_zero, ok_says, err_says, ok_unless, err_unless}
 use Rattle.planfile_laws.proofs.OnlyOurs.{read_passes}
 
--- The records of a plan's blocks.
-abbrev pub records_in : List ℕ → Plan
-records_in plan = record { count = blocks_in plan; guests = records_of (block_at plan) (blocks_in plan) }
-
-module _ (plan : List ℕ) {r : Refusal} (e : r ≡ file_refusal plan) (h : r.number ≤ 0) where
-  -- Where nothing is refused, they are the plan as it is read.
-  records_read : records_in plan ≡ (read_of plan).plan
-  records_read = ap (λ (x : Reading). x.plan) (read_fine plan r e h)
-
-  -- They are in order.
-  pub plan_passes : (plan_refusal (records_in plan)).number ≡ 0
-  unfolding read_of
-  plan_passes =
-      let z : r.number ≡ 0 = omega arith in
-      rw records_read (ap (λ (x : Refusal). x.number) (read_passes plan (rw e at z)))
-
-  -- There are at most 8 of them.
-  pub few_blocks : blocks_in plan ≤ most_guests
-  few_blocks =
-      let z : r.number ≡ 0 = omega arith in
-      let s = (file_in plan (rw e at z)).size in
-      omega arith
-
--- What the loop over a log's blocks comes to is the outcome of a call that is not refused.
-pub over_is :
-    {p : Plan} {log : List ℕ} {n many at x : ℕ} {s after : Statement}
-    → LogTaken p log n s after many at x
-    → record { refusal = fine; statement = after; passed = many; position = at; number = x } ≡ stated_over p log n s
-over_is T = rw (T.state, T.passed, T.position, T.number) refl
-
 module _ (s : Statement) (plan log : List ℕ) where
-  by_some : (x : ℕ) → 0 < x → unstated (call_refusal s plan log) s ≡ stated_by x s plan log
-  unfolding stated_by
-  by_some zero h = absurd (omega arith)
-  by_some (suc x) h = refl
-
-  -- A call that is refused hands the statement back.
-  refused_so : {r : Refusal} → r ≡ call_refusal s plan log → 0 < r.number → unstated r s ≡ stated s plan log
-  unfolding stated
-  refused_so {r} e h = rw e (by_some (call_refusal s plan log).number (rw e at h))
-
   -- The tests after the plan's.
   abbrev tests : List Test
   tests = statement_ok s or_refuse 14 ∷ eqb (length log % block_size) 0 or_refuse 1 ∷ []
 
-  module _ {r : Refusal} (e : r ≡ file_refusal plan) where
-    -- The plan is refused.
-    pub plan_refused : 0 < r.number → unstated (refused r.number r.place) s ≡ stated s plan log
+  -- The plan is refused.
+  pub plan_refused : {r : Refusal} → Err r ≡ unless_refused (read_of plan).refusal (read_of plan).plan
+      → Err r ≡ unless_refused (call_refusal s plan log) (read_of plan).plan
+  unfolding read_of call_refusal
+  plan_refused {r} q =
+      let e = err_says (file_refusal plan) _ q in
+      let h = ap (λ (x : Refusal). x.number) e.0 in
+      err_unless (call_refusal s plan log) _
+      (refused_here r.number r.place (refused (refusal tests) 0) (omega (arith, e.1)) ∙ rw e.0 refl)
+      (omega (arith, e.1))
+
+  module _ {p : Plan} (q : Ok p ≡ unless_refused (read_of plan).refusal (read_of plan).plan) where
+    well : (file_refusal plan).number ≡ 0
+    unfolding read_of
+    well = (ok_says (file_refusal plan) q).0
+
+    -- The plan is not: the tests after it decide.
+    then_tests : {x : ℕ} → refusal tests ≡ x → refused x 0 ≡ call_refusal s plan log
     unfolding call_refusal
-    plan_refused h =
-        refused_so (refused_here r.number r.place (refused (refusal tests) 0) h ∙ rw e refl) h
+    then_tests e =
+        rw (← e)
+        (or_after (file_refusal plan).number (file_refusal plan).place (refused (refusal tests) 0) (omega (arith, well)))
 
-    module _ (h : r.number ≤ 0) where
-      -- The plan is not: the tests after it decide.
-      then_tests : {x : ℕ} → refusal tests ≡ x → refused x 0 ≡ call_refusal s plan log
-      unfolding call_refusal
-      then_tests q = rw (← q) (or_after r.number r.place (refused (refusal tests) 0) h ∙ rw e refl)
+    -- The running statement is not in its ranges.
+    pub state_refused : statement_ok s ≡ false → Err (refused 14 0) ≡ unless_refused (call_refusal s plan log) (read_of plan).plan
+    state_refused ok = err_unless (call_refusal s plan log) _ (then_tests (stop 14 _ ok)) (omega arith)
 
-      -- The running statement is not in its ranges.
-      pub state_refused : statement_ok s ≡ false → unstated (refused 14 0) s ≡ stated s plan log
-      state_refused ok = refused_so (then_tests (stop 14 _ ok)) (omega arith)
+    module _ (ok : statement_ok s ≡ true) where
+      -- The log's length is no multiple of 512.
+      pub length_refused : (length log % block_size ≡ 0 → ⊥)
+          → Err (refused 1 0) ≡ unless_refused (call_refusal s plan log) (read_of plan).plan
+      length_refused n =
+          err_unless (call_refusal s plan log) _
+          (then_tests (go_on 14 _ ok ∙ stop 1 [] (ne_eqb (length log % block_size) 0 n)))
+          (omega arith)
 
-      module _ (ok : statement_ok s ≡ true) where
-        -- The log's length is no multiple of 512.
-        pub length_refused : (length log % block_size ≡ 0 → ⊥) → unstated (refused 1 0) s ≡ stated s plan log
-        length_refused n =
-            refused_so (then_tests (go_on 14 _ ok ∙ stop 1 [] (ne_eqb (length log % block_size) 0 n))) (omega arith)
+      -- Nothing is refused.
+      pub none_refused : length log % block_size ≡ 0 → Ok p ≡ unless_refused (call_refusal s plan log) (read_of plan).plan
+      none_refused z =
+          let none = then_tests (go_on 14 _ ok ∙ go_on 1 [] (eq-eqb (length log % block_size) 0 z) ∙ none_left) in
+          let h = ap (λ (x : Refusal). x.number) none in
+          rw (ok_says (read_of plan).refusal q).1 (ok_unless (call_refusal s plan log) _ (omega arith))
 
-        -- Nothing is refused.
-        pub log_stated : length log % block_size ≡ 0 → stated_over (records_in plan) log (blocks_in log) s ≡ stated s plan log
-        unfolding stated stated_by
-        log_stated z =
-            let none = then_tests (go_on 14 _ ok ∙ go_on 1 [] (eq-eqb (length log % block_size) 0 z) ∙ none_left) in
-            rw (← none, records_read plan e h) refl
+  -- A call that is refused hands the statement back.
+  pub refused_so : {r : Refusal} → Err r ≡ unless_refused (call_refusal s plan log) (read_of plan).plan
+      → unstated r s ≡ stated s plan log
+  unfolding stated stated_by
+  refused_so q =
+      let e = err_says (call_refusal s plan log) _ q in
+      rw e.0 (by_some (call_refusal s plan log).number e.1)
+    where
+      by_some : (x : ℕ) → 0 < x → unstated (call_refusal s plan log) s ≡ stated_by x s plan log
+      by_some zero h = absurd (omega arith)
+      by_some (suc x) h = refl
+
+  module _ {p : Plan} (q : Ok p ≡ unless_refused (call_refusal s plan log) (read_of plan).plan) where
+    fine_call : (call_refusal s plan log).number ≡ 0
+    fine_call = (ok_says (call_refusal s plan log) q).0
+
+    passes : ((file_refusal plan).number ≡ 0) × (refusal tests ≡ 0)
+    unfolding call_refusal
+    passes = after_zero (file_refusal plan).number (file_refusal plan).place (refused (refusal tests) 0) fine_call
+
+    -- A call that is not refused: the plan is in order, and the running statement in its ranges.
+    pub plan_passes : (plan_refusal p).number ≡ 0
+    unfolding read_of
+    plan_passes = rw (ok_says (call_refusal s plan log) q).1 (ap (λ (x : Refusal). x.number) (read_passes plan passes.0))
+
+    pub state_passes : statement_ok s ≡ true
+    state_passes = (passed (statement_ok s) 14 _ (omega arith) passes.1).0
+
+    -- The log is taken.
+    pub log_stated : stated_over p log (blocks_in log) s ≡ stated s plan log
+    unfolding stated stated_by
+    log_stated = rw (fine_call, (ok_says (call_refusal s plan log) q).1) refl

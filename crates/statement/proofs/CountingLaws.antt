@@ -21,7 +21,7 @@ use Rattle.logblock.specs.Reading.{jobs_in, entry_in}
 use Rattle.statement.specs.declared.Statement.{Statement}
 use Rattle.statement.specs.Lines.{most_lines, margins_at, Lined}
 use Rattle.statement.specs.Counting.{line_of, deadline_for, counted_at, entries_counted, block_counted}
-use Rattle.statement.specs.Lent.{AtMost, RoomAt, EntryIn, Countable, statement_of}
+use Rattle.statement.specs.Lent.{AtMost, RoomAt, EntryIn, Countable}
 use Rattle.margins.proofs.Margin.{margin_size, sum_size}
 use Rattle.statement.proofs.Lines.{LineIn, LinesIn}
 
@@ -114,18 +114,6 @@ module _ (k d a : ℕ) (line : k < most_lines) (due : (1 ≤ d) × (d ≤ longes
           | no e ↦ there j h e
         ]
 
--- The code writes four numbers of a line, each computed by itself.
-pub counted_is :
-    (k d a : ℕ) (s : Statement) {m : ℤ} {oldest one : ℕ}
-    → m ≡ margins_at s k +ℤ margin_of d a
-    → oldest ≡ max (nth s.longest k) a
-    → one ≡ pick (ltb d a) 1 0
-    → statement_of s.blocks (set s.margins k m) (set s.jobs k (nth s.jobs k + 1)) (set s.longest k oldest)
-    (set s.late k (nth s.late k + one))
-    ≡ counted_at k d a s
-unfolding counted_at
-counted_is k d a s e f g = rw (e, f, g) refl
-
 -- The lines are still 128.
 lined_next : (k d a : ℕ) (s : Statement) → Lined s → Lined (counted_at k d a s)
 unfolding counted_at
@@ -150,7 +138,7 @@ module _ (p : Plan) (b : List ℕ) where
   next_counted n s = rw add-one refl
 
   -- Entries leave the number of blocks as it is.
-  same_blocks : (n : ℕ) (s : Statement) → (entries_counted p b n s).blocks ≡ s.blocks
+  pub same_blocks : (n : ℕ) (s : Statement) → (entries_counted p b n s).blocks ≡ s.blocks
   unfolding entries_counted counted_at
   same_blocks zero s = refl
   same_blocks (suc n) s = same_blocks n s
@@ -181,38 +169,28 @@ module _ (p : Plan) (b : List ℕ) where
     pub line_inside : nth at i < most_lines
     line_inside = rw (C.lines i h) (C.entries i h).line
 
-    module _ {a : ℕ} (e : a ≡ (entry_in b i).age) (s : Statement) {t : Statement} (T : t ≡ entries_counted p b i s) where
-      -- There is room for the entry.
-      pub room_for :
-          {most : ℕ}
-          → most + n < 4294967296
-          → AtMost most s
-          → RoomAt (nth at i) (nth deadlines (nth at i)) a (most + i) t
-      room_for {most} l A =
-          let E = C.entries i h in
-          rw (C.lines i h, C.due i h, e, T) record {
-            line = E.line;
-            due = E.due;
-            age = E.age;
-            few = omega arith;
-            at_most = at_most_after i s (λ j m. C.entries j (omega arith)) A;
-          }
+    -- There is room for the entry.
+    pub room_for :
+        {most : ℕ} (s : Statement)
+        → most + n < 4294967296
+        → AtMost most s
+        → RoomAt (nth at i) (nth deadlines (nth at i)) (entry_in b i).age (most + i) (entries_counted p b i s)
+    room_for {most} s l A =
+        let E = C.entries i h in
+        rw (C.lines i h, C.due i h) record {
+          line = E.line;
+          due = E.due;
+          age = E.age;
+          few = omega arith;
+          at_most = at_most_after i s (λ j m. C.entries j (omega arith)) A;
+        }
 
-      -- The entry is counted.
-      pub counted_next :
-          {after : Statement}
-          → after ≡ counted_at (nth at i) (nth deadlines (nth at i)) a t
-          → after ≡ entries_counted p b (i + 1) s
-      counted_next q = q ∙ rw (C.lines i h, C.due i h, e, T) (next_counted i s)
-
-  -- All entries are.
-  pub counted_done :
-      {i n : ℕ} (s : Statement) {t : Statement}
-      → i ≤ n
-      → n ≤ i
-      → t ≡ entries_counted p b i s
-      → t ≡ entries_counted p b n s
-  counted_done {i} {n} s h l T = let e : i ≡ n = omega arith in rw (← e) T
+    -- The entry is counted.
+    pub counted_next :
+        (s : Statement)
+        → counted_at (nth at i) (nth deadlines (nth at i)) (entry_in b i).age (entries_counted p b i s)
+        ≡ entries_counted p b (i + 1) s
+    counted_next s = rw (C.lines i h, C.due i h) (next_counted i s)
 
   -- n entries leave lines in their ranges, with at most n jobs more.
   lines_after :

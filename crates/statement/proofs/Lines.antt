@@ -1,11 +1,10 @@
 -- What a statement in its ranges says of its lines, and back. Assumes nothing.
 use mathlib.Core.Path.{◌≡◌}
 use mathlib.Core.Bool.{true, ◌&&◌}
-use mathlib.Core.List.{List}
 use Prim.Native.Nat.{ℕ, ◌*◌, ◌≤◌, ◌<◌}
 use native.Mathlib.Omega.{arith}
 use lib.Dec.{leb}
-use lib.IntN.{ℤ, nat_abs}
+use lib.IntN.{nat_abs}
 use borrow.Author.Tests.{leb-true, le-leb}
 use Rattle.lists.specs.Places.{nth}
 use Rattle.plan.specs.Ranges.{longest}
@@ -13,7 +12,7 @@ use Rattle.margins.specs.Margin.{widest}
 use Rattle.logblock.specs.Layout.{most_jobs}
 use Rattle.statement.specs.declared.Statement.{Statement}
 use Rattle.statement.specs.Lines.{most_blocks, most_lines, margins_at, line_ok, statement_ok}
-use Rattle.statement.specs.Lent.{AtMost, statement_of}
+use Rattle.statement.specs.Lent.{AtMost}
 use Rattle.lists.proofs.All.{and_left, and_right, and_true, all_at, all_by}
 
 -- Line k is in its ranges, with at most so many jobs.
@@ -71,10 +70,3 @@ at_most L = record {
   late = λ k h. omega (arith, (L k h).jobs, (L k h).late);
   margins = λ k h. omega (arith, (L k h).jobs, (L k h).margins);
 }
-
--- Bounds on lines do not look at the number of blocks.
-pub same_lines :
-    {most blocks other : ℕ} {margins : List ℤ} {jobs longest late : List ℕ}
-    → AtMost most (statement_of blocks margins jobs longest late)
-    → AtMost most (statement_of other margins jobs longest late)
-same_lines A = record { jobs = A.jobs; late = A.late; margins = A.margins }

@@ -1,6 +1,6 @@
 -- Laws of a log: how the code comes to the statement after it and to what is passed over, block by block, and that a
 -- statement in its ranges stays there. Assumes nothing.
-use mathlib.Core.Path.{◌≡◌, refl, sym, ap, ◌∙◌}
+use mathlib.Core.Path.{◌≡◌, refl, sym, ◌∙◌}
 use mathlib.Core.Bool.{true}
 use mathlib.Core.List.{List}
 use Prim.Native.Nat.{ℕ, zero, suc, ◌+◌, ◌*◌, ◌≤◌, ◌<◌}
@@ -9,19 +9,23 @@ use native.Mathlib.Omega.{arith}
 use lib.Dec.{ltb}
 use borrow.Author.Tests.{lt-ltb, le-ltb}
 use Rattle.lists.specs.Choice.{pick}
+use Rattle.lists.specs.Refusals.{unless_number}
 use Rattle.lists.specs.Sum.{sum_to}
 use Rattle.plan.specs.declared.Plan.{Plan}
-use Rattle.plan.specs.declared.Refusal.{Refusal}
-use Rattle.plan.specs.First.{first_refused}
+use Rattle.plan.specs.First.{first_refused, fine}
 use Rattle.plan.specs.Order.{plan_refusal}
 use Rattle.blockfile.specs.File.{block_at}
 use Rattle.logblock.specs.Layout.{most_jobs}
 use Rattle.statement.specs.declared.Statement.{Statement}
 use Rattle.statement.specs.Lines.{most_blocks, Lined, statement_ok}
-use Rattle.statement.specs.Counting.{one_more, block_counted}
+use Rattle.statement.specs.Counting.{block_counted}
 use Rattle.statement.specs.Block.{block_number}
-use Rattle.statement.specs.Log.{taken_by, after_blocks, passed_by, passed_in}
-use Rattle.statement.specs.Lent.{AtMost, BlockTaken, LogTaken}
+use Rattle.statement.specs.Log.{taken_by, after_block, after_blocks, passed_by, passed_in, first_passed}
+use Rattle.statement.specs.declared.Stated.{Stated}
+use Rattle.statement.specs.Call.{stated_over}
+use Rattle.statement.specs.Lent.{AtMost}
+use Rattle.std.proofs.Common.{Ok, Err}
+use Rattle.lists.proofs.Refusals.{ok_number, err_number}
 use Rattle.lists.proofs.Sum.{sum_next}
 use Rattle.plan.proofs.First.{first_already, first_new, first_passes}
 use Rattle.statement.proofs.Lines.{few_blocks, lines_in, in_ranges, at_most}
@@ -92,82 +96,68 @@ block_stays p b s passes z H =
 -- ---- a turn of the loop over a log's blocks
 module _ (p : Plan) (log : List ℕ) (s : Statement) where
   -- No block is looked at yet.
-  pub log_none : LogTaken p log 0 s s 0 0 0
+  pub log_none : record { refusal = fine; statement = s; passed = 0; position = 0; number = 0 } ≡ stated_over p log 0 s
   unfolding after_blocks sum_to first_refused
-  log_none = record { state = refl; passed = refl; position = refl; number = refl }
-
-  module _ {k many at y x : ℕ} {t after : Statement} {b : List ℕ} (T : LogTaken p log k s t many at y)
-      (part : b ≡ block_at log k) (B : BlockTaken p b t after x) where
-    number_is : x ≡ passed_by p log s k
-    unfolding passed_by
-    number_is = B.number ∙ rw (part, T.state) refl
-
-    state_next : taken_by x p (block_at log k) t ≡ after_blocks p log (k + 1) s
-    unfolding after_blocks passed_by
-    state_next = rw (number_is, add-one, T.state) refl
-
-    many_next : {one : ℕ} → pick (ltb 0 x) 1 0 ≡ one → many + one ≡ passed_in p log s (k + 1)
-    many_next e =
-        sym (sum_next (λ j. pick (ltb 0 (passed_by p log s j)) 1 0) k ∙ rw (← number_is, e, ← T.passed) refl)
-
-    -- The block is taken.
-    pub log_taken : x ≤ 0 → LogTaken p log (k + 1) s (one_more after) many at y
-    unfolding taken_by
-    log_taken h =
-        let z : x ≡ 0 = omega arith in
-        let f = first_passes (passed_by p log s) k (omega (arith, number_is)) in
-        record {
-          state = B.taken h ∙ rw part (rw z at state_next);
-          passed = (let e : many ≡ many + 0 = omega arith in e) ∙ many_next (rw (le-ltb 0 x h) refl);
-          position = T.position ∙ ap (λ (r : Refusal). r.place) (sym f);
-          number = T.number ∙ ap (λ (r : Refusal). r.number) (sym f);
-        }
-
-    module _ (h : 0 < x) where
-      unmoved : after ≡ after_blocks p log (k + 1) s
-      unfolding taken_by
-      unmoved = B.passed h ∙ stays x h ∙ state_next
-        where
-          stays : (x : ℕ) → 0 < x → t ≡ taken_by x p (block_at log k) t
-          stays zero h = absurd (omega arith)
-          stays (suc x) h = refl
-
-      -- The block is passed over, and is the first that is.
-      pub log_first : y ≤ 0 → LogTaken p log (k + 1) s after (many + 1) k x
-      log_first l =
-          let f = first_new (passed_by p log s) k (omega (arith, T.number)) (omega (arith, number_is)) in
-          record {
-            state = unmoved;
-            passed = many_next (rw (lt-ltb 0 x h) refl);
-            position = ap (λ (r : Refusal). r.place) (sym f);
-            number = number_is ∙ ap (λ (r : Refusal). r.number) (sym f);
-          }
-
-      -- The block is passed over, and is not the first.
-      pub log_again : 0 < y → LogTaken p log (k + 1) s after (many + 1) at y
-      log_again l =
-          let f = first_already (passed_by p log s) k (omega (arith, T.number)) in
-          record {
-            state = unmoved;
-            passed = many_next (rw (lt-ltb 0 x h) refl);
-            position = T.position ∙ ap (λ (r : Refusal). r.place) (sym f);
-            number = T.number ∙ ap (λ (r : Refusal). r.number) (sym f);
-          }
+  log_none = refl
 
   -- There is room for the next block.
-  pub room_now :
-      {k many at y : ℕ} {t : Statement}
-      → (plan_refusal p).number ≡ 0
-      → RoomIn s
-      → LogTaken p log k s t many at y
-      → RoomIn t
-  room_now {k} passes R T = rw T.state (room_after p passes log k s R)
+  pub room_now : (k : ℕ) {t : Stated} → (plan_refusal p).number ≡ 0 → statement_ok s ≡ true
+      → t ≡ stated_over p log k s → RoomIn t.statement
+  room_now k passes ok T = rw T (room_after p passes log k s (room_in s ok))
 
-  -- All blocks are looked at.
-  pub log_done :
-      {i n many at y : ℕ} {t : Statement}
-      → i ≤ n
-      → n ≤ i
-      → LogTaken p log i s t many at y
-      → LogTaken p log n s t many at y
-  log_done {i} {n} h l T = let e : i ≡ n = omega arith in rw (← e) T
+  module _ (k : ℕ) {t : Stated} (T : t ≡ stated_over p log k s) {after : Statement}
+      (A : after ≡ after_block p (block_at log k) t.statement) where
+    state_next : after ≡ after_blocks p log (k + 1) s
+    unfolding after_blocks
+    state_next = A ∙ rw (T, add-one) refl
+
+    number_is : block_number p t.statement.blocks (block_at log k) ≡ passed_by p log s k
+    unfolding passed_by
+    number_is = rw T refl
+
+    many_next : {one : ℕ} → pick (ltb 0 (passed_by p log s k)) 1 0 ≡ one → t.passed + one ≡ passed_in p log s (k + 1)
+    many_next e =
+        sym (sum_next (λ j. pick (ltb 0 (passed_by p log s j)) 1 0) k ∙ rw (e, T) refl)
+
+    -- The block is taken.
+    pub log_taken :
+        {w : Unit {0}}
+        → Ok w ≡ unless_number (block_number p t.statement.blocks (block_at log k)) (tt {0})
+        → record { refusal = t.refusal; statement = after; passed = t.passed; position = t.position; number = t.number }
+        ≡ stated_over p log (k + 1) s
+    log_taken q =
+        let z = (ok_number (block_number p t.statement.blocks (block_at log k)) q).0 in
+        let n : passed_by p log s k ≤ 0 = omega (arith, number_is) in
+        let f = first_passes (passed_by p log s) k n in
+        let m : t.passed ≡ passed_in p log s (k + 1) =
+        (let e : t.passed ≡ t.passed + 0 = omega arith in e) ∙ many_next (rw (le-ltb 0 (passed_by p log s k) n) refl) in
+        rw (state_next, m, f, T) refl
+
+    module _ {x : ℕ} (q : Err x ≡ unless_number (block_number p t.statement.blocks (block_at log k)) (tt {0})) where
+      told : (x ≡ passed_by p log s k) × (0 < x)
+      told =
+          let e = err_number (block_number p t.statement.blocks (block_at log k)) (tt {0}) q in
+          (e.0 ∙ number_is, omega arith)
+
+      one_more_passed : t.passed + 1 ≡ passed_in p log s (k + 1)
+      one_more_passed = many_next (rw (lt-ltb 0 (passed_by p log s k) (omega (arith, told))) refl)
+
+      -- The block is passed over, and is the first that is.
+      pub log_first :
+          t.number ≤ 0
+          → record { refusal = t.refusal; statement = after; passed = t.passed + 1; position = k; number = x }
+          ≡ stated_over p log (k + 1) s
+      log_first l =
+          let y : (first_passed p log s k).number ≤ 0 = rw T at l in
+          let f = first_new (passed_by p log s) k y (omega (arith, told)) in
+          rw (state_next, one_more_passed, f, told.0, T) refl
+
+      -- The block is passed over, and is not the first.
+      pub log_again :
+          0 < t.number
+          → record { refusal = t.refusal; statement = after; passed = t.passed + 1; position = t.position; number = t.number }
+          ≡ stated_over p log (k + 1) s
+      log_again l =
+          let y : 0 < (first_passed p log s k).number = rw T at l in
+          let f = first_already (passed_by p log s) k y in
+          rw (state_next, one_more_passed, f, T) refl

@@ -1,26 +1,24 @@
--- A log counted over lent arrays, apart from the plan. Inner: no promise of an entry names this.
-use Rattle.std.specs.Prelude.{◌≡◌, true, List, ℕ, ◌*◌, ◌≤◌, ◌<◌, ℤ, nat_abs, length}
+-- A log counted by what is gathered of a plan. Inner: no promise of an entry names this.
+use Rattle.std.specs.Prelude.{◌≡◌, true, List, [], ◌∷◌, ℕ, ◌*◌, ◌≤◌, ◌<◌, nat_abs, length, Result, Ok, Err}
 use Rattle.lists.specs.All.{all_to}
 use Rattle.lists.specs.Choice.{pick}
 use Rattle.lists.specs.Places.{nth}
+use Rattle.lists.specs.Refusals.{refusal, ◌or_refuse◌}
+use Rattle.plan.specs.declared.Columns.{Columns}
 use Rattle.plan.specs.declared.Plan.{Plan}
 use Rattle.plan.specs.Records.{guest_at, deadline_of}
 use Rattle.plan.specs.Ranges.{most_guests, longest}
-use Rattle.plan.specs.Filled.{Filled}
+use Rattle.plan.specs.Filled.{ColumnsOf}
 use Rattle.plan.specs.Order.{plan_refusal}
 use Rattle.plan.specs.Place.{has_guest, has_task}
 use Rattle.arrays.specs.Place.{place_at}
 use Rattle.margins.specs.Margin.{widest}
-use Rattle.block.specs.Layout.{block_size}
 use Rattle.logblock.specs.declared.Entry.{Entry}
 use Rattle.logblock.specs.Layout.{most_jobs}
 use Rattle.logblock.specs.Reading.{entry_in}
 use Rattle.statement.specs.declared.Statement.{Statement}
-use Rattle.statement.specs.declared.counting.Targets.{Targets}
 use Rattle.statement.specs.Lines.{most_lines, margins_at}
-use Rattle.statement.specs.Counting.{line_of, deadline_for, one_more, block_counted}
-use Rattle.statement.specs.Block.{block_number}
-use Rattle.statement.specs.Log.{after_blocks, passed_in, first_passed}
+use Rattle.statement.specs.Counting.{line_of, deadline_for}
 
 -- ---- what a log is counted by
 -- The deadlines of guest k are there up to its task n, and the lines before the guest's are as they were.
@@ -38,43 +36,32 @@ pub record DeadlinesOf (p : Plan) (n : ℕ) (deadlines : List ℕ) : Type 0 wher
       → t < (guest_at p.guests k).tasks
       → nth deadlines (place_at k t) ≡ deadline_of (guest_at p.guests k) t
 
--- The columns of a plan in order by which an entry's line is found: its guests' ids and numbers of tasks.
-pub record GuestColumns (p : Plan) (n : ℕ) (ids tasks : List ℕ) : Type 0 where
+-- The columns of a plan in order that a log is counted by, and each task's deadline at its line.
+pub record PlanColumns (p : Plan) (columns : Columns) (deadlines : List ℕ) : Type 0 where
   pub passes : (plan_refusal p).number ≡ 0
-  pub count : p.count ≡ n
-  pub named : Filled ids (λ k. (guest_at p.guests k).id) most_guests
-  pub many : Filled tasks (λ k. (guest_at p.guests k).tasks) most_guests
-
--- The columns of a plan in order that a log is counted by: those, and each task's deadline at its line.
-pub record PlanColumns (p : Plan) (n : ℕ) (ids tasks deadlines : List ℕ) : Type 0 where
-  pub guests : GuestColumns p n ids tasks
+  pub guests : ColumnsOf p.guests most_guests columns
   pub due : DeadlinesOf p p.count deadlines
 
 -- ---- where entries are counted
--- The line past all lines, for an entry whose guest is none of the plan's.
-abbrev pub no_guest : ℕ
-no_guest = 128
+-- The line that an entry is counted at, or the number that refuses its block: 7 for no guest, 8 for no task.
+abbrev pub aim_of : Plan → Entry → Result ℕ ℕ
+aim_of p e = pick (has_guest p e.guest) (pick (has_task p e.guest e.task) (Ok (line_of p e)) (Err 8)) (Err 7)
 
--- The line past that, for an entry whose guest has no such task.
-abbrev pub no_task : ℕ
-no_task = 129
+-- The number that the first n entries of a block refuse it by, 0 for none: 7 for any of them, then 8.
+unfoldable pub missing : Plan → (block : List ℕ) → ℕ → ℕ
+missing p b n =
+    refusal (
+    all_to (λ i. has_guest p (entry_in b i).guest) n or_refuse 7
+    ∷ all_to (λ i. has_task p (entry_in b i).guest (entry_in b i).task) n or_refuse 8
+    ∷ [])
 
--- Where an entry is counted, or which of the two is missing.
-unfoldable pub aim_of : Plan → Entry → ℕ
-aim_of p e = pick (has_guest p e.guest) (pick (has_task p e.guest e.task) (line_of p e) no_task) no_guest
-
--- Where the first n entries of a block are counted, whether each names a guest, and if so whether each names a task.
-pub record Aimed (p : Plan) (b : List ℕ) (n : ℕ) (r : Targets) : Type 0 where
-  pub at : (i : ℕ) → i < n → nth r.at i ≡ aim_of p (entry_in b i)
-  pub guests : r.guests ≡ all_to (λ i. has_guest p (entry_in b i).guest) n
-  pub tasks : r.guests ≡ true → r.tasks ≡ all_to (λ i. has_task p (entry_in b i).guest (entry_in b i).task) n
+-- No guest and no task of the first n entries of a block is missing, and these are the lines that they are counted at.
+pub record Aimed (p : Plan) (b : List ℕ) (n : ℕ) (at : List ℕ) : Type 0 where
+  pub guests : all_to (λ i. has_guest p (entry_in b i).guest) n ≡ true
+  pub tasks : all_to (λ i. has_task p (entry_in b i).guest (entry_in b i).task) n ≡ true
+  pub lines : (i : ℕ) → i < n → nth at i ≡ line_of p (entry_in b i)
 
 -- ---- counting
--- The statement of these numbers.
-abbrev pub statement_of : (blocks : ℕ) → (margins : List ℤ) → (jobs longest late : List ℕ) → Statement
-statement_of blocks margins jobs longest late =
-    record { blocks = blocks; margins = margins; jobs = jobs; longest = longest; late = late }
-
 -- No line has more than so many jobs, or more than so many late, or a sum that so many margins cannot come to.
 pub record AtMost (most : ℕ) (s : Statement) : Type 0 where
   pub jobs : (k : ℕ) → k < most_lines → nth s.jobs k ≤ most
@@ -98,22 +85,6 @@ pub record EntryIn (p : Plan) (e : Entry) : Type 0 where
 -- The first n entries of a block can be counted, at these lines and by these deadlines.
 pub record Countable (p : Plan) (b : List ℕ) (n : ℕ) (at deadlines : List ℕ) : Type 0 where
   pub few : n ≤ most_jobs
-  pub size : length b ≡ block_size
   pub lines : (i : ℕ) → i < n → nth at i ≡ line_of p (entry_in b i)
   pub due : (i : ℕ) → i < n → nth deadlines (line_of p (entry_in b i)) ≡ deadline_for p (entry_in b i)
   pub entries : (i : ℕ) → i < n → EntryIn p (entry_in b i)
-
--- ---- taking
--- A block over the statement s: its number, and the lines after it. They are counted as one block more where it is
--- taken, and else as they were.
-pub record BlockTaken (p : Plan) (b : List ℕ) (s after : Statement) (x : ℕ) : Type 0 where
-  pub number : x ≡ block_number p s.blocks b
-  pub taken : x ≤ 0 → one_more after ≡ block_counted p b s
-  pub passed : 0 < x → after ≡ s
-
--- The first n blocks of a log over the statement s: the statement after them, how many were passed over, and the first.
-pub record LogTaken (p : Plan) (log : List ℕ) (n : ℕ) (s after : Statement) (many at x : ℕ) : Type 0 where
-  pub state : after ≡ after_blocks p log n s
-  pub passed : many ≡ passed_in p log s n
-  pub position : at ≡ (first_passed p log s n).place
-  pub number : x ≡ (first_passed p log s n).number

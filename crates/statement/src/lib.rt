@@ -2,7 +2,9 @@
 #![tactic(auto)]
 
 ghost use Rattle.std.specs.Prelude.{◌≡◌};
-ghost use Rattle.statement.specs.Call.{unstated};
+ghost use Rattle.plan.specs.First.{unless_refused};
+ghost use Rattle.planfile.specs.Records.{read_of};
+ghost use Rattle.statement.specs.Call.{call_refusal};
 ghost use Rattle.statement.specs.Promises.{Extends};
 
 use block::layout;
@@ -39,38 +41,38 @@ pub struct Stated {
     pub number: u32,
 }
 
-// The statement as it was, under a refusal.
-fn refuse(number: u32, place: u32, statement: Statement) -> Stated
-    ensures { result ≡ unstated (record { number = number; place = place }) statement }
+// The plan of a call that is not refused, or the refusal.
+fn checked(running: Statement, plan: &[u8], log: &[u8]) -> Result<Plan, Refusal>
+    ensures { result ≡ unless_refused (call_refusal running plan.now log.now) (read_of plan.now).plan }
 {
-    Stated {
-        refusal: Refusal { number, place },
-        statement,
-        passed: 0,
-        position: 0,
-        number: 0,
+    let records = planfile::read(plan)?;
+    if !ranges::statement_ok(running) {
+        return Err(Refusal {
+            number: 14,
+            place: 0,
+        });
     }
+    if log.len() % layout::SIZE != 0 {
+        return Err(Refusal {
+            number: 1,
+            place: 0,
+        });
+    }
+    Ok(records)
 }
 
 // The log's blocks counted in the running statement, against the plan.
 pub fn extend(running: Statement, plan: &[u8], log: &[u8]) -> Stated
     ensures { Extends running plan.now log.now result }
 {
-    let refusal = blockfile::refusal_of(plan, true);
-    if 0 < refusal.number {
-        return refuse(refusal.number, refusal.place, running);
+    match checked(running, plan, log) {
+        Ok(records) => taking::stated(running, &records, log),
+        Err(refusal) => Stated {
+            refusal,
+            statement: running,
+            passed: 0,
+            position: 0,
+            number: 0,
+        },
     }
-    if !ranges::statement_ok(running) {
-        return refuse(14, 0, running);
-    }
-    if log.len() % layout::SIZE != 0 {
-        return refuse(1, 0, running);
-    }
-    let n = plan.len() / layout::SIZE;
-    let guests = blockfile::records_of(plan, n);
-    let records = Plan {
-        count: n as u32,
-        guests,
-    };
-    taking::stated(running, records, log)
 }

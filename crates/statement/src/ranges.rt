@@ -14,33 +14,30 @@ pub const MOST_BLOCKS: u64 = 1000000;
 fn line_ok(most: u64, margins: i64, jobs: u32, oldest: u32, late: u32) -> bool
     ensures { result ≡ (leb jobs most && leb late jobs && leb oldest longest && leb (nat_abs margins) (widest * jobs)) }
 {
-    (jobs as u64 <= most)
+    (u64::from(jobs) <= most)
         & (late <= jobs)
         & (oldest <= plan::LONGEST)
         & margins::within(margins, jobs)
 }
 
 // Whether all 128 lines are in their ranges.
+#[tactic(auto, unfolding(crate::specs::Lines::line_ok))]
 fn lines_ok(s: Statement) -> bool
     requires { s.blocks ≤ most_blocks }
     ensures { result ≡ all_to (line_ok s) most_lines }
 {
-    let most = (logblock::MOST_JOBS as u64) * s.blocks;
+    let most = u64::from(logblock::MOST_JOBS) * s.blocks;
     let mut ok = true;
-    let mut k: usize = 0;
-    while k < 128 {
-        ok = ok & line_ok(most, s.margins[k], s.jobs[k], s.longest[k], s.late[k]);
-        k += 1;
+    for k in 0..128 {
+        ok &= line_ok(most, s.margins[k], s.jobs[k], s.longest[k], s.late[k]);
     }
     ok
 }
 
 // Whether the statement is in its ranges.
+#[tactic(auto, unfolding(crate::specs::Lines::statement_ok))]
 pub fn statement_ok(s: Statement) -> bool
     ensures { result ≡ statement_ok s }
 {
-    if MOST_BLOCKS < s.blocks {
-        return false;
-    }
-    lines_ok(s)
+    s.blocks <= MOST_BLOCKS && lines_ok(s)
 }

@@ -1,40 +1,42 @@
 -- A turn looks at one entry more.
-use mathlib.Core.Path.{refl, ◌∙◌}
-use Prim.Native.Nat.{◌<◌}
+use mathlib.Core.Path.{◌≡◌, refl}
 use native.Mathlib.Omega.{arith}
-use lib.ListN.{length, length-set}
-use borrow.Author.Rules.{rules}
+use Rattle.std.proofs.Common.{Ok, Err}
 use Rattle.logblock.specs.Reading.{entry_in}
-use Rattle.statement.proofs.Lent.{aim_same, aimed_none, aimed_next, aimed_done}
+use Rattle.statement.specs.Lent.{aim_of}
+use Rattle.statement.proofs.Aiming.{aims_none, aims_line, aims_no_task, aims_no_guest, aims_done, aims_lack}
 use Rattle.statement.proofs.counting.aim_all.Goals as goal
+use Rattle.statement.proofs.counting.aim_all.Goals.{in-Ok, in-Err-eq8}
 
 pub loop-i-init : goal.loop-i-init
-loop-i-init c = ((search rules, refl), λ p C. aimed_none p _ _)
-
-pub guest_of-requires : goal.guest_of-requires
-guest_of-requires c = (omega (arith, c.requires.0.0), c.requires.0.1)
-
-pub task_of-requires : goal.task_of-requires
-task_of-requires c = (omega (arith, c.requires.0.0), c.requires.0.1)
-
-pub aim-line-requires : goal.aim-line-requires
-aim-line-requires c = c.requires.1
+loop-i-init c = aims_none _ _ _ refl
 
 pub loop-i-preserved : goal.loop-i-preserved
 loop-i-preserved c =
-    let l = c.loop-i in
-    let b = c.args.b.now in
-    let t = c.loop-i-test.true in
-    let h : l.i < length l.at = omega (arith, l.invariant.0.1, c.requires.0.0) in (
-      (search rules, length-set l.at l.i c.aim-line.result ∙ l.invariant.0.1),
-      λ p C.
-          aimed_next p b l.i C.passes h
-          (aim_same p (entry_in b l.i) c.guest_of.ensures c.task_of.ensures
-          (c.aim-line.ensures p _ C))
-          (l.invariant.1 p C),
-    )
+    let A = c.loop-i.invariant in
+    elim c.match-aim.branch [
+      | in-Ok w ↦
+          let e : Ok w.in-Ok.line ≡ aim_of c.args.by.now.plan.now (entry_in c.args.b.now c.loop-i.i) = rw c.entry_of.ensures at w.in-Ok.ensures in
+          rw (w.at-is, w.tasks-is) (aims_line _ _ A (omega arith) e)
+      | in-Err-eq8 w ↦
+          let e : Err w.in-Err-eq8.field-0 ≡ aim_of c.args.by.now.plan.now (entry_in c.args.b.now c.loop-i.i) = rw c.entry_of.ensures at w.in-Err-eq8.ensures in
+          let z : w.in-Err-eq8.field-0 ≡ 8 = omega arith in
+          rw (w.at-is, w.tasks-is) (aims_no_task _ _ A (rw z at e))
+    ]
 
-pub returns : goal.returns
-returns c =
-    let l = c.loop-i in
-    λ p C. aimed_done p _ l.invariant.0.0 c.loop-i-test.false (l.invariant.1 p C)
+pub returns-in-Err : goal.returns-in-Err
+returns-in-Err c =
+    let e : Err c.in-Err.number ≡ aim_of c.args.by.now.plan.now (entry_in c.args.b.now c.loop-i.i) = rw c.entry_of.ensures at c.in-Err.ensures in
+    aims_no_guest _ _ c.loop-i.invariant c.loop-i-test.true e c.in-Err.number-test.1
+
+pub returns-then-tasks : goal.returns-then-tasks
+returns-then-tasks c =
+    let k : c.loop-i.i ≡ c.args.jobs = omega arith in
+    let A = rw (k, c.if-tasks.true) at c.loop-i.invariant in
+    aims_done _ _ A
+
+pub returns-else-tasks : goal.returns-else-tasks
+returns-else-tasks c =
+    let k : c.loop-i.i ≡ c.args.jobs = omega arith in
+    let A = rw (k, c.if-tasks.false) at c.loop-i.invariant in
+    aims_lack _ _ A

@@ -1,16 +1,33 @@
--- The columns are the plan's, so the log is counted by it.
--- From past the arrays that are lent to past the columns that are gathered, and from there to the start.
-use Rattle.statement.proofs.Lent.{plan_columns}
-use Rattle.statement.proofs.Call.{over_is}
+-- A turn takes one block more or passes it over.
+use native.Mathlib.Omega.{arith}
+use borrow.Author.Rules.{rules}
+use Rattle.statement.proofs.Log.{log_none, room_now, log_taken, log_first, log_again}
 use Rattle.statement.proofs.taking.stated.Goals as goal
+use Rattle.statement.proofs.taking.stated.Goals.{in-Err, then-stated-lt1, else-stated-lt1, in_default}
 
-pub deadlines_of-deadlines-requires : goal.deadlines_of-deadlines-requires
-deadlines_of-deadlines-requires c = c.requires.0
+pub loop-k-init : goal.loop-k-init
+loop-k-init c = (search rules, log_none _ _ _)
 
-pub take_all-went-requires : goal.take_all-went-requires
-take_all-went-requires c =
-    ((_, plan_columns c.requires.0 c.columns_of-columns.ensures c.deadlines_of-deadlines.ensures), c.requires.1)
+pub take-requires : goal.take-requires
+take-requires c = (room_now _ _ _ _ c.requires.0 c.requires.1 c.loop-k.invariant.1).lines
 
-pub returns : goal.returns
-returns c =
-    over_is (c.take_all-went.ensures _ (plan_columns c.requires.0 c.columns_of-columns.ensures c.deadlines_of-deadlines.ensures))
+pub loop-k-preserved : goal.loop-k-preserved
+loop-k-preserved c =
+    let few = c.loop-k.invariant.0 in
+    let T = c.loop-k.invariant.1 in
+    let A = rw (c.gather-by.ensures, c.block_at.ensures) at c.take.ensures.after in
+    elim c.match-take.branch [
+      | in-Err w ↦
+          let q = rw (c.gather-by.ensures, c.block_at.ensures) at w.in-Err.ensures.number in
+          elim w.if-stated-lt1.branch [
+            | then-stated-lt1 v ↦
+                let l = v.if-stated-lt1.true in
+                rw (w.stated-is, v.stated-is) (omega arith, log_first _ _ _ c.loop-k.k T A q (omega arith))
+            | else-stated-lt1 v ↦
+                let l = v.if-stated-lt1.false in
+                rw (w.stated-is, v.stated-is) (omega arith, log_again _ _ _ c.loop-k.k T A q (omega arith))
+          ]
+      | in_default w ↦
+          let q = rw (c.gather-by.ensures, c.block_at.ensures) at w.in_default.ensures.number in
+          rw w.stated-is (omega arith, log_taken _ _ _ c.loop-k.k T A q)
+    ]

@@ -1,65 +1,70 @@
 -- By the first test that passes the block over, or by its entries counted.
--- The statement as it is lent.
+use mathlib.Core.Path.{◌≡◌, ap, ◌∙◌}
 use Prim.Native.Nat.{◌*◌}
 use native.Mathlib.Omega.{arith}
-use borrow.Author.Tests.{not-true, not-false}
-use Rattle.statement.specs.Lent.{statement_of}
+use borrow.Author.Rules.{rules}
+use Rattle.std.proofs.Common.{Err}
 use Rattle.logblock.specs.Layout.{most_jobs}
-use Rattle.logblock.proofs.Reading.{own_in}
-use Rattle.statement.proofs.Lines.{same_lines}
-use Rattle.statement.proofs.Block.{few_jobs, own_first, passed_over, guest_missing, task_missing, no_room, countable, all_counted}
+use Rattle.statement.specs.declared.Statement.{Statement}
+use Rattle.statement.proofs.CountingLaws.{same_blocks}
+use Rattle.statement.proofs.Block.{few_jobs, own_refuses, own_passes, plan_first, nineteen, passed_number, passed_after, countable, taken_number, taken_after}
 use Rattle.statement.proofs.taking.take.Goals as goal
 
-pub own_number-own-requires : goal.own_number-own-requires
-own_number-own-requires c = c.requires.0
+pub returns-in_err-own_number-clause-number : goal.returns-in_err-own_number-clause-number
+returns-in_err-own_number-clause-number c =
+    let q : c.from_residual.result ≡ Err c.in_err-own_number.field-0.0 = search rules in
+    let e = own_refuses c.args.by.now.plan.now c.args.running.now.blocks c.args.b.now c.in_err-own_number.ensures in
+    q ∙ passed_number _ _ c.args.running.now e.0 e.1
 
-pub returns-then-own-gt0 : goal.returns-then-own-gt0
-returns-then-own-gt0 c =
-    λ p C.
-    passed_over (statement_of c.args.blocks c.args.margins.now c.args.jobs.now c.args.longest.now c.args.late.now) (own_first p _ _ c.own_number-own.ensures c.if-own-gt0.true) c.if-own-gt0.true
+pub returns-in_err-own_number-clause-after : goal.returns-in_err-own_number-clause-after
+returns-in_err-own_number-clause-after c =
+    let e = own_refuses c.args.by.now.plan.now c.args.running.now.blocks c.args.b.now c.in_err-own_number.ensures in
+    passed_after _ _ _ e.0 e.1
 
-pub jobs_of-many-requires : goal.jobs_of-many-requires
-jobs_of-many-requires c = c.requires.0
+pub aim_all-requires : goal.aim_all-requires
+aim_all-requires c = omega (arith, c.jobs_of-many.ensures, few_jobs (own_passes c.args.b.now c.in_ok-own_number.ensures))
 
-pub aim_all-found-requires : goal.aim_all-found-requires
-aim_all-found-requires c =
-    let B = own_in c.args.b.now (omega (arith, c.own_number-own.ensures, c.if-own-gt0.false)) in
-    ((omega (arith, c.jobs_of-many.ensures, few_jobs B), c.requires.0), (c.requires.1.0.0, c.requires.1.0.1.guests))
+pub returns-in_err-at-clause-number : goal.returns-in_err-at-clause-number
+returns-in_err-at-clause-number c =
+    let q : c.from_residual-in_err-at.result ≡ Err c.in_err-at.field-0.0 = search rules in
+    let e = c.in_err-at.ensures in
+    let f = plan_first c.args.by.now.plan.now c.args.running.now.blocks c.args.b.now (own_passes c.args.b.now c.in_ok-own_number.ensures) (rw c.jobs_of-many.ensures at e.1) e.0 in
+    q ∙ passed_number _ _ c.args.running.now f e.0
 
-pub returns-then-not-found : goal.returns-then-not-found
-returns-then-not-found c =
-    λ p C.
-    guest_missing C c.own_number-own.ensures c.if-own-gt0.false c.jobs_of-many.ensures
-    (c.aim_all-found.ensures p C.guests) (statement_of c.args.blocks c.args.margins.now c.args.jobs.now c.args.longest.now c.args.late.now) (not-true _ c.if-not-found.true)
+pub returns-in_err-at-clause-after : goal.returns-in_err-at-clause-after
+returns-in_err-at-clause-after c =
+    let e = c.in_err-at.ensures in
+    let f = plan_first c.args.by.now.plan.now c.args.running.now.blocks c.args.b.now (own_passes c.args.b.now c.in_ok-own_number.ensures) (rw c.jobs_of-many.ensures at e.1) e.0 in
+    passed_after _ _ _ f e.0
 
-pub returns-then-not-found-2 : goal.returns-then-not-found-2
-returns-then-not-found-2 c =
-    λ p C.
-    task_missing C c.own_number-own.ensures c.if-own-gt0.false c.jobs_of-many.ensures
-    (c.aim_all-found.ensures p C.guests) (not-false _ c.if-not-found.false) (statement_of c.args.blocks c.args.margins.now c.args.jobs.now c.args.longest.now c.args.late.now) (not-true _ c.if-not-found-2.true)
+pub returns-then-running-ge-MOST_BLOCKS-clause-number : goal.returns-then-running-ge-MOST_BLOCKS-clause-number
+returns-then-running-ge-MOST_BLOCKS-clause-number c =
+    let A = rw c.jobs_of-many.ensures at c.in_ok-at.ensures in
+    let f = nineteen _ c.args.running.now.blocks _ (own_passes c.args.b.now c.in_ok-own_number.ensures) A c.if-running-ge-MOST_BLOCKS.true in
+    passed_number _ _ c.args.running.now f (omega arith)
 
-pub returns-then-blocks-ge-MOST_BLOCKS : goal.returns-then-blocks-ge-MOST_BLOCKS
-returns-then-blocks-ge-MOST_BLOCKS c =
-    λ p C.
-    no_room C c.own_number-own.ensures c.if-own-gt0.false c.jobs_of-many.ensures
-    (c.aim_all-found.ensures p C.guests) (not-false _ c.if-not-found.false) (not-false _ c.if-not-found-2.false) (statement_of c.args.blocks c.args.margins.now c.args.jobs.now c.args.longest.now c.args.late.now)
-    c.if-blocks-ge-MOST_BLOCKS.true
+pub returns-then-running-ge-MOST_BLOCKS-clause-after : goal.returns-then-running-ge-MOST_BLOCKS-clause-after
+returns-then-running-ge-MOST_BLOCKS-clause-after c =
+    let A = rw c.jobs_of-many.ensures at c.in_ok-at.ensures in
+    let f = nineteen _ c.args.running.now.blocks _ (own_passes c.args.b.now c.in_ok-own_number.ensures) A c.if-running-ge-MOST_BLOCKS.true in
+    passed_after _ _ _ f (omega arith)
 
 pub count_all-requires : goal.count_all-requires
 count_all-requires c =
-    let C = c.requires.1.0.1 in
-    let K = countable C c.own_number-own.ensures c.if-own-gt0.false c.jobs_of-many.ensures
-    (c.aim_all-found.ensures _ C.guests) (not-false _ c.if-not-found.false) (not-false _ c.if-not-found-2.false) c.requires.0 in (
-      (c.requires.1.0.0, K),
-      (most_jobs * c.args.blocks, (omega (arith, K.few), same_lines c.requires.1.1)),
-    )
+    let A = rw c.jobs_of-many.ensures at c.in_ok-at.ensures in
+    let K = countable c.args.by.now.fits (own_passes c.args.b.now c.in_ok-own_number.ensures) A in
+    (rw c.jobs_of-many.ensures K, (most_jobs * c.args.running.now.blocks, (omega (arith, c.jobs_of-many.ensures, K.few), c.requires)))
 
-pub returns : goal.returns
-returns c =
-    λ p C.
-    let found = c.aim_all-found.ensures p C.guests in
-    all_counted C c.own_number-own.ensures c.if-own-gt0.false c.jobs_of-many.ensures
-    found (not-false _ c.if-not-found.false) (not-false _ c.if-not-found-2.false) (statement_of c.args.blocks c.args.margins.now c.args.jobs.now c.args.longest.now c.args.late.now) (omega arith)
-    (c.count_all.ensures p _
-    (countable C c.own_number-own.ensures c.if-own-gt0.false c.jobs_of-many.ensures
-    found (not-false _ c.if-not-found.false) (not-false _ c.if-not-found-2.false) c.requires.0))
+pub overflow_add-running : goal.overflow_add-running
+overflow_add-running c =
+    omega (arith, same_blocks c.args.by.now.plan.now c.args.b.now c.jobs_of-many.result c.args.running.now, ap (λ (s : Statement). s.blocks) c.count_all.ensures)
+
+pub returns-clause-number : goal.returns-clause-number
+returns-clause-number c =
+    let A = rw c.jobs_of-many.ensures at c.in_ok-at.ensures in
+    taken_number c.args.by.now.fits (own_passes c.args.b.now c.in_ok-own_number.ensures) A c.args.running.now c.if-running-ge-MOST_BLOCKS.false
+
+pub returns-clause-after : goal.returns-clause-after
+returns-clause-after c =
+    let A = rw c.jobs_of-many.ensures at c.in_ok-at.ensures in
+    taken_after c.args.by.now.fits (own_passes c.args.b.now c.in_ok-own_number.ensures) A _ c.if-running-ge-MOST_BLOCKS.false (rw c.jobs_of-many.ensures at c.count_all.ensures)
