@@ -8,6 +8,7 @@ use response::servers_of;
 // The plan with each guest's smallest capacity under those above at theirs, or the refusal: that of a fresh start, then
 // 11 with the place of the first guest at which none works. The servers follow the plan, so that no search reads it
 // again.
+#[tactic(auto, using(crate::proofs::CapacitiesLaws::turn_few, crate::proofs::CapacitiesLaws::turn_seated))]
 pub fn choose(mut plan: Plan) -> Result<Plan, Refusal>
     ensures { ComesTo plan result }
 {

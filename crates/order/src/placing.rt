@@ -1,5 +1,4 @@
 // The order proposed in place: for a plan that is lent as rows.
-ghost use Rattle.std.specs.Prelude.{◌≡◌, length};
 ghost use Rattle.rows.specs.Words.{plan_of};
 ghost use Rattle.order.specs.Promises.{Orders};
 
@@ -7,12 +6,9 @@ use crate::trying::settle;
 use plan::Refusal;
 use rows::{Rows, row_of};
 
-// The order proposed for the tasks of the guest with an id; where it is refused the rows stay as they were. That there
-// are eight of them is their type, which a contract does not see.
+// The order proposed for the tasks of the guest with an id; where it is refused the rows stay as they were.
 pub fn propose_in(count: u32, rows: &mut [[u32; 54]; 8], id: u32) -> Refusal
-    ensures { length rows.old ≡ 8
-        → Orders (plan_of count rows.old) id
-        (record { refusal = result; plan = plan_of count rows.new }) }
+    ensures { Orders (plan_of count rows.old) id (record { refusal = result; plan = plan_of count rows.new }) }
 {
     match settle(&Rows { count, rows }, id) {
         Ok((k, g)) => {

@@ -1,11 +1,10 @@
 -- `choice::capacities::choose` meets its contract: after k turns the first k guests have their least capacities, and the
 -- servers are those of the plan with them. Assumes nothing.
 use Rattle.std.proofs.lemmas.Result.{err_from_is_err_and}
-use native.Mathlib.Omega.{arith}
 use Rattle.plan.specs.Periodic.{start_refusal}
 use Rattle.plan.specs.Placed.{with_guest}
 use Rattle.plan.proofs.First.{ok_says}
-use Rattle.choice.proofs.CapacitiesLaws.{choice_refused, choice_made, goes_first, turn_few, turn_seated, turn_none, turn_next, goes_end}
+use Rattle.choice.proofs.CapacitiesLaws.{choice_refused, choice_made, goes_first, turn_none, turn_next, goes_end}
 use Rattle.choice.proofs.capacities.choose.Goals as goal
 
 pub returns-in_err-start_check : goal.returns-in_err-start_check
@@ -17,18 +16,6 @@ pub loop-k-init : goal.loop-k-init
 loop-k-init c =
     goes_first _ (ok_says (start_refusal c.args.plan) c.in_ok-start_check.ensures).0
     (c.servers_of-servers.ensures _ c.columns_of.ensures)
-
-pub bounds-plan-k : goal.bounds-plan-k
-bounds-plan-k c = turn_few c.loop-k.invariant c.loop-k-test.true
-
-pub smallest_at-requires : goal.smallest_at-requires
-smallest_at-requires c = turn_seated c.loop-k.invariant c.loop-k-test.true
-
-pub bounds-servers-k : goal.bounds-servers-k
-bounds-servers-k c = omega (arith, turn_few c.loop-k.invariant c.loop-k-test.true)
-
-pub bounds-plan-k-in-Some : goal.bounds-plan-k-in-Some
-bounds-plan-k-in-Some c = turn_few c.loop-k.invariant c.loop-k-test.true
 
 pub returns-in-None : goal.returns-in-None
 returns-in-None c =

@@ -3,6 +3,6 @@ use Rattle.rows.proofs.Words.{plan_put}
 use Rattle.order.proofs.placing.propose_in.Goals as goal
 
 pub returns-in-Ok : goal.returns-in-Ok
-returns-in-Ok c = λ long.
+returns-in-Ok c =
     let a = c.args in
-    rw (plan_put a.count a.rows.now c.in-Ok.k c.row_of.result c.in-Ok.ensures.0 long c.row_of.ensures) c.in-Ok.ensures.1
+    rw (plan_put a.count a.rows.now c.in-Ok.k c.row_of.result c.in-Ok.ensures.0 c.told-rows c.row_of.ensures) c.in-Ok.ensures.1
