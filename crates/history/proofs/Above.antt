@@ -4,10 +4,12 @@ use mathlib.Core.Path.{◌≡◌, refl}
 use mathlib.Core.List.{List}
 use Prim.Native.Nat.{ℕ, suc, ◌*◌, ◌≤◌, ◌<◌}
 use native.Mathlib.Omega.{arith}
+use Rattle.std.specs.Prelude.{Result, Ok, Err}
 use Rattle.plan.specs.declared.Plan.{Plan}
+use Rattle.plan.specs.declared.Refusal.{Refusal}
 use Rattle.plan.specs.Place.{place_of}
 use Rattle.verdict.specs.declared.GuestVerdict.{GuestVerdict}
-use Rattle.verdict.specs.declared.GuestVerdict.TheVariants.{Refused, Fitted, Unfit}
+use Rattle.verdict.specs.declared.GuestVerdict.TheVariants.{Fitted, Unfit}
 use Rattle.verdict.specs.Verdict.{guest_verdict}
 use Rattle.verdict.specs.Quoted.{Quoted}
 use Rattle.verdict_laws.specs.Guests.{There, GuestSolves, GuestMeans}
@@ -23,13 +25,13 @@ use Rattle.history.proofs.Sure.{sure_of_capacity}
 solved_fitted :
     (p : Plan) (id k x : ℕ)
     → GuestSolves p k x
-    → (v : GuestVerdict)
+    → (v : Result GuestVerdict Refusal)
     → guest_verdict p id ≡ v
     → GuestMeans p k v
-    → (y : ℕ) × (guest_verdict p id ≡ Fitted y)
-solved_fitted p id k x G (Refused n place) e m = absurd m
-solved_fitted p id k x G (Fitted y) e m = (y, e)
-solved_fitted p id k x G Unfit e m = absurd (m x G)
+    → (y : ℕ) × (guest_verdict p id ≡ Ok (Fitted y))
+solved_fitted p id k x G (Err r) e m = absurd m
+solved_fitted p id k x G (Ok (Fitted y)) e m = (y, e)
+solved_fitted p id k x G (Ok Unfit) e m = absurd (m x G)
 
 -- The guest of a quoted task, and each guest above it, is fitted.
 pub quoted_fitted :
@@ -37,7 +39,7 @@ pub quoted_fitted :
     → Quoted p id number R
     → (above : ℕ)
     → place_of p above ≤ place_of p id
-    → (x : ℕ) × (guest_verdict p above ≡ Fitted x)
+    → (x : ℕ) × (guest_verdict p above ≡ Ok (Fitted x))
 quoted_fitted p id number R quoted above h =
     let (T, Q) = quoted_means p id number R quoted in
     let (x, G) = Q.fitted (place_of p above) h in

@@ -7,6 +7,7 @@ use Prim.Native.Nat.{ℕ, suc, ◌+◌, ◌*◌, ◌≤◌, ◌<◌}
 use native.Mathlib.Decide.{dec_le, dec_lt}
 use native.Mathlib.Omega.{arith}
 use lib.ListN.{length, length-append}
+use Rattle.std.specs.Prelude.{Ok}
 use Rattle.plan.specs.declared.Plan.{Plan}
 use Rattle.plan.specs.Place.{place_of}
 use Rattle.dispatcher.specs.declared.Dispatcher.{Dispatcher}
@@ -112,7 +113,7 @@ had_by p can g x in_plan G cs k h =
 -- response.
 pub had_by_response :
     (p : Plan) (id x : ℕ)
-    → guest_verdict p id ≡ guest.Fitted x
+    → guest_verdict p id ≡ Ok (guest.Fitted x)
     → CanStart p
     → (cs : List Call) (k : ℕ)
     → k * (guest_by p id).period + x ≤ ticks_in cs (start p)

@@ -4,6 +4,7 @@ use mathlib.Core.List.{List, []}
 use Prim.Native.Nat.{ℕ, suc, ◌-◌, ◌≤◌}
 use native.Mathlib.Omega.{arith}
 use lib.IntN.{ℤ, pos}
+use Rattle.std.specs.Prelude.{Ok}
 use Rattle.plan.specs.declared.Plan.{Plan}
 use Rattle.plan.specs.Place.{place_of}
 use Rattle.margins.specs.Margin.{margin_of}
@@ -77,13 +78,13 @@ module _ (p : Plan) (id number R : ℕ) (quoted : Quoted p id number R) (can : C
 -- it as the margin.
 pub met_not_late :
     (p : Plan) (id number R : ℕ)
-    → task_verdict p id number ≡ Met R
+    → task_verdict p id number ≡ Ok (Met R)
     → CanStart p
     → (cs : List Call) (c : Call) (age : ℕ) (margin : ℤ)
     → answer_of c (play cs (start p)) ≡ Finished id number age margin
     → (age ≤ deadline_by p id number) × (margin ≡ pos (deadline_by p id number - age))
 met_not_late p id number R met can cs c age margin e =
-    let (t, m) = judged_means p id number {v = Met R} (λ n k q. (let z : ◌≡◌ {A = ℕ} 0 1 = cc in omega arith)) met in
+    let (t, m) = judged_means p id number met in
     let r = never_late p id number R (met_quoted p id number R met) can cs c age margin e in
     let in_time : age ≤ deadline_by p id number = omega (arith, r.0, m.in_time) in
     (in_time, r.1 ∙ margin_left (deadline_by p id number) age in_time)

@@ -7,6 +7,7 @@ use native.Mathlib.Nat.{mul-le-mul_right}
 use native.Mathlib.Decide.{dec_lt}
 use native.Mathlib.Omega.{arith}
 use lib.ListN.{length, length-append}
+use Rattle.std.specs.Prelude.{Ok}
 use Rattle.plan.specs.declared.Plan.{Plan}
 use Rattle.plan.specs.Place.{place_of}
 use Rattle.dispatcher.specs.declared.Dispatcher.{Dispatcher}
@@ -83,7 +84,7 @@ module _ (p : Plan) (can : CanStart p) (g x : ℕ) (in_plan : g < p.count) (G : 
 -- whatever was called.
 pub sure_of_capacity :
     (p : Plan) (id x : ℕ)
-    → guest_verdict p id ≡ Fitted x
+    → guest_verdict p id ≡ Ok (Fitted x)
     → CanStart p
     → (cs : List Call) (k : ℕ)
     → suc k * (guest_by p id).period ≤ ticks_in cs (start p)
