@@ -50,10 +50,6 @@ pub up_to_next : (f : ℕ → ℕ → ℕ) (n : ℕ) (l w : List ℕ) (v : ℕ) 
     → set w n v ≡ up_to f (n + 1) l
 up_to_next f n l w v e q = rw (e, q, e, up_to_rest f n l n (omega arith)) (up_to_step f n l)
 
--- the loop's end: n places were passed and no more
-pub up_to_done : (f : ℕ → ℕ → ℕ) (i n : ℕ) (l w : List ℕ) → w ≡ up_to f i l → i ≤ n → n ≤ i → w ≡ up_to f n l
-up_to_done f i n l w e p q = let h : i ≡ n = omega arith in rw (e, h) refl
-
 -- a place after a write holds what was written, or what it held
 pub set_get : (l : List ℕ) (i v k : ℕ) → (get_or (set l i v) k 0 ≡ v) ⊎ (get_or (set l i v) k 0 ≡ get_or l k 0)
 set_get l i v k =

@@ -132,10 +132,6 @@ pub first_none : (f : ℕ → Bool) (n k : ℕ) → n ≤ k → first_from f (n 
 unfolding first_from
 first_none f n k h = let q : n - k ≡ 0 = omega arith in rw q refl
 
--- a search over all places is one from the first place on
-pub first_all : (f : ℕ → Bool) (n : ℕ) → first_from f (n - 0) 0 ≡ first_from f n 0
-first_all f n = let q : n - 0 ≡ n = omega arith in rw q refl
-
 -- what was found passes
 found_by : (f : ℕ → Bool) (m k r : ℕ) (b : Bool) → f k ≡ b → (r < suc k + m → f r ≡ true) → pick b k r < k + suc m
     → f (pick b k r) ≡ true

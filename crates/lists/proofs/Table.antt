@@ -7,7 +7,7 @@ use native.Mathlib.Nat.{eq-or-lt_of_le}
 use native.Mathlib.Numerals.{add-one}
 use native.Mathlib.Omega.{arith}
 use lib.ListN.{length, get_or, set, drop, length-append}
-use lib.Seq.{drop-cons, set_at, get_or_at, drop-length}
+use lib.Seq.{drop-cons, set_at, get_or_at}
 use Rattle.lists.specs.Table.{table}
 
 -- a table has n elements
@@ -44,11 +44,6 @@ table_turn f d i x₀ x r l h e =
       set_at (table f i) (get_or x₀ i d) (drop (suc i) x₀) (f i) i (table_length f i),
       append_assoc,
     )
-
--- the loop's end: the whole list is filled
-pub table_done : {A : Type 0} (f : ℕ → A) (i : ℕ) (x₀ x : List A) → i ≡ length x₀ → x ≡ table f i ++ drop i x₀
-    → x ≡ table f (length x₀)
-table_done f i x₀ x e h = rw (h, e, drop-length, append-nil)
 
 -- functions that agree below n have one table
 pub table_ext : {A : Type 0} (f g : ℕ → A) (n : ℕ) → ((i : ℕ) → i < n → f i ≡ g i) → table f n ≡ table g n

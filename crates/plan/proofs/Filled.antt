@@ -1,7 +1,7 @@
 -- How a loop fills a column, and the columns of a plan. Assumes nothing.
 use mathlib.Core.Path.{◌≡◌, refl, ◌∙◌}
 use mathlib.Core.List.{List}
-use Prim.Native.Nat.{ℕ, ◌+◌, ◌≤◌, ◌<◌}
+use Prim.Native.Nat.{ℕ, ◌+◌, ◌<◌}
 use native.Mathlib.Omega.{arith}
 use Rattle.std.proofs.lemmas.Grind.{common_steps}
 use lib.ListN.{set, replicate, length-set}
@@ -20,10 +20,6 @@ filled_next f {r} k l c = record {
   long = length-set r k (f k) ∙ c.long;
   holds = λ z h. grind (arith, common_steps, c.holds z);
 }
-
--- a loop's end: an array that holds k numbers holds the first n of them
-pub filled_done : (f : ℕ → ℕ) {r : List ℕ} (k n : ℕ) → n ≤ k → Filled r f k → Filled r f n
-filled_done f k n h c = record { long = c.long; holds = λ z l. c.holds z (omega arith) }
 
 -- a loop's turn: one guest's numbers more are written
 pub columns_next : {gs : List Guest} {c : Columns} (k : ℕ) → k < 16 → ColumnsOf gs k c
