@@ -49,16 +49,6 @@ filled_columns g s {t} o =
       deadlines = rw o.deadline s.deadlines;
     }
 
--- fewer of them are too
-pub columns_fewer : {t : Tasks} {n m : ℕ} → ColumnsIn t n → m ≤ n → ColumnsIn t m
-columns_fewer s h = record {
-  few = omega (arith, s.few);
-  runs = λ i l. s.runs i (omega arith);
-  asks = λ i l. s.asks i (omega arith);
-  periods = λ i l. s.periods i (omega arith);
-  deadlines = λ i l. s.deadlines i (omega arith);
-}
-
 -- no J is more than the period
 pub filled_gaps : (is_bound : ℕ → Bool) (capacity period n : ℕ) → period ≤ longest → {late : List ℕ}
     → Filled late (λ i. gap_for (is_bound i) (period - capacity)) n → EachShort late n
@@ -79,10 +69,6 @@ module _ (g : Guest) (s : Servers) (k : ℕ) (q : Seated g s k) where
     tasks = filled_columns g q.tasks o;
     gaps = filled_gaps (is_bound g) g.capacity g.period t.count seated_server.short l;
   }
-
-  -- the guest and those above are in their ranges
-  pub seated_all : AboveIn s (k + 1)
-  seated_all = (omega (arith, q.place), (λ j h. (q.ranged j h).short, q.late))
 
   -- those above are
   pub seated_above : AboveIn s k

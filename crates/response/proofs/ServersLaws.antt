@@ -4,12 +4,11 @@ use mathlib.Core.Bool.{Bool, true, false}
 use mathlib.Core.List.{List}
 use Prim.Native.Nat.{ℕ, ◌-◌, ◌≤◌, ◌<◌}
 use native.Mathlib.Omega.{arith}
-use borrow.Author.Tests.{ne_eqb}
 use Rattle.lists.specs.Choice.{pick}
 use Rattle.plan.specs.Filled.{Filled, ColumnsOf}
 use Rattle.plan.specs.Ranges.{most_guests}
 use Rattle.plan.specs.Records.{guest_at}
-use Rattle.plan.specs.Server.{says_deferrable, is_deferrable}
+use Rattle.plan.specs.Server.{is_deferrable}
 use Rattle.plan.specs.declared.Columns.{Columns}
 use Rattle.plan.specs.declared.Guest.{Guest}
 use Rattle.response.specs.Columns.{ServersOf, jitter_at}
@@ -20,14 +19,6 @@ pub jitter_off : (gs : List Guest) (c : Columns) → ColumnsOf gs most_guests c 
     → jitter_at c.deferrable c.capacities c.periods k ≡ jitter (guest_at gs k)
 unfolding jitter_at jitter
 jitter_off gs c f k h = rw (f.deferrable.holds k h, f.capacities.holds k h, f.periods.holds k h) refl
-
--- a Periodic Server puts nothing off
-pub periodic_none : (deferrable x : ℕ) → deferrable < 1 → 0 ≡ pick (says_deferrable deferrable) x 0
-periodic_none deferrable x h = let e : deferrable ≡ 0 = omega arith in rw e refl
-
--- a Deferrable Server puts off the whole of it
-pub deferrable_whole : (deferrable x : ℕ) → 1 ≤ deferrable → x ≡ pick (says_deferrable deferrable) x 0
-deferrable_whole deferrable x h = rw (ne_eqb deferrable 0 (λ e. omega arith)) refl
 
 -- what is put off is at most the whole of it
 pick_most : (b : Bool) (x : ℕ) → pick b x 0 ≤ x

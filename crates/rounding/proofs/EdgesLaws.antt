@@ -143,10 +143,6 @@ module _ (cost every late : ℕ → ℕ) (n v : ℕ) where
         (rw q (sym (add-mul (m.count k) more (cost k))))
         little)
 
-  -- the loop's end: all edges have moved on
-  pub moving_done : {e : Edges} → Moving cost every late e.at n v e.sum n → Kept cost every late e n v
-  moving_done m = record { edges = m.passed; small = m.small; is = omega (arith, m.is); rest = m.rest }
-
 -- an array of zeros has no edges
 zeros : (k : ℕ) → nth (replicate 16 0) k ≡ 0
 zeros k =

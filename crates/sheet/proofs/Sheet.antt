@@ -65,14 +65,3 @@ taken_next {i} {d} {e} {after} {pairs} {before} {answers} h T r P =
           (ap (λ (z : Released). z.refusal.number) q
           ∙ ap (λ (s : Dispatcher). (pair_released s (nth pairs i)).refusal.number) T.state);
     }
-
--- All are.
-pub taken_all :
-    {i : ℕ} {d after : Dispatcher} {pairs before answers : List ℕ}
-    → i ≤ length pairs
-    → length pairs ≤ i
-    → TakenTo i d after pairs before answers
-    → AllTaken d after pairs before answers
-taken_all {i} {d} {after} {pairs} h l T =
-    let e : i ≡ length pairs = omega arith in
-    record { state = rw (← e) T.state; answer = rw (← e) T.answer }
