@@ -4,6 +4,7 @@ use mathlib.Core.List.{List}
 use Prim.Native.Nat.{ℕ}
 use Rattle.plan.specs.First.{refused}
 use Rattle.plan.specs.declared.Guest.{Guest}
+use Rattle.logblock.specs.declared.Entries.{Entries}
 use Rattle.plan.specs.declared.Plan.{Plan}
 use Rattle.plan.specs.declared.Refusal.{Refusal}
 use Rattle.planfile.specs.declared.Reading.{Reading}
@@ -12,7 +13,7 @@ use Rattle.coreshare.specs.declared.Verdict.{Verdict}
 use Rattle.coreshare.specs.declared.Told.{Told}
 use Rattle.coreshare.specs.declared.Tick.{Tick}
 use Rattle.coreshare.specs.declared.Run.{Run}
-use Rattle.coreshare.specs.Promises.{TellsGuest, TellsTask, TellsPlan, TellsCapacity, TellsGuestIn, TellsTaskIn, TellsPair, TellsCapacityIn, TellsTick, TellsRun, TellsReading, TellsCheck, TellsWrite, TellsPlace, TellsConverted}
+use Rattle.coreshare.specs.Promises.{TellsGuest, TellsTask, TellsPlan, TellsCapacity, TellsGuestIn, TellsTaskIn, TellsPair, TellsCapacityIn, TellsTick, TellsRun, TellsReading, TellsCheck, TellsWrite, TellsPlace, TellsConverted, TellsLog}
 use Rattle.plan.proofs.Promises.{one_outcome}
 
 -- Two outcomes that the promise of `cs_guest_verdict` permits coincide.
@@ -102,3 +103,9 @@ pub tells_converted_once : (s before : List ℕ) (r q : Refusal) (x y : List ℕ
     → TellsConverted s before q y
     → (r ≡ q) × (x ≡ y)
 tells_converted_once s before r q x y a b = (one_outcome a.0 b.0, one_outcome a.1 b.1)
+
+-- Two outcomes that the promise of `cs_write_log` permits coincide, and so do the bytes that they leave.
+pub tells_log_once : (es : Entries) (before : List ℕ) (r s : Refusal) (x y : List ℕ) → TellsLog es before r x
+    → TellsLog es before s y
+    → (r ≡ s) × (x ≡ y)
+tells_log_once es before r s x y a b = (one_outcome a.0 b.0, one_outcome a.1 b.1)

@@ -1,4 +1,4 @@
--- Ten exports tell an enum's case as a number, and five a refusal or its absence as a struct, and each promises its
+-- Ten exports tell an enum's case as a number, and six a refusal or its absence as a struct, and each promises its
 -- entry's outcome, told so. The others give what their entries give and carry the entries' own promises.
 use Rattle.std.specs.Prelude.{◌≡◌, List, ℕ, length}
 use Rattle.plan.specs.declared.Guest.{Guest}
@@ -13,6 +13,8 @@ use Rattle.conversion.specs.Outcome.{convert_refusal, converted_out}
 use Rattle.verdict.specs.Verdict.{guest_verdict, task_verdict, acceptance}
 use Rattle.capacity.specs.Answer.{smallest_capacity}
 use Rattle.amendment.specs.Verdict.{pair_or}
+use Rattle.logblock.specs.declared.Entries.{Entries}
+use Rattle.logblock.specs.Writing.{log_refusal, log_written}
 use Rattle.dispatcher.specs.declared.Dispatcher.{Dispatcher}
 use Rattle.dispatcher.specs.Entries.{tick, run}
 use Rattle.coreshare.specs.declared.Verdict.{Verdict}
@@ -79,3 +81,7 @@ TellsPlace s id r = r ≡ found_place s id
 -- `cs_convert` gives the refusal, or number 0, and settles every byte of the lent output.
 abbrev pub TellsConverted : (plan before : List ℕ) → Refusal → (after : List ℕ) → Type 0
 TellsConverted plan before r after = (r ≡ convert_refusal plan (length before)) × (after ≡ converted_out plan before)
+
+-- `cs_write_log` gives the refusal, or number 0, and settles every byte of the lent buffer.
+abbrev pub TellsLog : Entries → (before : List ℕ) → Refusal → (after : List ℕ) → Type 0
+TellsLog es before r after = (r ≡ log_refusal es (length before)) × (after ≡ log_written es before)

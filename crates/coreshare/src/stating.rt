@@ -1,16 +1,17 @@
-// Log blocks written, and statements of the jobs logged. Both cross as they are.
-ghost use Rattle.logblock.specs.Promises.{WritesLog};
+// Log blocks written, and statements of the jobs logged, which cross as they are.
+ghost use Rattle.coreshare.specs.Promises.{TellsLog};
 ghost use Rattle.statement.specs.Promises.{Extends};
 
+use crate::telling::tell_refusal;
 use logblock::Entries;
 use plan::Refusal;
 use statement::{Stated, Statement};
 
 #[unsafe(no_mangle)]
 pub extern "C" fn cs_write_log(jobs: Entries, buf: &mut [u8]) -> Refusal
-    ensures { WritesLog jobs buf.old result buf.new }
+    ensures { TellsLog jobs buf.old result buf.new }
 {
-    logblock::write_log(jobs, buf)
+    tell_refusal(logblock::write_log(jobs, buf))
 }
 
 #[unsafe(no_mangle)]

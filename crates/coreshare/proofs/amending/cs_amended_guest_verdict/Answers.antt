@@ -1,20 +1,12 @@
--- `coreshare::amending::cs_amended_guest_verdict` meets its contract: the refusal, or the plan's export. Assumes nothing.
-use mathlib.Core.Path.{◌∙◌}
-use Rattle.verdict.specs.Verdict.{guest_verdict}
-use Rattle.coreshare.specs.Told.{refusing, guest_told}
-use Rattle.amendment.proofs.Verdict.{pair_refuses, read_answers}
+-- `coreshare::amending::cs_amended_guest_verdict` meets its contract: the answer about the pair is told. Assumes nothing.
+use Rattle.std.proofs.Common.{refl, ap, ◌∙◌}
+use Rattle.coreshare.specs.Told.{guest_told}
+use Rattle.amendment.specs.Verdict.{pair_or, refusing_answer}
+use Rattle.plan.proofs.First.{refused_told}
 use Rattle.coreshare.proofs.amending.cs_amended_guest_verdict.Goals as goal
 
-pub returns-then-refusal-gt0 : goal.returns-then-refusal-gt0
-returns-then-refusal-gt0 c =
-    let a = c.args in
-    c.refuse.ensures
-    ∙ pair_refuses refusing a.plan.now a.sheet.now (λ p. guest_told (guest_verdict p a.id)) _ c.read-r.ensures.refusal
-    c.if-refusal-gt0.true
-
 pub returns : goal.returns
+unfolding pair_or guest_told
 returns c =
-    let a = c.args in
-    c.cs_guest_verdict.ensures
-    ∙ read_answers refusing a.plan.now a.sheet.now (λ p. guest_told (guest_verdict p a.id)) _ c.read-r.ensures
-    c.if-refusal-gt0.false
+    c.tell_guest.ensures ∙ ap guest_told c.guest_verdict.ensures
+    ∙ refused_told guest_told refusing_answer _ _ _ _ refl

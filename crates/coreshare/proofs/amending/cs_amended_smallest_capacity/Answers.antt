@@ -1,20 +1,12 @@
--- `coreshare::amending::cs_amended_smallest_capacity` meets its contract: the refusal, or the plan's export. Assumes nothing.
-use mathlib.Core.Path.{◌∙◌}
-use Rattle.capacity.specs.Answer.{smallest_capacity}
-use Rattle.coreshare.specs.Told.{refusing, capacity_told}
-use Rattle.amendment.proofs.Verdict.{pair_refuses, read_answers}
+-- `coreshare::amending::cs_amended_smallest_capacity` meets its contract: the answer about the pair is told. Assumes nothing.
+use Rattle.std.proofs.Common.{refl, ap, ◌∙◌}
+use Rattle.coreshare.specs.Told.{capacity_told}
+use Rattle.amendment.specs.Verdict.{pair_or, refusing_answer}
+use Rattle.plan.proofs.First.{refused_told}
 use Rattle.coreshare.proofs.amending.cs_amended_smallest_capacity.Goals as goal
 
-pub returns-then-refusal-gt0 : goal.returns-then-refusal-gt0
-returns-then-refusal-gt0 c =
-    let a = c.args in
-    c.refuse.ensures
-    ∙ pair_refuses refusing a.plan.now a.sheet.now (λ p. capacity_told (smallest_capacity p a.id)) _ c.read-r.ensures.refusal
-    c.if-refusal-gt0.true
-
 pub returns : goal.returns
+unfolding pair_or capacity_told
 returns c =
-    let a = c.args in
-    c.cs_smallest_capacity.ensures
-    ∙ read_answers refusing a.plan.now a.sheet.now (λ p. capacity_told (smallest_capacity p a.id)) _ c.read-r.ensures
-    c.if-refusal-gt0.false
+    c.tell_capacity.ensures ∙ ap capacity_told c.smallest_capacity.ensures
+    ∙ refused_told capacity_told refusing_answer _ _ _ _ refl
