@@ -10,15 +10,13 @@ use plan::{AsPlan, Guest, Refusal};
 use response::{Servers, all_fitted, guest_accepted, seat_of};
 
 // Whether all guests above place k are fitted, and g there is fitted with all its tasks met.
+#[tactic(auto, using(response::proofs::ReadyLaws::seated_above))]
 fn works(g: &Guest, servers: &Servers, k: usize) -> bool
     requires { Seated g.now servers.now k }
     ensures { result
         ≡ (all_to (fitted_of servers.now) k && accepted_under (above_of servers.now k) g.now) }
 {
-    if !all_fitted(servers, k) {
-        return false;
-    }
-    guest_accepted(servers, k, g)
+    all_fitted(servers, k) && guest_accepted(servers, k, g)
 }
 
 // What becomes of the guest with an id: its place, and the guest with its tasks by deadline; or the refusal.
