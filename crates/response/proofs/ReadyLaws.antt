@@ -70,7 +70,7 @@ module _ (g : Guest) (s : Servers) (k : ℕ) (q : Seated g s k) where
     gaps = filled_gaps (is_bound g) g.capacity g.period t.count seated_server.short l;
   }
 
-  -- those above are
+  -- those above are in their ranges
   pub seated_above : AboveIn s k
   seated_above = (
     omega (arith, q.place),

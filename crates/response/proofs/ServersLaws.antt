@@ -31,7 +31,8 @@ unfolding jitter
 jitter_most g = omega (arith, pick_most (is_deferrable g) (g.period - g.capacity))
 
 -- the jitters off the columns of a plan are those of its servers
-pub servers_are : (c : Columns) {jitters : List ℕ} → Filled jitters (jitter_at c.deferrable c.capacities c.periods) most_guests
+pub servers_are : (c : Columns) {jitters : List ℕ}
+    → Filled jitters (jitter_at c.deferrable c.capacities c.periods) most_guests
     → (gs : List Guest) → ColumnsOf gs most_guests c
     → ServersOf gs most_guests (record { capacities = c.capacities; periods = c.periods; jitters = jitters })
 servers_are c l gs f = record {

@@ -69,7 +69,8 @@ module _ (above : ℕ → ℕ) (capacity period l room : ℕ) (some : 1 ≤ capa
       rw e refl
 
   -- The last server period, after m whole ones: p is where it starts, and left what is left for it.
-  module _ {m p left : ℕ} (hm : m ≡ server_periods l capacity - 1) (hs : p ≡ m * period) (hr : left ≡ l - m * capacity) where
+  module _ {m p left : ℕ} (hm : m ≡ server_periods l capacity - 1) (hs : p ≡ m * period)
+      (hr : left ≡ l - m * capacity) where
     -- where it starts
     hp : p ≡ before capacity period l
     hp = hs ∙ ap (λ (k : ℕ). k * period) hm
@@ -97,7 +98,8 @@ module _ (above : ℕ → ℕ) (capacity period l room : ℕ) (some : 1 ≤ capa
     window_missing e = rw (← hp, ← hl, ← e) refl
 
     -- the window, off what was found in the last server period
-    pub window_is : (v : ℕ) → Some v ≡ guest_under above left (room - p) → Some (p + v) ≡ window_of above capacity period l room
+    pub window_is : (v : ℕ) → Some v ≡ guest_under above left (room - p)
+        → Some (p + v) ≡ window_of above capacity period l room
     unfolding window_of response_of
     window_is v e = let q : p + v ≡ v + p = omega arith in rw (← hp, ← hl, ← e, q) refl
 
@@ -105,7 +107,8 @@ module _ (above : ℕ → ℕ) (capacity period l room : ℕ) (some : 1 ≤ capa
     pub window_within : (v : ℕ) → p ≤ room → Some v ≡ guest_under above left (room - p) → p + v ≤ room
     unfolding guest_under
     window_within v h e =
-        let o : Solved (guest_side above left) (room - p) v = rw (← e) at (solve_answers (guest_side above left) (room - p)) in
+        let o : Solved (guest_side above left) (room - p) v =
+        rw (← e) at (solve_answers (guest_side above left) (room - p)) in
         omega (arith, o.high)
 
   -- no window: nothing was found in the last server period
@@ -137,7 +140,8 @@ module _ (above : ℕ → ℕ) (capacity period l room : ℕ) (some : 1 ≤ capa
           let k : Some r ≡ None = e ∙ ap (λ (g : Option ℕ). later (before capacity period l) g) q in
           absurd cc
       go (Some v) q a =
-          let k : Some r ≡ Some (v + before capacity period l) = e ∙ ap (λ (g : Option ℕ). later (before capacity period l) g) q in
+          let k : Some r ≡ Some (v + before capacity period l) =
+          e ∙ ap (λ (g : Option ℕ). later (before capacity period l) g) q in
           let b : r ≡ v + before capacity period l = cc in
           (v, q, omega arith, omega (arith, a.low, a.high))
 

@@ -21,7 +21,7 @@ fn whole_of(load: u32, capacity: u32) -> u32
     quotient(load, capacity) - 1
 }
 
-// Where what is left of a load begins to climb in its last server period, which starts at p: at w, once that is further.
+// Where what is left of a load begins to climb in its last server period, which starts at p: at w, once that is later.
 fn begun(p: u32, left: u32, w: u32) -> u32
     ensures { (result ≡ left) ⊎ ((p < w) × (result ≡ w - p)) }
 {
@@ -38,7 +38,8 @@ fn window_of(
     w: u32,
     room: u32,
 ) -> Option<u32>
-    requires above_in { AboveIn servers.now n × (((1 ≤ capacity) × (capacity ≤ period)) × ((1 ≤ load) × (room ≤ longest))) }
+    requires above_in { AboveIn servers.now n
+        × (((1 ≤ capacity) × (capacity ≤ period)) × ((1 ≤ load) × (room ≤ longest))) }
     requires rising { before capacity period load < w
         → Rising (guest_side (above_of servers.now n) (rest capacity load))
         (w - before capacity period load) }

@@ -12,13 +12,15 @@ use Rattle.response.proofs.met.first_unmet.Goals as goal
 pub loop-i-init : goal.loop-i-init
 loop-i-init c = (
   met_none (system_at _ _ _ _ c.args.tasks.now _) _ _ _ c.requires.above_in.1,
-  λ h. begins_fresh (system_at _ _ _ _ c.args.tasks.now _) (take_grows c.args.servers.now c.args.k) _ (c.requires.by_index _ h) (c.none-edges.ensures _ _ _ _ _),
+  λ h. begins_fresh (system_at _ _ _ _ c.args.tasks.now _) (take_grows c.args.servers.now c.args.k) _
+      (c.requires.by_index _ h) (c.none-edges.ensures _ _ _ _ _),
 )
 
 pub returns-in-None : goal.returns-in-None
 returns-in-None c =
     met_ends c.loop-i.invariant.0
-    (λ h. sym (ap is_some (finds_none (system_at _ _ _ _ c.args.tasks.now _) _ (nth c.args.tasks.now.deadline c.loop-i.i) c.in-None.ensures)))
+    (λ h. sym (ap is_some
+    (finds_none (system_at _ _ _ _ c.args.tasks.now _) _ (nth c.args.tasks.now.deadline c.loop-i.i) c.in-None.ensures)))
 
 pub loop-i-preserved : goal.loop-i-preserved
 loop-i-preserved c =

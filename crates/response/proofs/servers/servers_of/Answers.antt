@@ -10,4 +10,6 @@ unfolding jitter_at
 loop-k-preserved c = rw c.jitter_for.ensures (filled_next _ _ (omega arith) c.loop-k.invariant)
 
 pub returns : goal.returns
-returns c = servers_are c.args.columns.now record { long = c.loop-k.invariant.long; holds = λ k h. c.loop-k.invariant.holds k (omega arith) }
+returns c =
+    let l = c.loop-k.invariant in
+    servers_are c.args.columns.now record { long = l.long; holds = λ k h. l.holds k (omega arith) }

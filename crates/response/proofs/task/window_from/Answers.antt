@@ -12,8 +12,8 @@ use Rattle.response.proofs.task.window_from.Goals as goal
 
 pub returns-then-most-gap : goal.returns-then-most-gap
 returns-then-most-gap c =
-    finds_late (system_at _ _ _ _ c.args.tasks.now c.args.late.now) c.args.i (c.args.most - nth c.args.late.now c.args.i) _ 1
-    (omega arith) (λ z h e. h)
+    finds_late (system_at _ _ _ _ c.args.tasks.now c.args.late.now) c.args.i
+    (c.args.most - nth c.args.late.now c.args.i) _ 1 (omega arith) (λ z h e. h)
 
 pub returns-then-room-from : goal.returns-then-room-from
 returns-then-room-from c =
@@ -88,8 +88,8 @@ pub returns-then-more-load : goal.returns-then-more-load
 returns-then-more-load c =
     search_found c.loop-next.invariant _ c.in_ok-next.ensures _ _
     c.move_on-in-loop-next.ensures
-    (load_is (system_at c.args.servers.now c.args.n _ _ c.args.tasks.now c.args.late.now) c.args.i _ _ _ c.from-own.ensures
-    c.move_on-in-loop-next.ensures.is)
+    (load_is (system_at c.args.servers.now c.args.n _ _ c.args.tasks.now c.args.late.now) c.args.i _ _ _
+    c.from-own.ensures c.move_on-in-loop-next.ensures.is)
     (omega arith)
 
 pub loop-next-smaller : goal.loop-next-smaller
@@ -99,5 +99,5 @@ pub loop-next-preserved : goal.loop-next-preserved
 loop-next-preserved c =
     search_turn c.loop-next.invariant _ c.in_ok-next.ensures _ _
     c.move_on-in-loop-next.ensures
-    (load_is (system_at c.args.servers.now c.args.n _ _ c.args.tasks.now c.args.late.now) c.args.i _ _ _ c.from-own.ensures
-    c.move_on-in-loop-next.ensures.is)
+    (load_is (system_at c.args.servers.now c.args.n _ _ c.args.tasks.now c.args.late.now) c.args.i _ _ _
+    c.from-own.ensures c.move_on-in-loop-next.ensures.is)

@@ -7,4 +7,6 @@ use Rattle.response.proofs.tasks.tasks_of.Goals as goal
 pub overflow_cast-run : goal.overflow_cast-run
 overflow_cast-run c =
     let g = c.args.g.now in
-    omega (arith, c.charged_run.ensures, charged_most (run_of g c.loop-i.i) g.charge (c.requires.runs c.loop-i.i (omega arith)) (omega arith))
+    let most =
+    charged_most (run_of g c.loop-i.i) g.charge (c.requires.runs c.loop-i.i (omega arith)) (omega arith) in
+    omega (arith, c.charged_run.ensures, most)
