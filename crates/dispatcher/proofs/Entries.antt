@@ -6,7 +6,11 @@ use Prim.Native.Nat.{ℕ, zero, suc, ◌≤◌, ◌<◌}
 use native.Mathlib.Omega.{arith}
 use borrow.Author.Tests.{le-leb, lt-leb}
 use Rattle.lists.specs.Choice.{pick}
+use Rattle.std.specs.Prelude.{Result, Ok, Err, unwrap_or}
+use Rattle.std.specs.Result.{result_err, result_unwrap_or}
 use Rattle.plan.specs.First.{refused, fine}
+use Rattle.dispatcher.specs.declared.RunOutcome.{RunOutcome}
+use Rattle.dispatcher.specs.InPlace.{ran_in}
 use Rattle.dispatcher.specs.declared.Dispatcher.{Dispatcher}
 use Rattle.steps.specs.declared.Turn.{Turn}
 use Rattle.dispatcher.specs.declared.Answer.{Answer}
@@ -53,7 +57,7 @@ module _ {d after : Dispatcher} {n done : ℕ} {t : Turn} (e : state_ok d ≡ tr
   run_done l q = rw (q, ← last_some done g.before l) (sym g.ran ∙ run_is d n e h)
 
 -- what a run says of its last tick
-abbrev tick_of : Ran → Ticked
+abbrev pub tick_of : Ran → Ticked
 tick_of r = record { refusal = r.refusal; answer = r.answer; state = r.state }
 
 -- A run of one tick ends after it, whether it finishes a job or not.
@@ -73,3 +77,15 @@ tick_of_run d e = rw e (go (state_ok d) refl)
     go : (b : Bool) → state_ok d ≡ b → tick_of (run d 1) ≡ tick d
     go true h = rw (← run_is d 1 h (omega arith), go_on 14 _ h ∙ none_left) (run_one d)
     go false h = rw (← run_refused d 1 h, stop 14 _ h) refl
+
+-- What a run in place says of its last tick, told by its number, which is 0 where nothing refuses it.
+pub tick_told : (r : Result RunOutcome ℕ) (d : Dispatcher)
+    → ◌≡◌ {A = Ticked}
+    (record {
+      refusal = refused (unwrap_or (result_err r) 0) 0;
+      answer = (result_unwrap_or r (record { done = 0; answer = Silent })).answer;
+      state = d;
+    })
+    (tick_of (ran_in r d))
+tick_told (Ok o) d = refl
+tick_told (Err n) d = refl

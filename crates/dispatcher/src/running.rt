@@ -12,6 +12,12 @@ use steps::steps;
 // The longest run, in ticks.
 const LONGEST_RUN: u32 = 1000000;
 
+// What a run gives that does no tick, refused or not.
+pub const NO_TICK: RunOutcome = RunOutcome {
+    done: 0,
+    answer: Answer::Silent,
+};
+
 // A run in place, over a state that is lent beside its plan: where it is refused the state comes back as it was.
 pub fn run_in<P: AsPlan>(
     plan: &P,
@@ -48,10 +54,7 @@ pub fn run_in<P: AsPlan>(
     let n = plan.count() as usize;
     let went = steps(left, position, rest, wait, age, usage, &columns, n, ticks);
     if went.done < 1 {
-        return Ok(RunOutcome {
-            done: 0,
-            answer: Answer::Silent,
-        });
+        return Ok(NO_TICK);
     }
     if went.turn.had == 1 {
         return Ok(RunOutcome {
@@ -79,22 +82,15 @@ impl Dispatcher {
             &mut self.usage,
             ticks,
         );
-        match ran {
-            Ok(outcome) => Ran {
-                refusal: Refusal {
-                    number: 0,
-                    place: 0,
-                },
-                done: outcome.done,
-                answer: outcome.answer,
-                state: self,
+        let outcome = ran.unwrap_or(NO_TICK);
+        Ran {
+            refusal: Refusal {
+                number: ran.err().unwrap_or(0),
+                place: 0,
             },
-            Err(number) => Ran {
-                refusal: Refusal { number, place: 0 },
-                done: 0,
-                answer: Answer::Silent,
-                state: self,
-            },
+            done: outcome.done,
+            answer: outcome.answer,
+            state: self,
         }
     }
 }

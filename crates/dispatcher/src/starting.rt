@@ -55,18 +55,18 @@ impl Dispatcher {
     pub fn fresh(plan: Plan) -> Started
         ensures { Starts plan result }
     {
-        match start_check(&plan) {
-            Ok(()) => Started {
-                refusal: Refusal {
-                    number: 0,
-                    place: 0,
-                },
-                state: idle_of(plan),
-            },
-            Err(refusal) => Started {
+        if let Err(refusal) = start_check(&plan) {
+            return Started {
                 refusal,
                 state: idle_of(plan::blank_plan()),
+            };
+        }
+        Started {
+            refusal: Refusal {
+                number: 0,
+                place: 0,
             },
+            state: idle_of(plan),
         }
     }
 }

@@ -1,17 +1,31 @@
 // One tick: a run of one.
 ghost use Rattle.dispatcher.specs.Promises.{Ticks};
 
+use crate::running::{NO_TICK, run_in};
 use crate::{Dispatcher, Ticked};
+use plan::Refusal;
 
 impl Dispatcher {
-    pub fn tick(self) -> Ticked
+    pub fn tick(mut self) -> Ticked
         ensures { Ticks self result }
     {
-        let ran = self.run(1);
+        let ran = run_in(
+            &self.plan,
+            &mut self.left,
+            &mut self.position,
+            &mut self.rest,
+            &mut self.wait,
+            &mut self.age,
+            &mut self.usage,
+            1,
+        );
         Ticked {
-            state: ran.state,
-            refusal: ran.refusal,
-            answer: ran.answer,
+            refusal: Refusal {
+                number: ran.err().unwrap_or(0),
+                place: 0,
+            },
+            answer: ran.unwrap_or(NO_TICK).answer,
+            state: self,
         }
     }
 }
