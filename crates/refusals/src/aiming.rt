@@ -24,7 +24,7 @@ fn aim_at(g: &Guest, k: usize, task: u32, lent: &Lent) -> Result<Aim, u32>
     ensures { AimsAt g.now k task (nth lent.now.position.now k) lent.now.rest.now
         lent.now.wait.now result }
 {
-    if (task < 1) | (g.tasks < task) {
+    if !plan::has_task(g.tasks, task) {
         return Err(8);
     }
     let t = (task - 1) as usize;

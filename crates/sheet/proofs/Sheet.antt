@@ -2,9 +2,8 @@
 use mathlib.Core.Path.{◌≡◌, refl, ap, ◌∙◌}
 use mathlib.Core.Bool.{true}
 use mathlib.Core.List.{List, ◌++◌}
-use Prim.Native.Nat.{ℕ, zero, suc, ◌+◌, ◌≤◌, ◌<◌}
+use Prim.Native.Nat.{ℕ, zero, suc, ◌+◌, ◌<◌}
 use native.Mathlib.Numerals.{add-one}
-use native.Mathlib.Omega.{arith}
 use lib.ListN.{length, set, drop}
 use Rattle.lists.specs.Places.{nth}
 use Rattle.lists.specs.Table.{table}
@@ -13,7 +12,6 @@ use Rattle.dispatcher.specs.Valid.{state_ok}
 use Rattle.sheet.specs.Sheet.{pair_guest, pair_task, pair_released, state_after, answer_to}
 use Rattle.dispatcher.specs.declared.Released.{Released}
 use Rattle.dispatcher.specs.InPlace.{released_in}
-use Rattle.sheet.specs.Lent.{AllTaken}
 use Rattle.std.specs.Prelude.{Result, unwrap_or}
 use Rattle.std.specs.Result.{result_err}
 use Rattle.dispatcher.proofs.Release.{told_by_number}
