@@ -13,13 +13,10 @@ use Rattle.verdict.specs.Verdict.{guest_verdict, task_verdict, acceptance}
 use Rattle.capacity.specs.Answer.{smallest_capacity}
 use Rattle.amendment.specs.Pair.{pair_refusal}
 use Rattle.amendment.specs.Amended.{amended}
+use Rattle.amendment.specs.Verdict.{refusing_answer}
 use Rattle.amendment_laws.specs.Replaced.{Fine, replaced, AnsweredAs}
 use Rattle.amendment.proofs.Pair.{PairIn, pair_in, plan_fine}
 use Rattle.amendment.proofs.Verdict.{pair_answers}
-use Rattle.verdict.specs.declared.GuestVerdict.TheVariants as guest
-use Rattle.verdict.specs.declared.TaskVerdict.TheVariants as task
-use Rattle.verdict.specs.declared.Acceptance.TheVariants as plans
-use Rattle.capacity.specs.declared.CapacityAnswer.TheVariants as capacity
 use Rattle.amendment_laws.proofs.Replaced as bytes
 
 module _ (plan sheet : List ℕ) (ok : Fine plan sheet) where
@@ -43,10 +40,10 @@ module _ (plan sheet : List ℕ) (ok : Fine plan sheet) where
   -- Each answer is the one about the amended plan.
   pub as_amended : AnsweredAs plan sheet (amended plan sheet)
   as_amended = record {
-    guest = λ id. sym (pair_answers guest.Refused plan sheet (λ p. guest_verdict p id) _ refl none);
-    task = λ id number. sym (pair_answers task.Refused plan sheet (λ p. task_verdict p id number) _ refl none);
-    accepted = sym (pair_answers plans.Refused plan sheet acceptance _ refl none);
-    capacity = λ id. sym (pair_answers capacity.Refused plan sheet (λ p. smallest_capacity p id) _ refl none);
+    guest = λ id. sym (pair_answers refusing_answer plan sheet (λ p. guest_verdict p id) _ refl none);
+    task = λ id number. sym (pair_answers refusing_answer plan sheet (λ p. task_verdict p id number) _ refl none);
+    accepted = sym (pair_answers refusing_answer plan sheet acceptance _ refl none);
+    capacity = λ id. sym (pair_answers refusing_answer plan sheet (λ p. smallest_capacity p id) _ refl none);
   }
 
   -- The plan by another name.
