@@ -10,7 +10,8 @@ use crate::{Servers, Tasks};
 use rounding::Edges;
 
 // The first task from `from` on of a fitted guest that is not met, or the number of its tasks: the search for each
-// begins where that for the task above ended.
+// begins where that for the task above ended. What a try of a capacity changes, itself and the J of each task, is handed
+// beside what it does not change, so that a search copies nothing for a capacity that it tries.
 pub fn first_unmet(
     servers: &Servers,
     k: usize,

@@ -62,7 +62,7 @@ fn window_of(
 
 // The least window of task i of a fitted guest that makes a response of at most `most`: the recurrence, from `from` on,
 // where the search for the task above may have ended, with the edges of the tasks above. It goes from load to window and
-// back, until the load stays.
+// back, until the load stays. What a search for a capacity changes is handed by itself, as in `first_unmet`.
 pub fn window_from(
     servers: &Servers,
     n: usize,

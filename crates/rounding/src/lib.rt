@@ -50,7 +50,8 @@ impl Edges {
     }
 
     // Those of the first n, each put off by its own number in `late`, moved on to a window of v ticks: an edge that the
-    // window has passed moves, and the sum with it.
+    // window has passed moves, and the sum with it. No one struct holds the three columns: they are those of servers, or
+    // of tasks with what each meets of a gap beside.
     pub fn move_on(
         &mut self,
         cost: &[u32; 16],
