@@ -18,7 +18,8 @@ pub const NO_TICK: RunOutcome = RunOutcome {
     answer: Answer::Silent,
 };
 
-// A run in place, over a state that is lent beside its plan: where it is refused the state comes back as it was.
+// A run in place, over a state that is lent beside its plan: where it is refused the state comes back as it was. The
+// arrays are lent one by one, as those of `steps::steps` are.
 pub fn run_in<P: AsPlan>(
     plan: &P,
     left: &mut [u32; 8],

@@ -24,7 +24,7 @@ fn idle_of(plan: Plan) -> Dispatcher
     }
 }
 
-// A fresh start in place, over a state that is lent beside its plan: where it is refused the state comes back as it was.
+// A fresh start in place, over a state that is lent beside its plan: a refused one leaves the state as it was.
 pub fn start_in<P: AsPlan>(
     plan: &P,
     left: &mut [u32; 8],
