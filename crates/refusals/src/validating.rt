@@ -51,8 +51,8 @@ fn blanks_ok(n: usize, lent: &Lent) -> bool
     ok
 }
 
-// Whether a state is in its ranges; the columns of its plan's guests are then in those that are lent. They are lent since
-// a tick and a release in place have little stack, on which an Option of them would stand three times.
+// Whether a state is in its ranges; the columns of its plan's guests are then in those that are lent. These are lent
+// since a tick and a release in place have little stack, on which an Option of columns would stand three times.
 #[tactic(auto, unfolding(crate::specs::Check::passes))]
 pub fn examine_into<P: AsPlan>(plan: &P, lent: &Lent, columns: &mut Columns) -> bool
     ensures { Examined (P.plan plan.now) lent.now.left.now lent.now.position.now
