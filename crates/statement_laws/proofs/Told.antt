@@ -1,5 +1,6 @@
 -- What a tenant may read off a statement whose entries the dispatcher told: the word of demand 3, in figures. Assumes
 -- nothing.
+use Rattle.std.specs.Prelude.{Ok}
 use mathlib.Core.Path.{◌≡◌, refl, ◌∙◌}
 use mathlib.Core.Bool.{Bool, true, false}
 use mathlib.Core.List.{List, [], ◌∷◌}
@@ -129,7 +130,7 @@ module _ (plan : List ℕ) (logs : List (List ℕ)) (can : CanStart (read_of pla
 
   -- A task is met: none is late in its line.
   pub met_none_late :
-      task_verdict (read_of plan).plan id number ≡ Met R
+      task_verdict (read_of plan).plan id number ≡ Ok (Met R)
       → nth (statement_after plan logs empty).late (task_line (read_of plan).plan id number) ≡ 0
   met_none_late met =
       let p : Plan = (read_of plan).plan in
