@@ -21,7 +21,9 @@ module _ (plan sheet : List ℕ) where
   finds_once id r q = one_outcome
 
   -- `guest_verdict` has one outcome.
-  pub guest_once : (id : ℕ) (r q : Result GuestVerdict Refusal) → GuestJudgedIn plan sheet id r → GuestJudgedIn plan sheet id q → r ≡ q
+  pub guest_once : (id : ℕ) (r q : Result GuestVerdict Refusal) → GuestJudgedIn plan sheet id r
+      → GuestJudgedIn plan sheet id q
+      → r ≡ q
   guest_once id r q = one_outcome
 
   -- `task_verdict` has one outcome.

@@ -16,7 +16,8 @@ use Rattle.plan.proofs.First.{refused_told}
 
 module _ (plan sheet : List ℕ) where
   -- What `guest_verdict` tells.
-  pub guest_told_lem : (id : ℕ) (r : Result GuestVerdict Refusal) → GuestJudgedIn plan sheet id r → GuestTellsIn plan sheet id r
+  pub guest_told_lem : (id : ℕ) (r : Result GuestVerdict Refusal) → GuestJudgedIn plan sheet id r
+      → GuestTellsIn plan sheet id r
   unfolding pair_or guest_told
   guest_told_lem id r e = ap guest_told e ∙ refused_told guest_told refusing_answer _ _ _ _ refl
 

@@ -1,5 +1,5 @@
-// The pair of a plan and an amendment sheet: the refusal, or the answer for the amended plan. As with plans, of what the
-// finder gives the place alone crosses.
+// The pair of a plan and an amendment sheet: the refusal, or the answer for the amended plan. As with plans, of what
+// the finder gives the place alone crosses.
 ghost use Rattle.amendment.specs.Promises.{LocatesIn};
 ghost use Rattle.coreshare.specs.Promises.{TellsGuestIn, TellsTaskIn, TellsPair, TellsCapacityIn};
 

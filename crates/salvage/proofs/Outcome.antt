@@ -35,7 +35,8 @@ listed_most size =
     ]
 
 -- Where the file is not too long, the output has room and a block is kept, nothing is refused.
-pub none : (size kept room : ℕ) → size ≤ most_bytes → block_size * kept ≤ room → 1 ≤ kept → 0 ≡ salvage_number size kept room
+pub none : (size kept room : ℕ) → size ≤ most_bytes → block_size * kept ≤ room → 1 ≤ kept
+    → 0 ≡ salvage_number size kept room
 unfolding salvage_number
 none size kept room s r h =
     sym
@@ -110,10 +111,12 @@ module _ {s : List ℕ} {n : ℕ} {t : Sifted} (g : GoneThrough s n t) where
         let e = err_number (salvage_number (length s) (length t.kept) (length before)) (tt {0}) q in
         let z : x ≡ number_of s (length before) = rw kept_is at e.0 in
         let w =
-        written_none (number_of s (length before)) (length (kept_in s)) (moved_up s (kept_in s)) before (omega (arith, z, e)) in
+        written_none (number_of s (length before)) (length (kept_in s)) (moved_up s (kept_in s)) before
+        (omega (arith, z, e)) in
         (rw (list_is, z, g.whole, ← w.0) refl, w.1)
 
-    module _ {w : Unit {0}} (q : Ok w ≡ unless_number (salvage_number (length s) (length t.kept) (length before)) (tt {0})) where
+    module _ {w : Unit {0}}
+        (q : Ok w ≡ unless_number (salvage_number (length s) (length t.kept) (length before)) (tt {0})) where
       no_number : salvage_number (length s) (length t.kept) (length before) ≡ 0
       no_number = (ok_number (salvage_number (length s) (length t.kept) (length before)) q).0
 

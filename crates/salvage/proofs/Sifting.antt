@@ -53,7 +53,9 @@ module _ (s : List ℕ) (k : ℕ) {kept : List ℕ} {fates : List Fate} (t : Sta
         let z : x ≡ drop_number s k = rw t.places at e.0 in
         record {
           places = rw (add-one k, dropped_on s k (omega (arith, e.1))) t.places;
-          list = fates_next s k fates (record { number = x; place = 0 }) h t.list (dropped x (new_place s k) (omega (arith, e)) ∙ rw z refl);
+          list =
+              fates_next s k fates (record { number = x; place = 0 }) h t.list
+              (dropped x (new_place s k) (omega (arith, e)) ∙ rw z refl);
         }
       where
         dropped : (x place : ℕ) → 0 < x → record { number = x; place = 0 } ≡ fate_by x place

@@ -63,7 +63,9 @@ module _ (p : Plan) (b : List ℕ) where
     pub aims_line :
         {line : ℕ} → n < 41 → Ok line ≡ aim_of p (entry_in b n) → Aims (n + 1) (set at n line) tasks
     aims_line {line} h e =
-        let w = line_says (has_guest p (entry_in b n).guest) (has_task p (entry_in b n).guest (entry_in b n).task) _ e in
+        let g = has_guest p (entry_in b n).guest in
+        let t = has_task p (entry_in b n).guest (entry_in b n).task in
+        let w = line_says g t _ e in
         record {
           long = length-set at n line ∙ A.long;
           guests = all_next _ n A.guests w.0;
@@ -82,7 +84,9 @@ module _ (p : Plan) (b : List ℕ) where
     -- One more has no task.
     pub aims_no_task : Err 8 ≡ aim_of p (entry_in b n) → Aims (n + 1) at false
     aims_no_task e =
-        let w = task_says (has_guest p (entry_in b n).guest) (has_task p (entry_in b n).guest (entry_in b n).task) _ e in
+        let g = has_guest p (entry_in b n).guest in
+        let t = has_task p (entry_in b n).guest (entry_in b n).task in
+        let w = task_says g t _ e in
         record {
           long = A.long;
           guests = all_next _ n A.guests w.0;
@@ -99,7 +103,9 @@ module _ (p : Plan) (b : List ℕ) where
         → (0 < x) × (x ≡ missing p b m)
     unfolding missing
     aims_no_guest {m} h e q =
-        let w = guest_says (has_guest p (entry_in b n).guest) (has_task p (entry_in b n).guest (entry_in b n).task) _ e q in
+        let g = has_guest p (entry_in b n).guest in
+        let t = has_task p (entry_in b n).guest (entry_in b n).task in
+        let w = guest_says g t _ e q in
         (omega (arith, w.1), w.1 ∙ sym (stop 7 _ (sym (all_fails _ m n h w.0))))
 
   -- All were: they have their lines, or a task is missing.

@@ -65,7 +65,9 @@ module _ (p : Plan) (blocks : ℕ) (b : List ℕ) where
       -- Nothing is against it.
       pub none : blocks < most_blocks → 0 ≡ block_number p blocks b
       none h =
-          sym (then_plan ∙ go_on 7 _ A.guests ∙ go_on 8 _ A.tasks ∙ go_on 19 [] (lt-ltb blocks most_blocks h) ∙ none_left)
+          sym
+          (then_plan ∙ go_on 7 _ A.guests ∙ go_on 8 _ A.tasks ∙ go_on 19 [] (lt-ltb blocks most_blocks h)
+          ∙ none_left)
 
   -- A block that is taken: it passes its own tests, all its guests and tasks are there, and there is room for it.
   pub record TakenIn : Type 0 where
@@ -143,6 +145,7 @@ module _ {p : Plan} {c : Columns} {deadlines : List ℕ} (C : PlanColumns p c de
     pub taken_number : Ok (tt {0}) ≡ unless_number (block_number p s.blocks b) (tt {0})
     taken_number = rw (← none p s.blocks b B A h) refl
 
-    pub taken_after : {after : Statement} → after ≡ entries_counted p b (jobs_in b) s → one_more after ≡ after_block p b s
+    pub taken_after : {after : Statement} → after ≡ entries_counted p b (jobs_in b) s
+        → one_more after ≡ after_block p b s
     unfolding block_counted taken_by
     taken_after e = rw (← none p s.blocks b B A h, e) refl

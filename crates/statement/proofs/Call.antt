@@ -49,10 +49,12 @@ module _ (s : Statement) (plan log : List ℕ) where
     unfolding call_refusal
     then_tests e =
         rw (← e)
-        (or_after (file_refusal plan).number (file_refusal plan).place (refused (refusal tests) 0) (omega (arith, well)))
+        (or_after (file_refusal plan).number (file_refusal plan).place (refused (refusal tests) 0)
+        (omega (arith, well)))
 
     -- The running statement is not in its ranges.
-    pub state_refused : statement_ok s ≡ false → Err (refused 14 0) ≡ unless_refused (call_refusal s plan log) (read_of plan).plan
+    pub state_refused : statement_ok s ≡ false
+        → Err (refused 14 0) ≡ unless_refused (call_refusal s plan log) (read_of plan).plan
     state_refused ok = err_unless (call_refusal s plan log) _ (then_tests (stop 14 _ ok)) (omega arith)
 
     module _ (ok : statement_ok s ≡ true) where
@@ -65,7 +67,8 @@ module _ (s : Statement) (plan log : List ℕ) where
           (omega arith)
 
       -- Nothing is refused.
-      pub none_refused : length log % block_size ≡ 0 → Ok p ≡ unless_refused (call_refusal s plan log) (read_of plan).plan
+      pub none_refused : length log % block_size ≡ 0
+          → Ok p ≡ unless_refused (call_refusal s plan log) (read_of plan).plan
       none_refused z =
           let none = then_tests (go_on 14 _ ok ∙ go_on 1 [] (eq-eqb (length log % block_size) 0 z) ∙ none_left) in
           let h = ap (λ (x : Refusal). x.number) none in
@@ -94,7 +97,8 @@ module _ (s : Statement) (plan log : List ℕ) where
     -- A call that is not refused: the plan is in order, and the running statement in its ranges.
     pub plan_passes : (plan_refusal p).number ≡ 0
     unfolding read_of
-    plan_passes = rw (ok_says (call_refusal s plan log) q).1 (ap (λ (x : Refusal). x.number) (read_passes plan passes.0))
+    plan_passes =
+        rw (ok_says (call_refusal s plan log) q).1 (ap (λ (x : Refusal). x.number) (read_passes plan passes.0))
 
     pub state_passes : statement_ok s ≡ true
     state_passes = (passed (statement_ok s) 14 _ (omega arith) passes.1).0

@@ -132,7 +132,8 @@ module _ (p : Plan) (b : List ℕ) where
 
   next_counted :
       (n : ℕ) (s : Statement)
-      → counted_at (line_of p (entry_in b n)) (deadline_for p (entry_in b n)) (entry_in b n).age (entries_counted p b n s)
+      → counted_at (line_of p (entry_in b n)) (deadline_for p (entry_in b n)) (entry_in b n).age
+      (entries_counted p b n s)
       ≡ entries_counted p b (n + 1) s
   unfolding entries_counted
   next_counted n s = rw add-one refl

@@ -155,7 +155,13 @@ module _ (p : Plan) (log : List ℕ) (s : Statement) where
       -- The block is passed over, and is not the first.
       pub log_again :
           0 < t.number
-          → record { refusal = t.refusal; statement = after; passed = t.passed + 1; position = t.position; number = t.number }
+          → record {
+            refusal = t.refusal;
+            statement = after;
+            passed = t.passed + 1;
+            position = t.position;
+            number = t.number;
+          }
           ≡ stated_over p log (k + 1) s
       log_again l =
           let y : 0 < (first_passed p log s k).number = rw T at l in

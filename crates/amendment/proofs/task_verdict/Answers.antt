@@ -13,4 +13,5 @@ returns-in_err-read c =
 pub returns : goal.returns
 returns c =
     c.task_verdict.ensures
-    ∙ read_answers refusing_answer c.args.plan.now c.args.sheet.now (λ p. task_verdict p c.args.id c.args.task) c.in_ok-read.ensures
+    ∙ read_answers refusing_answer c.args.plan.now c.args.sheet.now (λ p. task_verdict p c.args.id c.args.task)
+    c.in_ok-read.ensures

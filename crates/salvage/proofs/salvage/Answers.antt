@@ -44,5 +44,7 @@ pub returns : goal.returns
 returns c =
     let g : GoneThrough c.args.file.now c.listed_in-n.result c.sift-sifted.result =
     record { whole = c.listed_in-n.ensures; sifted = c.sift-sifted.ensures } in
-    let w = outcome_written g c.args.out.now (rw c.places-kept.ensures at c.in_default.ensures) _ (rw c.places-kept.ensures at c.put_moved_up.ensures) in
+    let w =
+    outcome_written g c.args.out.now (rw c.places-kept.ensures at c.in_default.ensures) _
+    (rw c.places-kept.ensures at c.put_moved_up.ensures) in
     (c.told-2.ensures ∙ rw c.places-kept.ensures w.0, w.1)

@@ -6,7 +6,8 @@ use Rattle.statement.proofs.extend.Goals as goal
 pub stated-requires : goal.stated-requires
 stated-requires c =
     let a = c.args in
-    (plan_passes a.running a.plan.now a.log.now c.in-Ok.ensures, state_passes a.running a.plan.now a.log.now c.in-Ok.ensures)
+    let q = c.in-Ok.ensures in
+    (plan_passes a.running a.plan.now a.log.now q, state_passes a.running a.plan.now a.log.now q)
 
 pub returns-in-Ok : goal.returns-in-Ok
 returns-in-Ok c = c.stated.ensures ∙ log_stated c.args.running c.args.plan.now c.args.log.now c.in-Ok.ensures

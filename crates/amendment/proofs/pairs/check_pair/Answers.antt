@@ -37,5 +37,7 @@ pub returns : goal.returns
 returns c =
     let p = ok_says (file_refusal c.args.plan.now) c.in_default.ensures in
     let q = ok_says (sheet_refusal c.args.plan.now c.args.sheet.now) c.in_default-check_sheet.ensures in
-    let z = ap (λ r. r.number) (pair_fine c.args.plan.now c.args.sheet.now _ _ refl (omega (arith, p.0)) refl (omega (arith, q.0))) in
+    let z =
+    ap (λ r. r.number)
+    (pair_fine c.args.plan.now c.args.sheet.now _ _ refl (omega (arith, p.0)) refl (omega (arith, q.0))) in
     ok_located _ _ (omega arith)

@@ -7,8 +7,10 @@ use Rattle.amendment.proofs.records.guests_of.Goals as goal
 
 pub loop-k-init : goal.loop-k-init
 loop-k-init c =
-    ap (replicate most_guests) c.blank_guest-guests.ensures ∙ no_records (amended_block c.args.plan.now c.args.sheet.now)
+    ap (replicate most_guests) c.blank_guest-guests.ensures
+    ∙ no_records (amended_block c.args.plan.now c.args.sheet.now)
 
 pub loop-k-preserved : goal.loop-k-preserved
 loop-k-preserved c =
-    records_next (amended_block c.args.plan.now c.args.sheet.now) _ _ _ (omega arith) c.loop-k.invariant c.guest_at.ensures
+    records_next (amended_block c.args.plan.now c.args.sheet.now) _ _ _ (omega arith) c.loop-k.invariant
+    c.guest_at.ensures

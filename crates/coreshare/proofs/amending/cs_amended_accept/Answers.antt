@@ -1,4 +1,4 @@
--- `coreshare::amending::cs_amended_accept` meets its contract: the answer about the pair is told. Assumes nothing.
+-- `cs_amended_accept` meets its promise: the answer about the pair is told. Assumes nothing.
 use Rattle.std.proofs.Common.{refl, ap, ◌∙◌}
 use Rattle.coreshare.specs.Told.{plan_told}
 use Rattle.amendment.specs.Verdict.{pair_or, refusing_answer}

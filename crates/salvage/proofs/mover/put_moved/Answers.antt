@@ -6,7 +6,8 @@ use Rattle.salvage.proofs.mover.put_moved.Goals as goal
 
 pub copy_from_slice-requires : goal.copy_from_slice-requires
 copy_from_slice-requires c =
-    let l : length (take block_size c.args.out.now) ≡ block_size = length-take-le block_size c.args.out.now c.requires.1.1 in
+    let l : length (take block_size c.args.out.now) ≡ block_size =
+    length-take-le block_size c.args.out.now c.requires.1.1 in
     omega arith
 
 pub returns : goal.returns

@@ -13,13 +13,15 @@ pub returns-then-id_at-id : goal.returns-then-id_at-id
 unfolding new_among
 returns-then-id_at-id c =
     let s = c.args.file.now in
-    let q : not (eqb (id_at s (nth c.args.kept.now c.loop-j.j-index)) (id_at s c.args.k)) ≡ false = search (rules, tests) in
+    let q : not (eqb (id_at s (nth c.args.kept.now c.loop-j.j-index)) (id_at s c.args.k)) ≡ false =
+    search (rules, tests) in
     all_fails _ _ c.loop-j.j-index c.loop-j-test.true q
 
 pub loop-j-preserved : goal.loop-j-preserved
 loop-j-preserved c =
     let s = c.args.file.now in
-    let q : not (eqb (id_at s (nth c.args.kept.now c.loop-j.j-index)) (id_at s c.args.k)) ≡ true = search (rules, tests) in
+    let q : not (eqb (id_at s (nth c.args.kept.now c.loop-j.j-index)) (id_at s c.args.k)) ≡ true =
+    search (rules, tests) in
     all_next _ _ c.loop-j.invariant q
 
 pub returns : goal.returns

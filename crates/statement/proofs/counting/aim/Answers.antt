@@ -22,8 +22,10 @@ returns-then-not-has_task c =
 pub overflow_add-result : goal.overflow_add-result
 overflow_add-result c =
     let C = c.args.by.now.fits in
-    omega (arith, few_guests C, few_tasks C _ c.if-n-k.false, (within_says 1 _ c.args.entry.task (sym c.has_task.ensures ∙ c.if-not-has_task.false)).1)
+    let w = within_says 1 _ c.args.entry.task (sym c.has_task.ensures ∙ c.if-not-has_task.false) in
+    omega (arith, few_guests C, few_tasks C _ c.if-n-k.false, w.1)
 
 pub returns : goal.returns
 returns c =
-    aim_line c.args.by.now.fits c.args.entry c.place_of-k.ensures c.if-n-k.false (sym c.has_task.ensures ∙ c.if-not-has_task.false)
+    aim_line c.args.by.now.fits c.args.entry c.place_of-k.ensures c.if-n-k.false
+    (sym c.has_task.ensures ∙ c.if-not-has_task.false)

@@ -16,17 +16,20 @@ loop-i-preserved c =
     let A = c.loop-i.invariant in
     elim c.match-aim.branch [
       | in-Ok w ↦
-          let e : Ok w.in-Ok.line ≡ aim_of c.args.by.now.plan.now (entry_in c.args.b.now c.loop-i.i) = rw c.entry_of.ensures at w.in-Ok.ensures in
+          let e : Ok w.in-Ok.line ≡ aim_of c.args.by.now.plan.now (entry_in c.args.b.now c.loop-i.i) =
+          rw c.entry_of.ensures at w.in-Ok.ensures in
           rw (w.at-is, w.tasks-is) (aims_line _ _ A (omega arith) e)
       | in-Err-eq8 w ↦
-          let e : Err w.in-Err-eq8.field-0 ≡ aim_of c.args.by.now.plan.now (entry_in c.args.b.now c.loop-i.i) = rw c.entry_of.ensures at w.in-Err-eq8.ensures in
+          let e : Err w.in-Err-eq8.field-0 ≡ aim_of c.args.by.now.plan.now (entry_in c.args.b.now c.loop-i.i) =
+          rw c.entry_of.ensures at w.in-Err-eq8.ensures in
           let z : w.in-Err-eq8.field-0 ≡ 8 = omega arith in
           rw (w.at-is, w.tasks-is) (aims_no_task _ _ A (rw z at e))
     ]
 
 pub returns-in-Err : goal.returns-in-Err
 returns-in-Err c =
-    let e : Err c.in-Err.number ≡ aim_of c.args.by.now.plan.now (entry_in c.args.b.now c.loop-i.i) = rw c.entry_of.ensures at c.in-Err.ensures in
+    let e : Err c.in-Err.number ≡ aim_of c.args.by.now.plan.now (entry_in c.args.b.now c.loop-i.i) =
+    rw c.entry_of.ensures at c.in-Err.ensures in
     aims_no_guest _ _ c.loop-i.invariant c.loop-i-test.true e c.in-Err.number-test.1
 
 pub returns-then-tasks : goal.returns-then-tasks

@@ -22,49 +22,70 @@ returns-in_err-own_number-clause-after c =
     passed_after _ _ _ e.0 e.1
 
 pub aim_all-requires : goal.aim_all-requires
-aim_all-requires c = omega (arith, c.jobs_of-many.ensures, few_jobs (own_passes c.args.b.now c.in_ok-own_number.ensures))
+aim_all-requires c =
+    omega (arith, c.jobs_of-many.ensures, few_jobs (own_passes c.args.b.now c.in_ok-own_number.ensures))
 
 pub returns-in_err-at-clause-number : goal.returns-in_err-at-clause-number
 returns-in_err-at-clause-number c =
+    let a = c.args in
+    let B = own_passes a.b.now c.in_ok-own_number.ensures in
     let q : c.from_residual-in_err-at.result ≡ Err c.in_err-at.field-0.0 = search rules in
     let e = c.in_err-at.ensures in
-    let f = plan_first c.args.by.now.plan.now c.args.running.now.blocks c.args.b.now (own_passes c.args.b.now c.in_ok-own_number.ensures) (rw c.jobs_of-many.ensures at e.1) e.0 in
-    q ∙ passed_number _ _ c.args.running.now f e.0
+    let m = rw c.jobs_of-many.ensures at e.1 in
+    let f = plan_first a.by.now.plan.now a.running.now.blocks a.b.now B m e.0 in
+    q ∙ passed_number _ _ a.running.now f e.0
 
 pub returns-in_err-at-clause-after : goal.returns-in_err-at-clause-after
 returns-in_err-at-clause-after c =
+    let a = c.args in
+    let B = own_passes a.b.now c.in_ok-own_number.ensures in
     let e = c.in_err-at.ensures in
-    let f = plan_first c.args.by.now.plan.now c.args.running.now.blocks c.args.b.now (own_passes c.args.b.now c.in_ok-own_number.ensures) (rw c.jobs_of-many.ensures at e.1) e.0 in
+    let m = rw c.jobs_of-many.ensures at e.1 in
+    let f = plan_first a.by.now.plan.now a.running.now.blocks a.b.now B m e.0 in
     passed_after _ _ _ f e.0
 
 pub returns-then-running-ge-MOST_BLOCKS-clause-number : goal.returns-then-running-ge-MOST_BLOCKS-clause-number
 returns-then-running-ge-MOST_BLOCKS-clause-number c =
+    let a = c.args in
+    let B = own_passes a.b.now c.in_ok-own_number.ensures in
     let A = rw c.jobs_of-many.ensures at c.in_ok-at.ensures in
-    let f = nineteen _ c.args.running.now.blocks _ (own_passes c.args.b.now c.in_ok-own_number.ensures) A c.if-running-ge-MOST_BLOCKS.true in
-    passed_number _ _ c.args.running.now f (omega arith)
+    let f = nineteen _ a.running.now.blocks _ B A c.if-running-ge-MOST_BLOCKS.true in
+    passed_number _ _ a.running.now f (omega arith)
 
 pub returns-then-running-ge-MOST_BLOCKS-clause-after : goal.returns-then-running-ge-MOST_BLOCKS-clause-after
 returns-then-running-ge-MOST_BLOCKS-clause-after c =
+    let a = c.args in
+    let B = own_passes a.b.now c.in_ok-own_number.ensures in
     let A = rw c.jobs_of-many.ensures at c.in_ok-at.ensures in
-    let f = nineteen _ c.args.running.now.blocks _ (own_passes c.args.b.now c.in_ok-own_number.ensures) A c.if-running-ge-MOST_BLOCKS.true in
+    let f = nineteen _ a.running.now.blocks _ B A c.if-running-ge-MOST_BLOCKS.true in
     passed_after _ _ _ f (omega arith)
 
 pub count_all-requires : goal.count_all-requires
 count_all-requires c =
+    let a = c.args in
+    let B = own_passes a.b.now c.in_ok-own_number.ensures in
     let A = rw c.jobs_of-many.ensures at c.in_ok-at.ensures in
-    let K = countable c.args.by.now.fits (own_passes c.args.b.now c.in_ok-own_number.ensures) A in
-    (rw c.jobs_of-many.ensures K, (most_jobs * c.args.running.now.blocks, (omega (arith, c.jobs_of-many.ensures, K.few), c.requires)))
+    let K = countable a.by.now.fits B A in
+    let m = c.jobs_of-many.ensures in
+    (rw m K, (most_jobs * a.running.now.blocks, (omega (arith, m, K.few), c.requires)))
 
 pub overflow_add-running : goal.overflow_add-running
 overflow_add-running c =
-    omega (arith, same_blocks c.args.by.now.plan.now c.args.b.now c.jobs_of-many.result c.args.running.now, ap (λ (s : Statement). s.blocks) c.count_all.ensures)
+    let a = c.args in
+    let same = same_blocks a.by.now.plan.now a.b.now c.jobs_of-many.result a.running.now in
+    omega (arith, same, ap (λ (s : Statement). s.blocks) c.count_all.ensures)
 
 pub returns-clause-number : goal.returns-clause-number
 returns-clause-number c =
+    let a = c.args in
+    let B = own_passes a.b.now c.in_ok-own_number.ensures in
     let A = rw c.jobs_of-many.ensures at c.in_ok-at.ensures in
-    taken_number c.args.by.now.fits (own_passes c.args.b.now c.in_ok-own_number.ensures) A c.args.running.now c.if-running-ge-MOST_BLOCKS.false
+    taken_number a.by.now.fits B A a.running.now c.if-running-ge-MOST_BLOCKS.false
 
 pub returns-clause-after : goal.returns-clause-after
 returns-clause-after c =
+    let a = c.args in
+    let B = own_passes a.b.now c.in_ok-own_number.ensures in
     let A = rw c.jobs_of-many.ensures at c.in_ok-at.ensures in
-    taken_after c.args.by.now.fits (own_passes c.args.b.now c.in_ok-own_number.ensures) A _ c.if-running-ge-MOST_BLOCKS.false (rw c.jobs_of-many.ensures at c.count_all.ensures)
+    let counted = rw c.jobs_of-many.ensures at c.count_all.ensures in
+    taken_after a.by.now.fits B A _ c.if-running-ge-MOST_BLOCKS.false counted
