@@ -5,7 +5,7 @@ use mathlib.Core.List.{List, ◌∷◌}
 use Rattle.std.specs.Prelude.{Result, Ok, Err}
 use Prim.Native.Nat.{ℕ, ◌^◌, ◌<◌}
 use native.Mathlib.Omega.{arith}
-use lib.Dec.{eqb}
+use lib.Dec.{eqb, ltb}
 use borrow.Author.Tests.{lt-ltb}
 use Rattle.lists.specs.Choice.{pick}
 use Rattle.lists.specs.Places.{nth}
@@ -36,9 +36,10 @@ test_chooses true n ts = refl
 test_chooses false n ts = refl
 
 -- Where the state is in its ranges and the guest is there, at place k, its own refusals are the release's.
-module _ (p : Plan) (left position rest wait age : List ℕ) (id task : ℕ) (s : passes p left position rest wait age ≡ true)
-    {k : ℕ} (q : k ≡ place_of p id) (h : k < p.count) where
-  own : aim_number p left position rest wait age id task ≡ take_number (guest_at p.guests k) k task (nth position k) rest wait
+module _ (p : Plan) (left position rest wait age : List ℕ) (id task : ℕ)
+    (s : passes p left position rest wait age ≡ true) {k : ℕ} (q : k ≡ place_of p id) (h : k < p.count) where
+  own : aim_number p left position rest wait age id task
+      ≡ take_number (guest_at p.guests k) k task (nth position k) rest wait
   unfolding aim_number has_guest has_task
   own = go_on 14 _ s ∙ go_on 7 _ (rw (← q) (lt-ltb k p.count h)) ∙ rw (← q) refl
 
@@ -46,6 +47,11 @@ module _ (p : Plan) (left position rest wait age : List ℕ) (id task : ℕ) (s 
       → Aims p left position rest wait age id task r
   aims_on (Ok a) f = record { taken = own ∙ f.0; takes = rw (← q) f.1 }
   aims_on (Err n) f = (own ∙ f.0, f.1)
+
+-- A guest is there by its place.
+pub guest_there : (p : Plan) (id : ℕ) → has_guest p id ≡ ltb (place_of p id) p.count
+unfolding has_guest
+guest_there p id = refl
 
 -- The place in the column of ids is the plan's.
 pub place_in : {p : Plan} {c : Columns} (id : ℕ) {k : ℕ} → ColumnsOf p.guests p.count c
@@ -58,8 +64,11 @@ place_in {p} id c e = e ∙ first_ext _ _ p.count 0 (λ z l. rw (c.ids.holds z (
 pub charged_fits : (g : Guest) (i : ℕ) → tasks_ok g ≡ true → i < g.tasks → g.charge < 2 ^ 16 → charged g i < 2 ^ 32
 charged_fits g i e h c = charged_most (run_of g i) g.charge (runs_small g e i h) c
 
--- The refusals of a release that is for a guest in its ranges, one after the other.
-pub ruleset in_order = (test_chooses, none_left, head_says, charged_fits)
+-- The tests of an order, one after the other.
+pub ruleset tests = (test_chooses, none_left)
+
+-- The refusals of a release that is for a guest in its ranges.
+pub ruleset in_order = (tests, head_says, charged_fits)
 
 -- The refusals of a release by an id.
-pub ruleset by_id = (test_chooses, few_guests, place_in)
+pub ruleset by_id = (test_chooses, guest_there, few_guests, place_in)

@@ -32,7 +32,8 @@ charged_small false run charge h c {x} e = charged_most x charge (omega arith) c
 pub runs_small : (g : Guest) → tasks_ok g ≡ true → (t : ℕ) → t < g.tasks → run_of g t ≤ longest
 unfolding tasks_ok
 runs_small g e t h =
-    (task_says_lem (run_of g t) (every_of g t) (deadline_of g t) (all_at _ g.tasks t h (and_left (all_to _ g.tasks) _ e))
+    (task_says_lem (run_of g t) (every_of g t) (deadline_of g t)
+    (all_at _ g.tasks t h (and_left (all_to _ g.tasks) _ e))
     ).run_short
 
 -- The test of a record's tasks, as the code makes it.

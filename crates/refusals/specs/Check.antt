@@ -20,7 +20,8 @@ goes p left position rest wait age k =
 
 -- whether row k, if past the n guests, is blank
 abbrev pub past_ok : (n : ℕ) (left position rest wait age : List ℕ) → ℕ → Bool
-past_ok n left position rest wait age k = pick (ltb k n) true (row_is_blank k (nth left k) (nth position k) rest wait age)
+past_ok n left position rest wait age k =
+    pick (ltb k n) true (row_is_blank k (nth left k) (nth position k) rest wait age)
 
 -- whether the check passes: 1 to 8 guests, each of which goes, and blank rows past them
 unfoldable pub passes : Plan → (left position rest wait age : List ℕ) → Bool

@@ -46,7 +46,7 @@ fn aim_at(g: &Guest, k: usize, task: u32, lent: &Lent) -> Result<Aim, u32>
 }
 
 // The release of a task of a guest by its id: 14, 7, 8, 17, 9, 10, or what the task of that number gets.
-#[tactic(auto, using(crate::proofs::Aims::by_id), unfolding(crate::specs::Aims::aim_number, plan::specs::Place::has_guest))]
+#[tactic(auto, using(crate::proofs::Aims::by_id), unfolding(crate::specs::Aims::aim_number))]
 pub fn aim_by_id<P: AsPlan>(plan: &P, lent: &Lent, guest: u32, task: u32) -> Result<Aim, u32>
     ensures { Aims (P.plan plan.now) lent.now.left.now lent.now.position.now
         lent.now.rest.now lent.now.wait.now lent.now.age.now guest task result }

@@ -32,7 +32,8 @@ module _ (d : Dispatcher) (pairs before : List ℕ) where
   behind : (l : List ℕ) (i : ℕ) → length l ≤ i → nth (l ++ drop (length l) before) i ≡ nth before i
   behind l i h =
       let e : i ≡ length l + (i - length l) = omega arith in
-      rw e (get_or-append-add l (drop (length l) before) (i - length l) 0 ∙ get_or-drop (length l) before (i - length l) 0)
+      rw e (get_or-append-add l (drop (length l) before) (i - length l) 0
+      ∙ get_or-drop (length l) before (i - length l) 0)
 
   past_by : (n i : ℕ) → length pairs ≤ i → nth (answered_by n d pairs before) i ≡ nth before i
   unfolding answered_by
@@ -54,4 +55,5 @@ module _ (d : Dispatcher) (pairs before : List ℕ) where
   -- A sheet that is refused whole changes no answer place.
   pub unanswered : 0 < (sheet d pairs (length before)).refusal.number → answered d pairs before ≡ before
   unfolding answered
-  unanswered h = same_by (sheet_number d pairs (length before)) (omega (arith, sheet_number_lem d pairs (length before)))
+  unanswered h =
+      same_by (sheet_number d pairs (length before)) (omega (arith, sheet_number_lem d pairs (length before)))

@@ -70,7 +70,8 @@ module _ (p : Plan) (left position rest wait age usage : List ℕ) {n : ℕ}
 
   -- A release that a number refuses leaves the state as it was.
   pub told_refused : {x : ℕ} → Aimed n ids tasks barred rest wait id task (Err x)
-      → released_in (Err x) (state_of p left position rest wait age usage) ≡ release (state_of p left position rest wait age usage) id task
+      → released_in (Err x) (state_of p left position rest wait age usage)
+      ≡ release (state_of p left position rest wait age usage) id task
   told_refused {x} a = release_refused (state_of p left position rest wait age usage) _ _ x (number_is ∙ a.0, a.1)
 
   -- A release that no number refuses has a guest and a task.
@@ -85,14 +86,16 @@ module _ (p : Plan) (left position rest wait age usage : List ℕ) {n : ℕ}
 
   -- A release that no number refuses is taken.
   pub told_taken : {at : ℕ} → Aimed n ids tasks barred rest wait id task (Ok at)
-      → released_in (Ok tt) (state_of p left position (set rest at (nth runs at)) (set wait at (nth periods at)) (set age at 0) usage)
+      → released_in (Ok tt)
+      (state_of p left position (set rest at (nth runs at)) (set wait at (nth periods at)) (set age at 0) usage)
       ≡ release (state_of p left position rest wait age usage) id task
   told_taken {at} a =
       let k = place_in n ids id in
       let t = there a.0 in
       let h : k < p.count = omega (arith, S.count, t.0) in
       let i : task - 1 < (guest_at p.guests k).tasks = omega (arith, S.many k t.0, t.1.0, t.1.1) in
-      release_taken (state_of p left position rest wait age usage) _ _ (record { at = at; run = nth runs at; every = nth periods at })
+      release_taken (state_of p left position rest wait age usage) _ _
+      (record { at = at; run = nth runs at; every = nth periods at })
       (record {
         taken = number_is ∙ a.0;
         takes = rw (← place_here)

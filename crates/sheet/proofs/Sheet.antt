@@ -57,7 +57,8 @@ unfolding state_after answer_to
 taken_next {i} {d} {e} {after} {pairs} {before} {answers} h T r P =
     let q = told_by_number r after P in
     record {
-      state = rw add-one (ap (λ (z : Released). z.state) q ∙ ap (λ (s : Dispatcher). (pair_released s (nth pairs i)).state) T.state);
+      state = rw add-one (ap (λ (z : Released). z.state) q
+          ∙ ap (λ (s : Dispatcher). (pair_released s (nth pairs i)).state) T.state);
       answer =
           table_turn (answer_to d pairs) 0 i before answers _ h T.answer
           (ap (λ (z : Released). z.refusal.number) q

@@ -51,11 +51,13 @@ by_zero x d after pairs before answers z A = rw z (rw A.state refl, A.answer)
 
 -- The order of whole refusals after the state's.
 abbrev room_number : (pairs before : List ℕ) → ℕ
-room_number pairs before = refusal (leb (length pairs) most_pairs or_refuse 15 ∷ leb (length pairs) (length before) or_refuse 12 ∷ [])
+room_number pairs before =
+    refusal (leb (length pairs) most_pairs or_refuse 15 ∷ leb (length pairs) (length before) or_refuse 12 ∷ [])
 
 module _ (d : Dispatcher) (pairs before : List ℕ) where
   -- A sheet that a number refuses whole changes nothing.
-  whole_refused : (n : ℕ) → 0 < n → n ≡ sheet_number d pairs (length before) → Sheets d pairs before (released_in (Err n) d) before
+  whole_refused : (n : ℕ) → 0 < n → n ≡ sheet_number d pairs (length before)
+      → Sheets d pairs before (released_in (Err n) d) before
   unfolding sheet answered
   whole_refused n h e = rw (← e) (by_some n d pairs h, some_answered n d pairs before h)
 
@@ -70,15 +72,18 @@ module _ (d : Dispatcher) (pairs before : List ℕ) where
     number_is = sym (go_on 14 _ E.okay)
 
     -- Too many pairs or too little room refuse it.
-    pub room_refuses : {n : ℕ} → ◌≡◌ {A = Result Unit ℕ} (Err n) (unless_number (room_number pairs before) tt) → Sheets d pairs before (released_in (Err n) d) before
+    pub room_refuses : {n : ℕ} → ◌≡◌ {A = Result Unit ℕ} (Err n) (unless_number (room_number pairs before) tt)
+        → Sheets d pairs before (released_in (Err n) d) before
     room_refuses {n} e = by (room_number pairs before) refl e
       where
-        by : (x : ℕ) → room_number pairs before ≡ x → ◌≡◌ {A = Result Unit ℕ} (Err n) (unless_number x tt) → Sheets d pairs before (released_in (Err n) d) before
+        by : (x : ℕ) → room_number pairs before ≡ x → ◌≡◌ {A = Result Unit ℕ} (Err n) (unless_number x tt)
+            → Sheets d pairs before (released_in (Err n) d) before
         by zero q e = absurd (cc)
         by (suc x) q e = (let f : n ≡ suc x = cc in whole_refused n (omega arith) (f ∙ sym q ∙ number_is))
 
     -- A sheet that has room is not refused.
-    pub room_none : {u : Unit {0}} → ◌≡◌ {A = Result Unit ℕ} (Ok u) (unless_number (room_number pairs before) tt) → room_number pairs before ≡ 0
+    pub room_none : {u : Unit {0}} → ◌≡◌ {A = Result Unit ℕ} (Ok u) (unless_number (room_number pairs before) tt)
+        → room_number pairs before ≡ 0
     room_none e = by (room_number pairs before) e
       where
         by : (x : ℕ) {u : Unit {0}} → ◌≡◌ {A = Result Unit ℕ} (Ok u) (unless_number x tt) → x ≡ 0
@@ -90,13 +95,15 @@ module _ (d : Dispatcher) (pairs before : List ℕ) where
       pub whole_taken : {after : Dispatcher} {answers : List ℕ} → AllTaken d after pairs before answers
           → Sheets d pairs before (released_in (Ok tt) after) answers
       unfolding sheet answered
-      whole_taken {after} {answers} A = rw (← number_is) (by_zero (room_number pairs before) d after pairs before answers z A)
+      whole_taken {after} {answers} A =
+          rw (← number_is) (by_zero (room_number pairs before) d after pairs before answers z A)
 
       -- There is a place for each answer.
       pub room_enough : length pairs ≤ length before
       room_enough =
           let a = passed (leb (length pairs) most_pairs) 15 _ (omega arith) z in
-          leb-true (length pairs) (length before) (passed (leb (length pairs) (length before)) 12 [] (omega arith) a.1).0
+          leb-true (length pairs) (length before)
+          (passed (leb (length pairs) (length before)) 12 [] (omega arith) a.1).0
 
     -- Its plan is in order.
     pub plan_fine : (plan_refusal d.plan).number ≡ 0

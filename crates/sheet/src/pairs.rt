@@ -45,7 +45,7 @@ fn is_barred(bars: &Bars, k: usize, t: usize) -> bool
 }
 
 // The place of a task of a guest by its id, or the number that refuses its release: 7, 8, 17, 9, 10.
-#[tactic(auto, using(refusals::proofs::Aims::test_chooses, lists::proofs::Refusals::none_left), unfolding(crate::specs::Lent::lent_number))]
+#[tactic(auto, using(refusals::proofs::Aims::tests), unfolding(crate::specs::Lent::lent_number))]
 fn aim(
     guest: u32,
     task: u32,

@@ -16,9 +16,10 @@ use refusals::{Lent, examine};
 const MOST_PAIRS: usize = 256;
 
 // Whether a sheet has too many pairs, 15, or too few places for its answers, 12.
-#[tactic(auto, using(refusals::proofs::Aims::test_chooses, lists::proofs::Refusals::none_left))]
+#[tactic(auto, using(refusals::proofs::Aims::tests))]
 fn room_for(pairs: usize, room: usize) -> Result<(), u32>
-    ensures { result ≡ unless_number (refusal (leb pairs most_pairs or_refuse 15 ∷ leb pairs room or_refuse 12 ∷ [])) tt }
+    ensures { result
+        ≡ unless_number (refusal (leb pairs most_pairs or_refuse 15 ∷ leb pairs room or_refuse 12 ∷ [])) tt }
 {
     if MOST_PAIRS < pairs {
         return Err(15);

@@ -9,8 +9,10 @@ loop-k-preserved g c =
     let a = c.args in
     let s = a.lent.now in
     let p = g.P.AsPlan.plan a.plan.now in
-    let f = columns_read {gs = p.guests} c.loop-k.k (omega arith) c.guest.result c.guest.ensures c.loop-k.invariant.columns in
+    let k = c.loop-k.k in
+    let f = columns_read {gs = p.guests} k (omega arith) c.guest.result c.guest.ensures c.loop-k.invariant.columns in
     record {
-      okay = goes_turn p s.left.now s.position.now s.rest.now s.wait.now s.age.now c.loop-k.k f.ids c.loop-k.invariant.okay c.new_id.ensures (rw (← c.guest.ensures) c.guest_ok.ensures);
+      okay = goes_turn p s.left.now s.position.now s.rest.now s.wait.now s.age.now k f.ids c.loop-k.invariant.okay
+          c.new_id.ensures (rw (← c.guest.ensures) c.guest_ok.ensures);
       columns = f;
     }

@@ -11,4 +11,5 @@ loop-i-preserved c =
     λ p left position usage S ok.
     let T = c.loop-i.invariant p left position usage S ok in
     rw (c.unwrap_or.ensures, c.err.ensures.value)
-    (taken_next (omega (arith, c.requires)) T c.take.result (c.take.ensures p left position usage S (ok_meanwhile ok T)))
+    (taken_next (omega (arith, c.requires)) T c.take.result
+    (c.take.ensures p left position usage S (ok_meanwhile ok T)))

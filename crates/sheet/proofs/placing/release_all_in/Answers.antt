@@ -3,7 +3,8 @@ use Rattle.std.proofs.Common.{Some, None, []}
 use Rattle.std.proofs.lemmas.Result.{err_from_is_err_and}
 use Rattle.dispatcher.specs.Lent.{state_of}
 use Rattle.dispatcher.proofs.LentCheck.{examines}
-use Rattle.sheet.proofs.Whole.{state_refuses, room_refuses, room_none, whole_taken, room_enough, plan_fine, small, sheet_columns}
+use Rattle.sheet.proofs.Whole.{state_refuses, room_refuses, room_none, whole_taken, room_enough}
+use Rattle.sheet.proofs.Whole.{plan_fine, small, sheet_columns}
 use Rattle.sheet.proofs.placing.release_all_in.Goals as goal
 
 pub returns-in_default : goal.returns-in_default
@@ -19,7 +20,8 @@ returns-in_err-room_for g c =
     let e = err_from_is_err_and c.from_residual.result c.from_residual.ensures.1 in
     λ usage.
     let d = state_of (g.P.AsPlan.plan a.plan.now) a.left.now a.position.now a.rest.now a.wait.now a.age.now usage in
-    rw (e.1, e.2) (room_refuses d a.pairs.now a.answers.now (examines d (Some c.in-Some.columns) c.in-Some.ensures) c.in_err-room_for.ensures)
+    let E = examines d (Some c.in-Some.columns) c.in-Some.ensures in
+    rw (e.1, e.2) (room_refuses d a.pairs.now a.answers.now E c.in_err-room_for.ensures)
 
 pub put_jobs-bars-requires : goal.put_jobs-bars-requires
 put_jobs-bars-requires g c =
@@ -32,7 +34,8 @@ invariant_of-sheet g c =
     let a = c.args in
     let d = state_of (g.P.AsPlan.plan a.plan.now) a.left.now a.position.now a.rest.now a.wait.now a.age.now [] in
     let E = examines d (Some c.in-Some.columns) c.in-Some.ensures in
-    rw c.count.ensures (record { small = small d a.pairs.now a.answers.now E; nothing = c.put_jobs-bars.ensures.1.nothing })
+    rw c.count.ensures
+    (record { small = small d a.pairs.now a.answers.now E; nothing = c.put_jobs-bars.ensures.1.nothing })
 
 pub take_all-requires : goal.take_all-requires
 take_all-requires g c =
