@@ -1,6 +1,7 @@
 -- P10, a statement of finished jobs. `plan` is a plan's bytes and `(read_of plan).plan` its records; `statementAfter plan
 -- logs s` is the statement after a call for each of these logs, from the running statement s on, and `countedEntries` are
 -- the entries of the blocks that these calls took. A block that is passed over, and a call that is refused, add none.
+use Rattle.std.specs.Prelude.{Ok}
 use mathlib.Core.Path.{◌≡◌}
 use mathlib.Core.Bool.{true}
 use mathlib.Core.Logic.{◌≢◌}
@@ -90,7 +91,7 @@ module _ (plan : List ℕ) (logs : List (List ℕ)) where
 
     -- A task that is met has none late.
     pub met_none_late :
-        task_verdict (read_of plan).plan id number ≡ Met R
+        task_verdict (read_of plan).plan id number ≡ Ok (Met R)
         → nth (statement_after plan logs empty).late (task_line (read_of plan).plan id number) ≡ 0
     met_none_late = telling.met_none_late plan logs can told id number R
 

@@ -1,6 +1,7 @@
 -- Demand 2, the verdicts and the smallest capacity, in terms of the equations themselves. `There p id k`: the records
 -- are in order, and the guest with that id stands at place k. Each verdict has its meaning, and is the only one that
 -- has it.
+use Rattle.std.specs.Prelude.{Result, Ok}
 use mathlib.Core.Path.{◌≡◌, sym, ◌∙◌}
 use Prim.Native.Nat.{ℕ, suc, ◌+◌, ◌-◌, ◌≤◌, ◌<◌}
 use Rattle.plan.specs.Order.{plan_refusal}
@@ -9,14 +10,13 @@ use Rattle.plan.specs.Charge.{charged}
 use Rattle.plan.specs.Records.{guest_at, run_of, deadline_of}
 use Rattle.plan.specs.declared.Guest.{Guest}
 use Rattle.plan.specs.declared.Plan.{Plan}
+use Rattle.plan.specs.declared.Refusal.{Refusal}
 use Rattle.verdict.specs.declared.Acceptance.{Acceptance}
 use Rattle.verdict.specs.declared.Acceptance.TheVariants.{Accepted}
 use Rattle.verdict.specs.declared.GuestVerdict.{GuestVerdict}
 use Rattle.verdict.specs.declared.TaskVerdict.{TaskVerdict}
 use Rattle.verdict.specs.Verdict.{guest_verdict, task_verdict, acceptance}
 use Rattle.verdict.specs.Quoted.{Quoted}
-use Rattle.capacity.specs.declared.CapacityAnswer.{CapacityAnswer}
-use Rattle.capacity.specs.declared.CapacityAnswer.TheVariants.{Smallest}
 use Rattle.capacity.specs.Answer.{smallest_capacity}
 use Rattle.capacity.specs.Capacity.{with_capacity, smallest}
 use Rattle.capacity.specs.Search.{few}
@@ -39,7 +39,7 @@ module _ (p : Plan) (id k : ℕ) (there : There p id k) where
   guest_means = guests.guest_verdict_means p id k there
 
   -- No other verdict of the guest means what holds.
-  pub guest_only : (v : GuestVerdict) → GuestMeans p k v → v ≡ guest_verdict p id
+  pub guest_only : (v : Result GuestVerdict Refusal) → GuestMeans p k v → v ≡ guest_verdict p id
   guest_only = guests.guest_verdict_only p id k there
 
   -- Met R: the guest and all above are fitted, R is w + J for the least solution w, at most the period, and at most
@@ -50,7 +50,8 @@ module _ (p : Plan) (id k : ℕ) (there : There p id k) where
 
   -- No other verdict of the task means what holds.
   pub task_only :
-      (i : ℕ) → i < (guest_at p.guests k).tasks → (v : TaskVerdict) → TaskMeans p k i v → v ≡ task_verdict p id (suc i)
+      (i : ℕ) → i < (guest_at p.guests k).tasks → (v : Result TaskVerdict Refusal) → TaskMeans p k i v
+      → v ≡ task_verdict p id (suc i)
   task_only i = tasks.task_verdict_only p id k i there
 
   -- Under fitted guests a response is quoted wherever a solution has its response at most the period: it is withheld
@@ -70,13 +71,13 @@ module _ (p : Plan) (id k : ℕ) (there : There p id k) where
   capacity_means = capacities.capacity_answer_means p id k there
 
   -- No other capacity answer means what holds.
-  pub capacity_only : (v : CapacityAnswer) → CapacityMeans p k v → v ≡ smallest_capacity p id
+  pub capacity_only : (v : Result ℕ Refusal) → CapacityMeans p k v → v ≡ smallest_capacity p id
   capacity_only = capacities.capacity_answer_only p id k there
 
   -- P14: for a smallest capacity a of up to 32 the search tests tasks at capacities no more often than one upward from
   -- 1 would at least: once at each of the a - 1 below, and each task once where all are met.
   pub capacity_tests :
-      (a : ℕ) → smallest_capacity p id ≡ Smallest a → a ≤ few → tests_of p k ≤ a - 1 + (guest_at p.guests k).tasks
+      (a : ℕ) → smallest_capacity p id ≡ Ok a → a ≤ few → tests_of p k ≤ a - 1 + (guest_at p.guests k).tasks
   capacity_tests a e =
       tests.capacity_tests p there.order k there.place a
       (tests.said_found (smallest p k) a (sym (capacities.capacity_answer_is p id k there) ∙ e))
@@ -127,13 +128,14 @@ pub acceptance_means : (p : Plan) → (plan_refusal p).number ≡ 0 → AcceptMe
 acceptance_means = acceptances.acceptance_means
 
 -- No other acceptance means what holds.
-pub acceptance_only : (p : Plan) → (plan_refusal p).number ≡ 0 → (v : Acceptance) → AcceptMeans p v → v ≡ acceptance p
+pub acceptance_only : (p : Plan) → (plan_refusal p).number ≡ 0 → (v : Result Acceptance Refusal) → AcceptMeans p v
+    → v ≡ acceptance p
 acceptance_only = acceptances.acceptance_only
 
 -- In an accepted plan the verdict of each task is met; unmet R is not met.
-pub accepted_said : (p : Plan) → (plan_refusal p).number ≡ 0 → acceptance p ≡ Accepted → AllSaidMet p
+pub accepted_said : (p : Plan) → (plan_refusal p).number ≡ 0 → acceptance p ≡ Ok Accepted → AllSaidMet p
 accepted_said = acceptances.accepted_said
 
 -- A plan where the verdict of each task is met is accepted.
-pub said_accepted : (p : Plan) → (plan_refusal p).number ≡ 0 → AllSaidMet p → acceptance p ≡ Accepted
+pub said_accepted : (p : Plan) → (plan_refusal p).number ≡ 0 → AllSaidMet p → acceptance p ≡ Ok Accepted
 said_accepted = acceptances.said_accepted

@@ -1,6 +1,7 @@
 -- Demand 3, our word kept. Take any records, the fresh dispatcher of them (`start p`), and any list of calls:
 -- releases, ticks and runs, with any arguments, refused or not, in any order. Nothing is asked of other guests and
 -- tasks: they may be unfit below, unmet, released at any time.
+use Rattle.std.specs.Prelude.{Ok}
 use mathlib.Core.Path.{◌≡◌}
 use mathlib.Core.List.{List}
 use Prim.Native.Nat.{ℕ, suc, ◌+◌, ◌-◌, ◌*◌, ◌≤◌, ◌<◌}
@@ -28,7 +29,7 @@ use Rattle.history.proofs.Sure as sure
 -- 1. Sure of its capacity. In each of its periods that has ended, a fitted guest has had exactly its capacity of ticks.
 pub sure_of_capacity :
     (p : Plan) (id x : ℕ)
-    → guest_verdict p id ≡ Fitted x
+    → guest_verdict p id ≡ Ok (Fitted x)
     → CanStart p
     → (cs : List Call) (k : ℕ)
     → suc k * (guest_by p id).period ≤ ticks_in cs (start p)
@@ -38,7 +39,7 @@ sure_of_capacity = sure.sure_of_capacity
 -- In each period that it begins, a fitted guest has had its capacity by the x-th tick, x its response.
 pub had_by_response :
     (p : Plan) (id x : ℕ)
-    → guest_verdict p id ≡ Fitted x
+    → guest_verdict p id ≡ Ok (Fitted x)
     → CanStart p
     → (cs : List Call) (k : ℕ)
     → k * (guest_by p id).period + x ≤ ticks_in cs (start p)
@@ -49,7 +50,7 @@ had_by_response = response.had_by_response
 module _ (p : Plan) (id number R : ℕ) (quoted : Quoted p id number R) where
   -- The guest of a quoted task is fitted, and so is each guest above it: `above` is the id of the guest itself or of
   -- one before it in the plan.
-  pub quoted_fitted : (above : ℕ) → place_of p above ≤ place_of p id → (x : ℕ) × (guest_verdict p above ≡ Fitted x)
+  pub quoted_fitted : (above : ℕ) → place_of p above ≤ place_of p id → (x : ℕ) × (guest_verdict p above ≡ Ok (Fitted x))
   quoted_fitted = upper.quoted_fitted p id number R quoted
 
   -- From a fresh start that is not refused: the records are in order, as the verdict has it, and no guest is
@@ -120,7 +121,7 @@ module _ (p : Plan) (id number R : ℕ) (quoted : Quoted p id number R) where
 -- left of it as the margin.
 pub met_not_late :
     (p : Plan) (id number R : ℕ)
-    → task_verdict p id number ≡ Met R
+    → task_verdict p id number ≡ Ok (Met R)
     → CanStart p
     → (cs : List Call) (c : Call) (age : ℕ) (margin : ℤ)
     → answer_of c (play cs (start p)) ≡ Finished id number age margin
