@@ -21,7 +21,7 @@ impl Model for Kept {
 
 impl Kept {
     // None is kept yet.
-    pub fn none() -> Self
+    pub(crate) fn none() -> Self
         ensures { result ≡ [] }
     {
         Kept {
@@ -31,7 +31,7 @@ impl Kept {
     }
 
     // One place more.
-    pub fn push(&mut self, place: usize)
+    pub(crate) fn push(&mut self, place: usize)
         requires { length self.old < most_guests }
         ensures { self.new ≡ self.old ++ place ∷ [] }
     {
@@ -40,7 +40,7 @@ impl Kept {
     }
 
     // The places.
-    pub fn places(&self) -> &[usize]
+    pub(crate) fn places(&self) -> &[usize]
         ensures { result.now ≡ self.now }
     {
         &self.places[..self.count]
