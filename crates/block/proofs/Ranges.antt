@@ -1,4 +1,5 @@
--- Tests and values at each number of a range, as a chain over it or a closure for each place gives them. Assumes nothing.
+-- Tests and values at each number of a range, as a chain over it or a closure for each place gives them. Assumes
+-- nothing.
 use Rattle.std.proofs.Common.{◌≡◌, Bool, true, false, ℕ, zero, suc, ◌+◌, ◌<◌, ◌≤◌, List, length, ⊎_elim, eq-or-lt_of_le, sym, ◌∙◌, ap, arith}
 use Rattle.std.proofs.lemmas.List.FromFn.{get_or-range_with_len, length-range_with_len}
 use Rattle.std.specs.List.{range_with_len, AllWithin, HoldsAt}
@@ -17,7 +18,8 @@ pub all_over : (f : ℕ → Bool) (from n : ℕ) (ok : Bool)
 all_over f from n true h =
     sym
     (all_by (λ i. f (from + i)) n
-    (λ i l. rw (get_or-range_with_len from n i 0 l) at (h i 0 (omega arith) (omega (arith, length-range_with_len from n)))))
+    (λ i l. rw (get_or-range_with_len from n i 0 l) at
+    (h i 0 (omega arith) (omega (arith, length-range_with_len from n)))))
 all_over f from n false h =
     let l : h.0 < n = omega (arith, h.1, length-range_with_len from n) in
     all_fails (λ i. f (from + i)) n h.0 l (rw (get_or-range_with_len from n h.0 0 l) at (h.2 0))

@@ -55,7 +55,8 @@ blocks_fine placed s e = by (size_ok (length s)) e
   where
     by : (b : Bool) → (sized_by b placed s).number ≡ 0 → sized_by b placed s ≡ fine
     by true e =
-        first_fine (number_at placed s) (blocks_in s) 0 (λ z l h. none_refused (number_at placed s) (blocks_in s) 0 e z l h)
+        first_fine (number_at placed s) (blocks_in s) 0
+        (λ z l h. none_refused (number_at placed s) (blocks_in s) 0 e z l h)
     by false e = absurd (omega arith)
 
 -- Bytes that are not refused: a right length, and no block has a number.

@@ -12,4 +12,5 @@ returns c =
     let f = λ (k : ℕ). eqb (word c.args.b.now k) 0 in
     all_over f _ _ _
     (cases_from_all _ _ c.all.result (λ k. f k ≡ true) (λ k. f k ≡ false) c.all.ensures.ran
-    (YieldsList-from_range c.args.from c.args.to _ (search rules) refl) (λ x q k. search (rules, tests)) (λ x q k. search (rules, tests)))
+    (YieldsList-from_range c.args.from c.args.to _ (search rules) refl)
+    (λ x q k. search (rules, tests)) (λ x q k. search (rules, tests)))

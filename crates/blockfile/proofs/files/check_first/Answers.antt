@@ -10,7 +10,8 @@ loop-k-init c = let h : c.args.n - 0 ≡ c.args.n = omega arith in rw h refl
 pub returns-in-Err : goal.returns-in-Err
 returns-in-Err c =
     let e = err_number _ _ (sym c.in-Err.is ∙ c.check_block.ensures) in
-    err_unless _ _ (first_here _ c.args.n _ _ c.loop-k-test.true e.0 (omega (arith, e)) ∙ c.loop-k.invariant) (omega (arith, e))
+    err_unless _ _ (first_here _ c.args.n _ _ c.loop-k-test.true e.0 (omega (arith, e)) ∙ c.loop-k.invariant)
+    (omega (arith, e))
 
 pub loop-k-preserved : goal.loop-k-preserved
 loop-k-preserved c =

@@ -5,4 +5,5 @@ use Rattle.blockfile.specs.File.{number_at}
 use Rattle.blockfile.proofs.files.check_first.Given as goal
 
 abbrev pub invariant-loop-k : goal.invariant-loop-k
-invariant-loop-k l = first_refused (number_at l.placed l.s) (l.n - l.k) l.k ≡ first_refused (number_at l.placed l.s) l.n 0
+invariant-loop-k l =
+    first_refused (number_at l.placed l.s) (l.n - l.k) l.k ≡ first_refused (number_at l.placed l.s) l.n 0

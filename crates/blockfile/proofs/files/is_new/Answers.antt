@@ -12,4 +12,5 @@ returns c =
     let f = λ (j : ℕ). not (eqb (id_at c.args.s.now j) (id_at c.args.s.now c.args.k)) in
     all_below f c.args.k _
     (cases_from_all _ _ c.all.result (λ j. f j ≡ true) (λ j. f j ≡ false) c.all.ensures.ran
-    (YieldsList-from_range 0 c.args.k c.args.k (search rules) (omega arith)) (λ x q k. search (rules, tests)) (λ x q k. search (rules, tests)))
+    (YieldsList-from_range 0 c.args.k c.args.k (search rules) (omega arith))
+    (λ x q k. search (rules, tests)) (λ x q k. search (rules, tests)))

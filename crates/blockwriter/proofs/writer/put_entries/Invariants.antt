@@ -11,5 +11,6 @@ abbrev pub invariant-loop-i : goal.invariant-loop-i
 invariant-loop-i l =
     l.buf
     ≡ laid
-    (with_entries first_task (nth l.g.run) (nth l.g.every) (nth l.g.deadline) l.i (with_head l.g l.place (replicate block_words 0)))
+    (with_entries first_task (nth l.g.run) (nth l.g.every) (nth l.g.deadline) l.i
+    (with_head l.g l.place (replicate block_words 0)))
     (drop block_size l.fn.buf)

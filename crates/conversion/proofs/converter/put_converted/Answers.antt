@@ -24,7 +24,8 @@ unfolding converted_block
 loop-k-preserved c =
     let bytes = c.args.bytes.now in
     part_next (λ i. converted_block (block_at bytes i) i) c.loop-k.k c.args.out.now c.loop-k.out _
-    (λ i h. block_length (as_periodic (guest_of (block_at bytes i))) i) (omega arith) c.loop-k.invariant c.put_periodic.ensures
+    (λ i h. block_length (as_periodic (guest_of (block_at bytes i))) i) (omega arith)
+    c.loop-k.invariant c.put_periodic.ensures
 
 pub returns : goal.returns
 unfolding converted_bytes

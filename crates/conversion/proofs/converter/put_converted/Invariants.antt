@@ -7,4 +7,5 @@ use Rattle.conversion.specs.Converting.{converted_block}
 use Rattle.conversion.proofs.converter.put_converted.Given as goal
 
 abbrev pub invariant-loop-k : goal.invariant-loop-k
-invariant-loop-k l = l.out ≡ joined (λ i. converted_block (block_at l.bytes i) i) l.k ++ drop (block_size * l.k) l.initial.out
+invariant-loop-k l =
+    l.out ≡ joined (λ i. converted_block (block_at l.bytes i) i) l.k ++ drop (block_size * l.k) l.initial.out
