@@ -34,7 +34,8 @@ module _ (p : Plan) (id : ℕ) where
   unfolding smallest_capacity
   capacity_refused {r} l =
       let e = err_says (records_then p (has_guest p id or_refuse 7 ∷ [])) (place_of p id) l in
-      err_unless (records_then p (has_guest p id or_refuse 7 ∷ is_some (smallest p (place_of p id)) or_refuse 11 ∷ [])) _
+      let found = smallest p (place_of p id) in
+      err_unless (records_then p (has_guest p id or_refuse 7 ∷ is_some found or_refuse 11 ∷ [])) _
       (e.0 ∙ records_first p (has_guest p id) 7 _ e.1) (rw e.0 e.1)
 
   -- it found a place: the answer is what the search for the guest there finds, or 11

@@ -4,6 +4,7 @@ pub mod SearchLaws
 pub mod NextTry
 pub mod Narrowing
 pub mod Tries
+pub mod TestsLaws
 pub mod Capacity
 pub mod PlanTries
 pub mod Answer

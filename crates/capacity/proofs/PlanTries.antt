@@ -34,7 +34,7 @@ use Rattle.plan.proofs.Placed.{in_list}
 use Rattle.response.proofs.ColumnsLaws.{interference_grows, servers_take}
 use Rattle.capacity.proofs.SearchLaws.{halving, works_each, works_by}
 use Rattle.capacity.proofs.Capacity.{guest_there, task_there, fitted_there, works_split}
-use Rattle.capacity.proofs.Tries.{tests_small, tests_most, tests_ext}
+use Rattle.capacity.proofs.TestsLaws.{tests_small, tests_most, tests_ext}
 
 module _ (p : Plan) (ok : (plan_refusal p).number ≡ 0) (k : ℕ) (h : k < p.count) where
   -- the guest at the place

@@ -34,7 +34,8 @@ use Rattle.response.proofs.GuestLaws.{response_says, take_grows}
 use Rattle.response.proofs.TaskLaws.{regular}
 use Rattle.response.proofs.ColumnsLaws.{accepted_alike}
 use Rattle.response.specs.Window.{MetTo}
-use Rattle.capacity.proofs.Staged.{Settled, settled_met, settled_next, settled_nowhere, settled_all, none_fits, smallest_past}
+use Rattle.capacity.proofs.Staged.{Settled, settled_met, settled_next, settled_nowhere, settled_all}
+use Rattle.capacity.proofs.Staged.{none_fits, smallest_past}
 
 module _ (above : ℕ → ℕ) (grows : Grows above) (period : ℕ) where
   -- a guest that is fitted at a capacity is fitted at each smaller one
@@ -102,7 +103,8 @@ halving above grows period marks run every deadline i runs = record {
 -- a guest off the column of gaps that is made for a capacity is the guest there, seen from its first n tasks
 pub tried_alike : (above : ℕ → ℕ) (period marks c : ℕ) (run every : List ℕ) (n : ℕ) {late : List ℕ}
     → Filled late (λ j. gap_for (marked marks j) (period - c)) n
-    → SameTasks (column_system above c period run every late) (tried_system above period marks (nth run) (nth every) c) n
+    → SameTasks (column_system above c period run every late)
+    (tried_system above period marks (nth run) (nth every) c) n
 tried_alike above period marks c run every n f = record {
   capacity = refl;
   period = refl;
@@ -207,8 +209,8 @@ works_off above g {t} o = rw (o.every, o.deadline, o.count) (works_by above g (n
 abbrev pub SettledIn : (s : Search) (i c : ℕ) → Type 0
 SettledIn s i c =
     let t = s.tasks.now in
-    Settled (fits_in s) (met_at (above_of s.servers.now s.place) s.period s.marks (nth t.run) (nth t.every) (nth t.deadline))
-    s.period i c
+    Settled (fits_in s)
+    (met_at (above_of s.servers.now s.place) s.period s.marks (nth t.run) (nth t.every) (nth t.deadline)) s.period i c
 
 -- the capacities at which a task of the guest that is searched for is met can be halved
 pub search_halving : (s : Search) (i : ℕ) → SearchIn s × (i < s.tasks.now.count)
@@ -221,7 +223,8 @@ search_halving s i o =
 -- a turn of the search task by task: the tasks before i are settled at c, and those from i up to r are met there
 module _ (s : Search) {i c r : ℕ} {late : List ℕ} (so_far : SettledIn s i c)
     (f : Filled late (λ j. gap_for (marked s.marks j) (s.period - c)) s.tasks.now.count)
-    (u : MetTo (system_at s.servers.now s.place c s.period s.tasks.now late) (nth s.tasks.now.deadline) i s.tasks.now.count r) where
+    (u : MetTo (system_at s.servers.now s.place c s.period s.tasks.now late) (nth s.tasks.now.deadline) i
+    s.tasks.now.count r) where
   -- those before r are settled there
   pub search_passed : SettledIn s r c
   search_passed =

@@ -14,7 +14,8 @@ use Rattle.lists.proofs.Search.{First, Nowhere, least_says, least_is}
 use Rattle.equation.proofs.Halve.{Halving}
 
 -- where c does not pass, the smallest from c on is past it
-pub smallest_past : (f : ℕ → Bool) (c hi : ℕ) → c < hi → f c ≡ false → least f (hi - c) c ≡ least f (hi - (c + 1)) (c + 1)
+pub smallest_past : (f : ℕ → Bool) (c hi : ℕ) → c < hi → f c ≡ false
+    → least f (hi - c) c ≡ least f (hi - (c + 1)) (c + 1)
 unfolding least
 smallest_past f c hi l e = let n : hi - c ≡ suc (hi - (c + 1)) = omega arith in rw (n, least, e, add-one) refl
 

@@ -19,8 +19,8 @@ use Rattle.capacity.specs.Told.{capacity_told, CapacityTells}
 
 -- 11 is the last of the tests, and fails where nothing was found
 last_test : (x k : ℕ) (b : Bool) (f : Option ℕ)
-    → capacity_told (unless_refused (or_else x k (refused (refusal (b or_refuse 7 ∷ is_some f or_refuse 11 ∷ [])) 0)) (ticks_of f))
-    ≡ refuse_or refusing (or_else x k (refused (refusal (b or_refuse 7 ∷ is_some f or_refuse 11 ∷ [])) 0)) (saying (value_of f))
+    → (let r = or_else x k (refused (refusal (b or_refuse 7 ∷ is_some f or_refuse 11 ∷ [])) 0) in
+    capacity_told (unless_refused r (ticks_of f)) ≡ refuse_or refusing r (saying (value_of f)))
 unfolding capacity_told refused_by or_else refusal unless
 last_test zero k true (Some c) = refl
 last_test zero k true None = refl

@@ -56,8 +56,8 @@ impl Search<'_> {
         guest_response(self.servers, self.place, c, self.period).is_some()
     }
 
-    // What is left after a try for task i: no capacity meets it from an unfit one on, nor up to a fitted one at which it
-    // is not met.
+    // What is left after a try for task i: no capacity meets it from an unfit one on, nor up to a fitted one at which
+    // it is not met.
     fn narrowed(&self, i: usize, left: Span) -> Span
         requires within { SearchIn self.now × (i < self.now.tasks.now.count) }
         requires bounds { (1 ≤ left.lo) × ((left.lo < left.hi) × (left.hi ≤ self.now.period + 1)) }

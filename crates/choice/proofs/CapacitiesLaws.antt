@@ -169,7 +169,8 @@ module _ (p : Plan) where
   pub choice_made : {v : Chosen} → (start_refusal p).number ≡ 0 → v ≡ chosen_from p p p.count 0 → v ≡ least_capacities p
   unfolding least_capacities start_refusal
   choice_made e q =
-      q ∙ number_passes (answering p) (start_refusal p).number (start_refusal p).place (chosen_from p p p.count 0) (omega arith)
+      let r = start_refusal p in
+      q ∙ number_passes (answering p) r.number r.place (chosen_from p p p.count 0) (omega arith)
 
   -- the end of the loop
   pub goes_end : {s : Servers} {q : Plan} {k : ℕ} → (start_refusal p).number ≡ 0 → Goes p s q k → p.count ≤ k

@@ -28,4 +28,4 @@ returns g c =
     let found : c.smallest_at.result ≡ smallest p c.in_ok-seat.seat.place =
     rw c.guest-g.ensures at c.smallest_at.ensures
     ∙ smallest_is p (look_order _ _ t.looks) t.servers c.in_ok-seat.seat.place (look_here _ _ t.looks) in
-    c.ok_or.ensures.value ∙ capacity_found p c.args.id t.looks found
+    rw c.ok_or.ensures.value (capacity_found p c.args.id t.looks found)

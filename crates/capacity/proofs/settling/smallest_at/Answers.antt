@@ -1,5 +1,5 @@
--- `capacity::settling::smallest_at` meets its contract: nothing works under an unfit guest, else what the search off the
--- columns of its tasks finds. Assumes nothing.
+-- `capacity::settling::smallest_at` meets its contract: nothing works under an unfit guest, else what the search off
+-- the columns of its tasks finds. Assumes nothing.
 use mathlib.Core.Path.{sym, ◌∙◌}
 use native.Mathlib.Omega.{arith}
 use Rattle.response.specs.Columns.{above_of}

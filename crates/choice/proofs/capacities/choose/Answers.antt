@@ -1,5 +1,5 @@
--- `choice::capacities::choose` meets its contract: after k turns the first k guests have their least capacities, and the
--- servers are those of the plan with them. Assumes nothing.
+-- `choice::capacities::choose` meets its contract: after k turns the first k guests have their least capacities, and
+-- the servers are those of the plan with them. Assumes nothing.
 use Rattle.std.proofs.lemmas.Result.{err_from_is_err_and}
 use Rattle.plan.specs.Periodic.{start_refusal}
 use Rattle.plan.specs.Placed.{with_guest}
@@ -28,4 +28,5 @@ loop-k-preserved c = turn_next c.loop-k.invariant c.loop-k-test.true c.in-Some.c
 
 pub returns : goal.returns
 returns c =
-    goes_end _ (ok_says (start_refusal c.args.plan) c.in_ok-start_check.ensures).0 c.loop-k.invariant c.loop-k-test.false
+    goes_end _ (ok_says (start_refusal c.args.plan) c.in_ok-start_check.ensures).0 c.loop-k.invariant
+    c.loop-k-test.false

@@ -1,5 +1,5 @@
--- `order::trying::settle` meets its contract: the seat's refusal, then the tests of 21 and 22, one after the other. Assumes
--- nothing.
+-- `order::trying::settle` meets its contract: the seat's refusal, then the tests of 21 and 22, one after the other.
+-- Assumes nothing.
 use Rattle.std.proofs.lemmas.Result.{err_from_is_err_and}
 use mathlib.Core.Path.{sym, ◌∙◌}
 use Rattle.plan.specs.Placed.{with_guest}
@@ -23,7 +23,8 @@ may_reorder-requires g c = rw c.guest-g.ensures (sits_in c.in_ok-seat.ensures).h
 
 pub returns-then-not-may_reorder : goal.returns-then-not-may_reorder
 returns-then-not-may_reorder g c =
-    settled_21 _ _ c.in_ok-seat.ensures.looks (rw c.guest-g.ensures at (sym c.may_reorder.ensures ∙ c.if-not-may_reorder.true))
+    settled_21 _ _ c.in_ok-seat.ensures.looks
+    (rw c.guest-g.ensures at (sym c.may_reorder.ensures ∙ c.if-not-may_reorder.true))
 
 pub by_deadline-h-requires : goal.by_deadline-h-requires
 by_deadline-h-requires g c = rw c.guest-g.ensures (sits_in c.in_ok-seat.ensures).head.few
@@ -31,7 +32,8 @@ by_deadline-h-requires g c = rw c.guest-g.ensures (sits_in c.in_ok-seat.ensures)
 pub works-requires : goal.works-requires
 works-requires g c =
     let t = c.in_ok-seat.ensures in
-    rw (c.by_deadline-h.ensures, c.guest-g.ensures) (reordered_seated _ (sits_in t) _ (sorted_below _ _) (sits_seated t))
+    rw (c.by_deadline-h.ensures, c.guest-g.ensures)
+    (reordered_seated _ (sits_in t) _ (sorted_below _ _) (sits_seated t))
 
 pub returns-then-not-works : goal.returns-then-not-works
 returns-then-not-works g c =

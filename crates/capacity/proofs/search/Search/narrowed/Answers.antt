@@ -18,8 +18,8 @@ fits-requires-clause-known c = λ b e.
 pub returns-then-not-fits : goal.returns-then-not-fits
 returns-then-not-fits c =
     let a = c.args in (
-      turn_left _ _ (search_halving a.self.now a.i c.requires.within) _ a.left _ c.requires.bounds.0 c.next_try-c.ensures
-          (sym c.fits.ensures ∙ c.if-not-fits.true),
+      turn_left _ _ (search_halving a.self.now a.i c.requires.within) _ a.left _ c.requires.bounds.0
+          c.next_try-c.ensures (sym c.fits.ensures ∙ c.if-not-fits.true),
       λ b e. (let known = c.requires.known b e in (omega (arith, known.0, c.next_try-c.ensures.1), known.1)),
     )
 
@@ -46,9 +46,10 @@ returns-then-is_some c =
     let a = c.args in
     let t = a.self.now.tasks.now in
     let fits = sym c.fits.ensures ∙ c.if-not-fits.false in (
-      turn_here _ _ (search_halving a.self.now a.i c.requires.within) _ a.left _ c.requires.bounds.0 c.next_try-c.ensures
-          (meets_tried (above_of _ _) _ _ _ t.run t.every (nth t.deadline) _ a.i fits c.gaps_of-late.ensures (omega arith)
-          (ap is_some (sym c.task_response-response.ensures) ∙ sym c.is_some.ensures ∙ c.if-is_some.true)),
+      turn_here _ _ (search_halving a.self.now a.i c.requires.within) _ a.left _ c.requires.bounds.0
+          c.next_try-c.ensures
+          (meets_tried (above_of _ _) _ _ _ t.run t.every (nth t.deadline) _ a.i fits c.gaps_of-late.ensures
+          (omega arith) (ap is_some (sym c.task_response-response.ensures) ∙ sym c.is_some.ensures ∙ c.if-is_some.true)),
       known_here _ _ fits,
     )
 
@@ -57,7 +58,8 @@ returns c =
     let a = c.args in
     let t = a.self.now.tasks.now in
     let fits = sym c.fits.ensures ∙ c.if-not-fits.false in (
-      turn_right _ _ (search_halving a.self.now a.i c.requires.within) _ a.left _ c.requires.bounds.0 c.next_try-c.ensures (
+      turn_right _ _ (search_halving a.self.now a.i c.requires.within) _ a.left _ c.requires.bounds.0
+          c.next_try-c.ensures (
         fits,
         meets_tried (above_of _ _) _ _ _ t.run t.every (nth t.deadline) _ a.i fits c.gaps_of-late.ensures (omega arith)
             (ap is_some (sym c.task_response-response.ensures) ∙ sym c.is_some.ensures ∙ c.if-is_some.false),

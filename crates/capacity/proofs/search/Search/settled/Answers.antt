@@ -14,7 +14,8 @@ use Rattle.capacity.proofs.search.Search.settled.Goals as goal
 pub returns-then-is_none : goal.returns-then-is_none
 unfolding fits_at
 returns-then-is_none c =
-    none_works (above_of _ _) (take_grows _ _) _ _ _ _ _ _ (test_is c.guest_response.ensures c.is_none.ensures c.if-is_none.true)
+    none_works (above_of _ _) (take_grows _ _) _ _ _ _ _ _
+    (test_is c.guest_response.ensures c.is_none.ensures c.if-is_none.true)
 
 pub loop-i-init : goal.loop-i-init
 unfolding fits_at
@@ -44,7 +45,8 @@ returns-in_err-c c =
     let past = search_past c.args.self.now c.loop-i.invariant.1 c.gaps_of-late.ensures c.first_unmet-i.ensures
     (omega (arith, c.if-self-i.false)) in
     c.from_residual.ensures
-    ∙ task_nowhere (above_of _ _) _ _ _ _ _ _ _ passed (c.in_err-c.ensures ∙ sym past) _ (omega (arith, c.if-self-i.false))
+    ∙ task_nowhere (above_of _ _) _ _ _ _ _ _ _ passed (c.in_err-c.ensures ∙ sym past) _
+    (omega (arith, c.if-self-i.false))
 
 pub loop-i-preserved : goal.loop-i-preserved
 loop-i-preserved c =
@@ -52,5 +54,6 @@ loop-i-preserved c =
     let past = search_past c.args.self.now c.loop-i.invariant.1 c.gaps_of-late.ensures c.first_unmet-i.ensures
     (omega (arith, c.if-self-i.false)) in (
       omega arith,
-      task_settled (above_of _ _) _ _ _ _ _ _ _ passed (c.in_ok-c.ensures ∙ sym past) (take_grows _ _) (λ j l. c.requires.tasks.runs j (omega arith)),
+      task_settled (above_of _ _) _ _ _ _ _ _ _ passed (c.in_ok-c.ensures ∙ sym past) (take_grows _ _)
+          (λ j l. c.requires.tasks.runs j (omega arith)),
     )
