@@ -34,7 +34,7 @@ pub struct Entries {
 pub fn write_log(jobs: Entries, buf: &mut [u8]) -> Result<(), Refusal>
     ensures { WritesLog jobs buf.old result buf.new }
 {
-    writer::log_number(jobs, buf.len()).map_err(|number| Refusal { number, place: 0 })?;
-    writer::put_log(jobs, buf);
+    writer::log_number(&jobs, buf.len()).map_err(|number| Refusal { number, place: 0 })?;
+    writer::put_log(&jobs, buf);
     Ok(())
 }

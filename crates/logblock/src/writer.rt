@@ -13,9 +13,9 @@ use crate::{Entries, layout};
 
 // Whether each of the first n ages is in its range.
 #[tactic(auto, unfolding(lists::specs::All::all_to))]
-fn ages_in(jobs: Entries, n: usize) -> bool
+fn ages_in(jobs: &Entries, n: usize) -> bool
     requires { n ≤ most_jobs }
-    ensures { result ≡ all_to (λ i. within 1 longest (entry_at jobs i).age) n }
+    ensures { result ≡ all_to (λ i. within 1 longest (entry_at jobs.now i).age) n }
 {
     let mut ok = true;
     for entry in &jobs.entries[..n] {
@@ -26,8 +26,8 @@ fn ages_in(jobs: Entries, n: usize) -> bool
 
 // Whether the writer does not refuse, or the number that it refuses by, for a buffer of so many bytes.
 #[tactic(auto, unfolding(crate::specs::Writing::log_number, crate::specs::Entries::jobs_ok, lists::specs::Refusals::refusal, lists::specs::Refusals::unless))]
-pub fn log_number(jobs: Entries, size: usize) -> Result<(), u32>
-    ensures { result ≡ unless_number (log_number jobs size) tt }
+pub fn log_number(jobs: &Entries, size: usize) -> Result<(), u32>
+    ensures { result ≡ unless_number (log_number jobs.now size) tt }
 {
     if size < block::layout::SIZE {
         return Err(12);
@@ -39,9 +39,9 @@ pub fn log_number(jobs: Entries, size: usize) -> Result<(), u32>
 }
 
 // The log block of the entries put into the first 512 bytes.
-pub fn put_log(jobs: Entries, buf: &mut [u8])
-    requires { (block_size ≤ length buf.old) × (jobs.count ≤ most_jobs) }
-    ensures { buf.new ≡ log_of jobs ++ drop block_size buf.old }
+pub fn put_log(jobs: &Entries, buf: &mut [u8])
+    requires { (block_size ≤ length buf.old) × (jobs.now.count ≤ most_jobs) }
+    ensures { buf.new ≡ log_of jobs.now ++ drop block_size buf.old }
 {
     words::put_zeros(buf, block::layout::SIZE);
     words::put_word(

@@ -42,8 +42,8 @@ pub struct Stated {
 }
 
 // The plan of a call that is not refused, or the refusal.
-fn checked(running: Statement, plan: &[u8], log: &[u8]) -> Result<Plan, Refusal>
-    ensures { result ≡ unless_refused (call_refusal running plan.now log.now) (read_of plan.now).plan }
+fn checked(running: &Statement, plan: &[u8], log: &[u8]) -> Result<Plan, Refusal>
+    ensures { result ≡ unless_refused (call_refusal running.now plan.now log.now) (read_of plan.now).plan }
 {
     let records = planfile::read(plan)?;
     if !ranges::statement_ok(running) {
@@ -65,7 +65,7 @@ fn checked(running: Statement, plan: &[u8], log: &[u8]) -> Result<Plan, Refusal>
 pub fn extend(running: Statement, plan: &[u8], log: &[u8]) -> Stated
     ensures { Extends running plan.now log.now result }
 {
-    match checked(running, plan, log) {
+    match checked(&running, plan, log) {
         Ok(records) => taking::stated(running, &records, log),
         Err(refusal) => Stated {
             refusal,

@@ -22,9 +22,9 @@ fn line_ok(most: u64, margins: i64, jobs: u32, oldest: u32, late: u32) -> bool
 
 // Whether all 128 lines are in their ranges.
 #[tactic(auto, unfolding(crate::specs::Lines::line_ok))]
-fn lines_ok(s: Statement) -> bool
-    requires { s.blocks ≤ most_blocks }
-    ensures { result ≡ all_to (line_ok s) most_lines }
+fn lines_ok(s: &Statement) -> bool
+    requires { s.now.blocks ≤ most_blocks }
+    ensures { result ≡ all_to (line_ok s.now) most_lines }
 {
     let most = u64::from(logblock::MOST_JOBS) * s.blocks;
     let mut ok = true;
@@ -36,8 +36,8 @@ fn lines_ok(s: Statement) -> bool
 
 // Whether the statement is in its ranges.
 #[tactic(auto, unfolding(crate::specs::Lines::statement_ok))]
-pub fn statement_ok(s: Statement) -> bool
-    ensures { result ≡ statement_ok s }
+pub fn statement_ok(s: &Statement) -> bool
+    ensures { result ≡ statement_ok s.now }
 {
     s.blocks <= MOST_BLOCKS && lines_ok(s)
 }

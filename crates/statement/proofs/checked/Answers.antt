@@ -6,19 +6,19 @@ use Rattle.statement.proofs.checked.Goals as goal
 pub returns-in_err-records : goal.returns-in_err-records
 returns-in_err-records c =
     let q : c.from_residual.result ≡ Err c.in_err-records.field-0.0 = search rules in
-    q ∙ plan_refused c.args.running c.args.plan.now c.args.log.now c.in_err-records.ensures
+    q ∙ plan_refused c.args.running.now c.args.plan.now c.args.log.now c.in_err-records.ensures
 
 pub returns-then-not-statement_ok : goal.returns-then-not-statement_ok
 returns-then-not-statement_ok c =
-    state_refused c.args.running c.args.plan.now c.args.log.now c.in_ok-records.ensures
+    state_refused c.args.running.now c.args.plan.now c.args.log.now c.in_ok-records.ensures
     (sym c.statement_ok.ensures ∙ c.if-not-statement_ok.true)
 
 pub returns-then-log-ne0 : goal.returns-then-log-ne0
 returns-then-log-ne0 c =
-    length_refused c.args.running c.args.plan.now c.args.log.now c.in_ok-records.ensures
+    length_refused c.args.running.now c.args.plan.now c.args.log.now c.in_ok-records.ensures
     (sym c.statement_ok.ensures ∙ c.if-not-statement_ok.false) c.if-log-ne0.true
 
 pub returns : goal.returns
 returns c =
-    none_refused c.args.running c.args.plan.now c.args.log.now c.in_ok-records.ensures
+    none_refused c.args.running.now c.args.plan.now c.args.log.now c.in_ok-records.ensures
     (sym c.statement_ok.ensures ∙ c.if-not-statement_ok.false) c.if-log-ne0.false

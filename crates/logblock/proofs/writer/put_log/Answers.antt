@@ -27,9 +27,9 @@ unfolding log_words
 returns c =
     let a = c.args in
     let t = drop block_size a.buf.now in
-    let e : c.loop-i.i ≡ a.jobs.count = omega arith in
+    let e : c.loop-i.i ≡ a.jobs.now.count = omega arith in
     c.put_check.ensures
-    ∙ log_laid a.jobs t c.loop-i.buf
+    ∙ log_laid a.jobs.now t c.loop-i.buf
     (rw e at
-    (c.loop-i.invariant (opening a.jobs) t (opening_length a.jobs)
-    (opening_laid a.jobs t c.put_zeros.new.b _ c.put_zeros.ensures c.put_word.ensures)))
+    (c.loop-i.invariant (opening a.jobs.now) t (opening_length a.jobs.now)
+    (opening_laid a.jobs.now t c.put_zeros.new.b _ c.put_zeros.ensures c.put_word.ensures)))

@@ -13,7 +13,7 @@ pub loop-k-preserved : goal.loop-k-preserved
 unfolding line_ok
 loop-k-preserved c =
     let l = c.loop-k in
-    all_turn (line_ok c.args.s) l.k l.ok _ l.invariant (search rules)
+    all_turn (line_ok c.args.s.now) l.k l.ok _ l.invariant (search rules)
 
 pub returns : goal.returns
 returns c = let l = c.loop-k in all_end (line_ok _) l.k most_lines l.invariant (omega arith) (omega arith)
