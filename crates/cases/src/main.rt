@@ -48,8 +48,9 @@ fn set_marks(p: &mut Plan, place: u32, marks: u32) {
     }
 }
 
-// What a line that is not answered does: `new` empties the plan, `count` says how many of its guests count, `marks` sets
-// those of a guest; `Keep` makes it the standing plan; others set a number of the dispatcher's state, or add to the plan.
+// What a line that is not answered does: `new` empties the plan, `count` says how many of its guests count, `marks`
+// sets those of a guest; `Keep` makes it the standing plan; others set a number of the dispatcher's state, or add to
+// the plan.
 fn change(desk: &mut Desk, row: Row) {
     let [a, b, ..] = row.numbers;
     match row.first {

@@ -3,7 +3,8 @@ use draft::text::Row;
 use plan::Refusal;
 use std::io;
 
-// Writes a line out again. One that starts with # says why an outcome is right, and is left out, but for zeros before it.
+// Writes a line out again. One that starts with # says why an outcome is right, and is left out, but for zeros before
+// it.
 pub fn echo(rt: &impl Print, line: &[u8], row: Row) -> io::Result<()> {
     if row.first != b'#' {
         return rt.write_all(line);

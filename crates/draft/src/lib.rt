@@ -100,8 +100,8 @@ fn write_block(mut g: Guest, place: u32, buf: &mut [u8], old: bool) -> Result<()
     Ok(())
 }
 
-// The plan's blocks, one after the other, up to the first that is refused; none with more than 8 guests. An old card can
-// have Deferrable guests.
+// The plan's blocks, one after the other, up to the first that is refused; none with more than 8 guests. An old card
+// can have Deferrable guests.
 pub fn write(p: &Plan, buf: &mut [u8], old: bool) -> Result<(), Refusal> {
     if MOST_GUESTS < p.count {
         return Ok(());

@@ -54,8 +54,8 @@ fn change(desk: &mut Desk, row: Row) {
     }
 }
 
-// What a line asks: `Write` puts the jobs gathered into a block of so many bytes at the log's end, `Extend` adds so many
-// bytes of the log to the statement, `Margins` asks for the sum of a line. The answer ends the line.
+// What a line asks: `Write` puts the jobs gathered into a block of so many bytes at the log's end, `Extend` adds so
+// many bytes of the log to the statement, `Margins` asks for the sum of a line. The answer ends the line.
 fn asked(rt: &impl Print, desk: &mut Desk, row: Row) -> io::Result<()> {
     let [a, b, ..] = row.numbers;
     match row.first {

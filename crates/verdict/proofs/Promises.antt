@@ -11,7 +11,9 @@ use Rattle.verdict.specs.Promises.{GuestJudged, TaskJudged, Accepts}
 use Rattle.plan.proofs.Promises.{one_outcome}
 
 -- guest_verdict has one outcome
-pub guest_judged_once : (p : Plan) (id : ℕ) (r s : Result GuestVerdict Refusal) → GuestJudged p id r → GuestJudged p id s → r ≡ s
+pub guest_judged_once : (p : Plan) (id : ℕ) (r s : Result GuestVerdict Refusal) → GuestJudged p id r
+    → GuestJudged p id s
+    → r ≡ s
 guest_judged_once p id r s = one_outcome
 
 -- task_verdict has one outcome

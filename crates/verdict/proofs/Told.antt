@@ -21,7 +21,8 @@ use Rattle.verdict.specs.Promises.{GuestJudged, TaskJudged, Accepts}
 use Rattle.verdict.specs.Told.{guest_told, task_told, plan_told, GuestTells, TaskTells, PlanTells}
 
 -- what an outcome tells is the refusal, or else what the answer tells
-pub outcome_told : {A : Type 0} (told : Result A Refusal → Told) → ((r : Refusal) → told (Err r) ≡ refusing r.number r.place)
+pub outcome_told : {A : Type 0} (told : Result A Refusal → Told)
+    → ((r : Refusal) → told (Err r) ≡ refusing r.number r.place)
     → (r : Refusal) {v : A} {u : Told} → told (Ok v) ≡ u → told (unless_refused r v) ≡ refuse_or refusing r u
 unfolding refused_by
 outcome_told {A} told refuses r e = by r.number r.place e
@@ -59,7 +60,8 @@ plan_value false = refl
 -- what guest_verdict tells
 pub guest_told_lem : (p : Plan) (id : ℕ) (r : Result GuestVerdict Refusal) → GuestJudged p id r → GuestTells p id r
 unfolding guest_verdict guest_told
-guest_told_lem p id r e = ap guest_told e ∙ outcome_told guest_told (λ r. refl) _ (guest_value (guest_response p (place_of p id)))
+guest_told_lem p id r e =
+    ap guest_told e ∙ outcome_told guest_told (λ r. refl) _ (guest_value (guest_response p (place_of p id)))
 
 -- what task_verdict tells
 pub task_told_lem : (p : Plan) (id number : ℕ) (r : Result TaskVerdict Refusal) → TaskJudged p id number r

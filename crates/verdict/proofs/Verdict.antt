@@ -39,12 +39,14 @@ unfolding task_says
 says_unjudged deadline f e = rw e refl
 
 -- a task under fitted guests has the verdict of its response
-pub says_judged : {b : Bool} (deadline : ℕ) {f a : Option ℕ} {v : TaskVerdict} → b ≡ true → v ≡ task_says true deadline f
+pub says_judged : {b : Bool} (deadline : ℕ) {f a : Option ℕ} {v : TaskVerdict} → b ≡ true
+    → v ≡ task_says true deadline f
     → f ≡ a → v ≡ task_says b deadline a
 says_judged deadline e q t = rw (e, ← t) q
 
 -- a refusal by the records' order ends what is asked of a plan
-pub check_ends : {A : Type 0} (p : Plan) {r : Refusal} → Checks p (Err r) → (v : A) → Err r ≡ unless_refused (plan_refusal p) v
+pub check_ends : {A : Type 0} (p : Plan) {r : Refusal} → Checks p (Err r) → (v : A)
+    → Err r ≡ unless_refused (plan_refusal p) v
 check_ends p e v =
     let s = err_says (plan_refusal p) tt e in err_unless (plan_refusal p) v s.0 (rw s.0 s.1)
 
@@ -53,7 +55,8 @@ pub look_ends : {A : Type 0} (p : Plan) (id : ℕ) {r : Refusal} → LooksUp p i
     → Err r ≡ unless_refused (records_then p (has_guest p id or_refuse 7 ∷ ts)) v
 look_ends p id l ts v =
     let s = err_says (records_then p (has_guest p id or_refuse 7 ∷ [])) (place_of p id) l in
-    err_unless (records_then p (has_guest p id or_refuse 7 ∷ ts)) v (s.0 ∙ records_first p (has_guest p id) 7 ts s.1) (rw s.0 s.1)
+    err_unless (records_then p (has_guest p id or_refuse 7 ∷ ts)) v
+    (s.0 ∙ records_first p (has_guest p id) 7 ts s.1) (rw s.0 s.1)
 
 -- a guest that the way in found
 module _ (p : Plan) (id : ℕ) {k : ℕ} (l : LooksUp p id (Ok k)) where
@@ -88,7 +91,8 @@ module _ (p : Plan) (id : ℕ) {k : ℕ} (l : LooksUp p id (Ok k)) where
         → Ok v ≡ guest_verdict p id
     unfolding guest_verdict
     guest_judged e q =
-        ap Ok (q ∙ ap guest_says (e ∙ servers_respond p f k (look_few p id l) ∙ ap (guest_response p) (look_place p id l)))
+        ap Ok
+        (q ∙ ap guest_says (e ∙ servers_respond p f k (look_few p id l) ∙ ap (guest_response p) (look_place p id l)))
         ∙ ok_unless (records_then p here) _ (omega (arith, (ok_says (records_then p here) l).0))
 
     -- the verdict of the task
@@ -96,7 +100,8 @@ module _ (p : Plan) (id : ℕ) {k : ℕ} (l : LooksUp p id (Ok k)) where
         → b ≡ has_number (guest_at p.guests k).tasks number → b ≡ true
         → v
         ≡ task_says (all_to (fitted_of s) (k + 1)) (deadline_of (guest_at p.guests k) (number - 1))
-        (task_under (system_of (above_of s k) (guest_at p.guests k)) (number - 1) (limit (guest_at p.guests k) (number - 1)))
+        (task_under (system_of (above_of s k) (guest_at p.guests k)) (number - 1)
+        (limit (guest_at p.guests k) (number - 1)))
         → Ok v ≡ task_verdict p id number
     unfolding task_verdict task_response response_to
     task_judged number e t q =
@@ -107,7 +112,8 @@ module _ (p : Plan) (id : ℕ) {k : ℕ} (l : LooksUp p id (Ok k)) where
         (q
         ∙ ap (λ (b : Bool). task_says b (deadline_of g i) (task_under (system_of (above_of s k) g) i (limit g i)))
         (servers_fit_to p f k (look_few p id l))
-        ∙ ap (λ (above : ℕ → ℕ). task_says (fitted_to p k) (deadline_of g i) (task_under (system_of above g) i (limit g i)))
+        ∙ ap (λ (above : ℕ → ℕ).
+        task_says (fitted_to p k) (deadline_of g i) (task_under (system_of above g) i (limit g i)))
         (servers_take p f k (omega (arith, look_few p id l)))
         ∙ ap (λ (j : ℕ). task_says (fitted_to p j) (deadline_of (guest_at p.guests j) i) (task_response p j i))
         (look_place p id l)))

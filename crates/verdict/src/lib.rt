@@ -16,7 +16,8 @@ pub enum GuestVerdict {
     Unfit,
 }
 
-// The verdict of a task: met with its response; unmet with its response, or with none up to the task's period; unjudged.
+// The verdict of a task: met with its response; unmet with its response, or with none up to the task's period;
+// unjudged.
 #[derive(Clone, Copy, PartialEq, Eq)]
 pub enum TaskVerdict {
     Met(u32),

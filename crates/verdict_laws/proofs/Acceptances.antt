@@ -56,7 +56,8 @@ acceptance_means p ok = rw ok (go (accepted p) refl)
     go false e = unfold accept_says in λ g. false≢true (sym e ∙ good_accepted p g)
 
 -- no other acceptance has that meaning
-pub acceptance_only : (p : Plan) → (plan_refusal p).number ≡ 0 → (v : Result Acceptance Refusal) → AcceptMeans p v → v ≡ acceptance p
+pub acceptance_only : (p : Plan) → (plan_refusal p).number ≡ 0 → (v : Result Acceptance Refusal) → AcceptMeans p v
+    → v ≡ acceptance p
 acceptance_only p ok v a = go v (acceptance p) a (acceptance_means p ok)
   where
     go : (v u : Result Acceptance Refusal) → AcceptMeans p v → AcceptMeans p u → v ≡ u

@@ -36,7 +36,8 @@ pub task_verdict_is :
     (p : Plan) (id k i : ℕ)
     → There p id k
     → i < (guest_at p.guests k).tasks
-    → task_verdict p id (suc i) ≡ Ok (task_says (fitted_to p k) (deadline_of (guest_at p.guests k) i) (task_response p k i))
+    → task_verdict p id (suc i)
+    ≡ Ok (task_says (fitted_to p k) (deadline_of (guest_at p.guests k) i) (task_response p k i))
 unfolding task_verdict has_task
 task_verdict_is p id k i t h =
     let place = there_place p id k t in
@@ -52,7 +53,8 @@ task_verdict_is p id k i t h =
 -- no solution up to the period
 response_means : (p : Plan) (k i : ℕ) → AllFit p k → (f : Option ℕ)
     → Answers (task_right p k i) (limit (guest_at p.guests k) i - gap (guest_at p.guests k) i) f
-    → TaskMeans p k i (Ok (task_says true (deadline_of (guest_at p.guests k) i) (later (gap (guest_at p.guests k) i) f)))
+    → TaskMeans p k i
+    (Ok (task_says true (deadline_of (guest_at p.guests k) i) (later (gap (guest_at p.guests k) i) f)))
 unfolding task_says limit response_of
 response_means p k i all None a = record { fitted = all; none = λ w s h. a w s.low (omega arith) s.solves }
 response_means p k i all (Some w) a = by (leb r deadline) refl
@@ -118,7 +120,8 @@ judged_means p id number {v} e =
     )
 
 -- a verdict that quotes R means that R is quoted
-pub quotes_mean : (p : Plan) (k i R : ℕ) (v : Result TaskVerdict Refusal) → Quotes v R → TaskMeans p k i v → TaskQuoted p k i R
+pub quotes_mean : (p : Plan) (k i R : ℕ) (v : Result TaskVerdict Refusal) → Quotes v R → TaskMeans p k i v
+    → TaskQuoted p k i R
 quotes_mean p k i R (Err r) q a = absurd q
 quotes_mean p k i R (Ok (Met r)) q a = rw (← q) a.quoted
 quotes_mean p k i R (Ok (UnmetAt r)) q a = rw (← q) a.quoted
@@ -166,7 +169,8 @@ task_means_one p k i (Ok (Met r)) (Ok Unmet) a b = absurd (quoted_unmet p k i r 
 task_means_one p k i (Ok (Met r)) (Ok Unjudged) a b = absurd (judged_unjudged p k a.quoted.fitted b)
 task_means_one p k i (Ok (UnmetAt r)) (Err o) a b = absurd b
 task_means_one p k i (Ok (UnmetAt r)) (Ok (Met s)) a b = absurd (met_late p k i s r b a)
-task_means_one p k i (Ok (UnmetAt r)) (Ok (UnmetAt s)) a b = ap (λ (r : ℕ). Ok (UnmetAt r)) (quoted_one p k i r s a.quoted b.quoted)
+task_means_one p k i (Ok (UnmetAt r)) (Ok (UnmetAt s)) a b =
+    ap (λ (r : ℕ). Ok (UnmetAt r)) (quoted_one p k i r s a.quoted b.quoted)
 task_means_one p k i (Ok (UnmetAt r)) (Ok Unmet) a b = absurd (quoted_unmet p k i r a.quoted b)
 task_means_one p k i (Ok (UnmetAt r)) (Ok Unjudged) a b = absurd (judged_unjudged p k a.quoted.fitted b)
 task_means_one p k i (Ok Unmet) (Err o) a b = absurd b
@@ -181,7 +185,8 @@ task_means_one p k i (Ok Unjudged) (Ok Unmet) a b = absurd (judged_unjudged p k 
 task_means_one p k i (Ok Unjudged) (Ok Unjudged) a b = refl
 
 -- no other verdict has that meaning
-pub task_verdict_only : (p : Plan) (id k i : ℕ) → There p id k → i < (guest_at p.guests k).tasks → (v : Result TaskVerdict Refusal)
+pub task_verdict_only : (p : Plan) (id k i : ℕ) → There p id k → i < (guest_at p.guests k).tasks
+    → (v : Result TaskVerdict Refusal)
     → TaskMeans p k i v → v ≡ task_verdict p id (suc i)
 task_verdict_only p id k i t h v a =
     task_means_one p k i v (task_verdict p id (suc i)) a (task_verdict_means p id k i t h)

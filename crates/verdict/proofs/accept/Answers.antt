@@ -1,5 +1,5 @@
--- `verdict::accept` meets its promise: refused by the records' order, else guests that are accepted up to one that is not.
--- Assumes nothing.
+-- `verdict::accept` meets its promise: refused by the records' order, else guests that are accepted up to one that is
+-- not. Assumes nothing.
 use mathlib.Core.Path.{sym, ◌∙◌}
 use native.Mathlib.Omega.{arith}
 use Rattle.std.proofs.lemmas.Result.{err_from_is_err_and}
@@ -28,7 +28,8 @@ pub guest_accepted-requires : goal.guest_accepted-requires
 guest_accepted-requires g c =
     let p = g.P.AsPlan.plan c.args.plan.now in
     rw c.guest.ensures
-    (seated_at p (c.servers_of-servers.ensures _ c.columns_of.ensures) (check_order p c.in_ok-check.ensures) _ (omega (arith, c.count-k-end.ensures)))
+    (seated_at p (c.servers_of-servers.ensures _ c.columns_of.ensures) (check_order p c.in_ok-check.ensures) _
+    (omega (arith, c.count-k-end.ensures)))
 
 pub returns-then-not-guest_accepted : goal.returns-then-not-guest_accepted
 unfolding accept_says

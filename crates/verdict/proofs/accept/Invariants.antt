@@ -1,5 +1,5 @@
--- `verdict::accept` meets its promise: refused by the records' order, else guests that are accepted up to one that is not.
--- Assumes nothing.
+-- `verdict::accept` meets its promise: refused by the records' order, else guests that are accepted up to one that is
+-- not. Assumes nothing.
 use mathlib.Core.Path.{◌≡◌}
 use mathlib.Core.Bool.{true}
 use Rattle.lists.specs.All.{all_to}

@@ -15,8 +15,10 @@ returns-in_err-place g c =
 
 pub response_at-requires : goal.response_at-requires
 response_at-requires g c =
-    let s = sits_servers c.in_ok-place.ensures in
-    ((omega (arith, s.place), (λ j h. (s.ranged j (omega arith)).short, λ j h. s.late j (omega arith))), s.ranged _ (omega arith))
+    let s = sits_servers c.in_ok-place.ensures in (
+      (omega (arith, s.place), (λ j h. (s.ranged j (omega arith)).short, λ j h. s.late j (omega arith))),
+      s.ranged _ (omega arith),
+    )
 
 pub returns : goal.returns
 returns g c =

@@ -39,4 +39,5 @@ returns c =
     let t = c.tasks_of-tasks.ensures in
     says_judged _ (sym c.all_fitted.ensures ∙ c.if-not-all_fitted.false) c.met_or_not.ensures
     (c.task_response-f.ensures
-    ∙ task_alike _ _ _ _ (omega (arith, s.1, t.count)) (tasks_alike (above_of _ _) c.args.g.now t c.gaps_of-late.ensures) _)
+    ∙ task_alike _ _ _ _ (omega (arith, s.1, t.count))
+    (tasks_alike (above_of _ _) c.args.g.now t c.gaps_of-late.ensures) _)
