@@ -6,7 +6,7 @@ ghost use Rattle.dispatcher.specs.Promises.{Runs};
 use crate::answering::{finished, unfinished};
 use crate::{Answer, Dispatcher, Ran, RunOutcome};
 use plan::{AsPlan, Refusal};
-use refusals::{Lent, NO_COLUMNS, examine_into};
+use refusals::{Lent, NO_COLUMNS, examine};
 use steps::steps;
 
 // The longest run, in ticks.
@@ -46,7 +46,7 @@ pub fn run_in<P: AsPlan>(
         age,
     };
     let mut columns = NO_COLUMNS;
-    if !examine_into(plan, &lent, &mut columns) {
+    if !examine(plan, &lent, &mut columns) {
         return Err(14);
     }
     if LONGEST_RUN < ticks {

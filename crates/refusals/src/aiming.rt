@@ -5,7 +5,7 @@ ghost use Rattle.plan.specs.Ranges.{most_tasks, guest_ok, tasks_ok};
 ghost use Rattle.plan.specs.Marks.{marked};
 ghost use Rattle.refusals.specs.Aims.{AimsAt, Aims};
 
-use crate::validating::examine_into;
+use crate::validating::examine;
 use crate::{Aim, Lent, NO_COLUMNS};
 use plan::{AsPlan, Guest};
 
@@ -52,7 +52,7 @@ pub fn aim_by_id<P: AsPlan>(plan: &P, lent: &Lent, guest: u32, task: u32) -> Res
         lent.now.rest.now lent.now.wait.now lent.now.age.now guest task result }
 {
     let mut columns = NO_COLUMNS;
-    if !examine_into(plan, lent, &mut columns) {
+    if !examine(plan, lent, &mut columns) {
         return Err(14);
     }
     let n = plan.count() as usize;

@@ -7,7 +7,7 @@ mod validating;
 
 pub use aiming::aim_by_id;
 use plan::Columns;
-pub use validating::{examine, examine_into};
+pub use validating::examine;
 
 // A state's numbers, lent to be looked at: two of each guest and three of each of its 16 places.
 #[derive(Clone, Copy)]

@@ -6,8 +6,8 @@ ghost use Rattle.plan.specs.Ranges.{most_guests};
 ghost use Rattle.plan.specs.Filled.{ColumnsOf};
 ghost use Rattle.refusals.specs.Check.{goes, past_ok, Examined};
 
+use crate::Lent;
 use crate::ranges::{blank_ok, guest_ok};
-use crate::{Lent, NO_COLUMNS};
 use plan::{AsPlan, Columns};
 
 // Whether the plan's guests are in their ranges, place by place, and their columns.
@@ -54,7 +54,7 @@ fn blanks_ok(n: usize, lent: &Lent) -> bool
 // Whether a state is in its ranges; the columns of its plan's guests are then in those that are lent. These are lent
 // since a tick and a release in place have little stack, on which an Option of columns would stand three times.
 #[tactic(auto, unfolding(crate::specs::Check::passes))]
-pub fn examine_into<P: AsPlan>(plan: &P, lent: &Lent, columns: &mut Columns) -> bool
+pub fn examine<P: AsPlan>(plan: &P, lent: &Lent, columns: &mut Columns) -> bool
     ensures { Examined (P.plan plan.now) lent.now.left.now lent.now.position.now
         lent.now.rest.now lent.now.wait.now lent.now.age.now
         (pick result (Some columns.new) None) }
@@ -65,17 +65,4 @@ pub fn examine_into<P: AsPlan>(plan: &P, lent: &Lent, columns: &mut Columns) -> 
     }
     let n = count as usize;
     guests_ok(plan, n, lent, columns) & blanks_ok(n, lent)
-}
-
-// The columns of a plan whose state is in its ranges.
-pub fn examine<P: AsPlan>(plan: &P, lent: &Lent) -> Option<Columns>
-    ensures { Examined (P.plan plan.now) lent.now.left.now lent.now.position.now
-        lent.now.rest.now lent.now.wait.now lent.now.age.now result }
-{
-    let mut columns = NO_COLUMNS;
-    if examine_into(plan, lent, &mut columns) {
-        Some(columns)
-    } else {
-        None
-    }
 }

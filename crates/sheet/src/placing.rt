@@ -10,7 +10,7 @@ use crate::Gathered;
 use crate::pairs::take_all;
 use jobs::put_jobs;
 use plan::AsPlan;
-use refusals::{Lent, examine};
+use refusals::{Lent, NO_COLUMNS, examine};
 
 // The most pairs on a sheet.
 const MOST_PAIRS: usize = 256;
@@ -59,9 +59,10 @@ pub fn release_all_in<P: AsPlan>(
         wait,
         age,
     };
-    let Some(columns) = examine(plan, &lent) else {
+    let mut columns = NO_COLUMNS;
+    if !examine(plan, &lent, &mut columns) {
         return Err(14);
-    };
+    }
     room_for(pairs.len(), answers.len())?;
     let mut runs = [0u32; 128];
     let mut periods = [0u32; 128];

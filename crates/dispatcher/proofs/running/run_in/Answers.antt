@@ -10,17 +10,17 @@ use Rattle.dispatcher.proofs.Lent.{small_tasks, telling, ending}
 use Rattle.dispatcher.proofs.Run.{gone_in}
 use Rattle.dispatcher.proofs.Entries.{run_refused, run_long, run_idle, run_done}
 use Rattle.dispatcher.proofs.running.run_in.Given.{Over}
-use Rattle.dispatcher.proofs.running.run_in.Goals.{Else-not-examine_into, After-steps-went}
+use Rattle.dispatcher.proofs.running.run_in.Goals.{Else-not-examine, After-steps-went}
 use Rattle.dispatcher.proofs.running.run_in.Goals as goal
 
 -- the state that is lent, which is in its ranges
-abbrev lent : (g : Over) → Else-not-examine_into g → Dispatcher
+abbrev lent : (g : Over) → Else-not-examine g → Dispatcher
 lent g c =
     let a = c.args in
     state_of (g.P.AsPlan.plan a.plan.now) a.left.now a.position.now a.rest.now a.wait.now a.age.now a.usage.now
 
-in_range : (g : Over) (c : Else-not-examine_into g) → InRange (lent g c) c.examine_into.new.columns
-in_range g c = examines (lent g c) (Some c.examine_into.new.columns) (rw c.if-not-examine_into.false at c.examine_into.ensures)
+in_range : (g : Over) (c : Else-not-examine g) → InRange (lent g c) c.examine.new.columns
+in_range g c = examines (lent g c) (Some c.examine.new.columns) (rw c.if-not-examine.false at c.examine.ensures)
 
 -- the same after the steps, which are a run
 abbrev before : (g : Over) → After-steps-went g → Dispatcher
@@ -33,22 +33,22 @@ after g c =
     let n = c.steps-went.new in
     state_of (g.P.AsPlan.plan c.args.plan.now) n.left n.position n.rest n.wait n.age n.usage
 
-was_in_range : (g : Over) (c : After-steps-went g) → InRange (before g c) c.examine_into.new.columns
-was_in_range g c = examines (before g c) (Some c.examine_into.new.columns) (rw c.if-not-examine_into.false at c.examine_into.ensures)
+was_in_range : (g : Over) (c : After-steps-went g) → InRange (before g c) c.examine.new.columns
+was_in_range g c = examines (before g c) (Some c.examine.new.columns) (rw c.if-not-examine.false at c.examine.ensures)
 
 went : (g : Over) (c : After-steps-went g) → Gone (before g c) c.args.ticks c.steps-went.result.done c.steps-went.result.turn (after g c)
 went g c = gone_in (was_in_range g c) (rw c.count-n.ensures at c.steps-went.ensures)
 
-pub returns-then-not-examine_into : goal.returns-then-not-examine_into
-returns-then-not-examine_into g c = run_refused _ _ (examines _ None (rw c.if-not-examine_into.true at c.examine_into.ensures))
+pub returns-then-not-examine : goal.returns-then-not-examine
+returns-then-not-examine g c = run_refused _ _ (examines _ None (rw c.if-not-examine.true at c.examine.ensures))
 
 pub returns-then-ticks-gt-LONGEST_RUN : goal.returns-then-ticks-gt-LONGEST_RUN
 returns-then-ticks-gt-LONGEST_RUN g c =
-    run_long _ _ (in_range g (goal.at.returns-then-ticks-gt-LONGEST_RUN g c).Else-not-examine_into).okay c.if-ticks-gt-LONGEST_RUN.true
+    run_long _ _ (in_range g (goal.at.returns-then-ticks-gt-LONGEST_RUN g c).Else-not-examine).okay c.if-ticks-gt-LONGEST_RUN.true
 
 pub steps-went-requires : goal.steps-went-requires
 steps-went-requires g c =
-    let x = in_range g (goal.at.steps-went-requires g c).Else-not-examine_into in
+    let x = in_range g (goal.at.steps-went-requires g c).Else-not-examine in
     rw c.count-n.ensures (small_tasks (ok_plan _ x.okay) x.columns)
 
 pub returns-then-went-lt1 : goal.returns-then-went-lt1

@@ -7,12 +7,12 @@ use Rattle.sheet.proofs.Whole.{state_refuses, room_refuses, room_none, whole_tak
 use Rattle.sheet.proofs.Whole.{plan_fine, small, sheet_columns}
 use Rattle.sheet.proofs.placing.release_all_in.Goals as goal
 
-pub returns-in_default : goal.returns-in_default
-returns-in_default g c =
+pub returns-then-not-examine : goal.returns-then-not-examine
+returns-then-not-examine g c =
     let a = c.args in
     λ usage.
     let d = state_of (g.P.AsPlan.plan a.plan.now) a.left.now a.position.now a.rest.now a.wait.now a.age.now usage in
-    state_refuses d a.pairs.now a.answers.now (examines d None c.in_default.ensures)
+    state_refuses d a.pairs.now a.answers.now (examines d None (rw c.if-not-examine.true at c.examine.ensures))
 
 pub returns-in_err-room_for : goal.returns-in_err-room_for
 returns-in_err-room_for g c =
@@ -20,20 +20,20 @@ returns-in_err-room_for g c =
     let e = err_from_is_err_and c.from_residual.result c.from_residual.ensures.1 in
     λ usage.
     let d = state_of (g.P.AsPlan.plan a.plan.now) a.left.now a.position.now a.rest.now a.wait.now a.age.now usage in
-    let E = examines d (Some c.in-Some.columns) c.in-Some.ensures in
+    let E = examines d (Some c.examine.new.columns) (rw c.if-not-examine.false at c.examine.ensures) in
     rw (e.1, e.2) (room_refuses d a.pairs.now a.answers.now E c.in_err-room_for.ensures)
 
 pub put_jobs-bars-requires : goal.put_jobs-bars-requires
 put_jobs-bars-requires g c =
     let a = c.args in
     let d = state_of (g.P.AsPlan.plan a.plan.now) a.left.now a.position.now a.rest.now a.wait.now a.age.now [] in
-    plan_fine d a.pairs.now a.answers.now (examines d (Some c.in-Some.columns) c.in-Some.ensures)
+    plan_fine d a.pairs.now a.answers.now (examines d (Some c.examine.new.columns) (rw c.if-not-examine.false at c.examine.ensures))
 
 pub invariant_of-sheet : goal.invariant_of-sheet
 invariant_of-sheet g c =
     let a = c.args in
     let d = state_of (g.P.AsPlan.plan a.plan.now) a.left.now a.position.now a.rest.now a.wait.now a.age.now [] in
-    let E = examines d (Some c.in-Some.columns) c.in-Some.ensures in
+    let E = examines d (Some c.examine.new.columns) (rw c.if-not-examine.false at c.examine.ensures) in
     rw c.count.ensures
     (record { small = small d a.pairs.now a.answers.now E; nothing = c.put_jobs-bars.ensures.1.nothing })
 
@@ -41,7 +41,7 @@ pub take_all-requires : goal.take_all-requires
 take_all-requires g c =
     let a = c.args in
     let d = state_of (g.P.AsPlan.plan a.plan.now) a.left.now a.position.now a.rest.now a.wait.now a.age.now [] in
-    let E = examines d (Some c.in-Some.columns) c.in-Some.ensures in
+    let E = examines d (Some c.examine.new.columns) (rw c.if-not-examine.false at c.examine.ensures) in
     room_enough d a.pairs.now a.answers.now E (room_none d a.pairs.now a.answers.now E c.in_ok-room_for.ensures)
 
 pub returns : goal.returns
@@ -50,7 +50,7 @@ returns g c =
     let p = g.P.AsPlan.plan a.plan.now in
     λ usage.
     let d = state_of p a.left.now a.position.now a.rest.now a.wait.now a.age.now usage in
-    let E = examines d (Some c.in-Some.columns) c.in-Some.ensures in
+    let E = examines d (Some c.examine.new.columns) (rw c.if-not-examine.false at c.examine.ensures) in
     whole_taken d a.pairs.now a.answers.now E (room_none d a.pairs.now a.answers.now E c.in_ok-room_for.ensures)
     (c.take_all.ensures p a.left.now a.position.now usage
     (rw c.count.ensures (sheet_columns d a.pairs.now a.answers.now E c.put_jobs-bars.ensures)) E.okay)
