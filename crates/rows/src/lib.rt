@@ -14,14 +14,16 @@ pub use rows::Rows;
 // The low half of a word is this many numbers.
 const HALF: u32 = 65536;
 
-// The 16 words from one on.
-#[tactic(auto, using(crate::proofs::Words::column_is))]
+// The 16 words from one on. Word by word, since a copy as a slice takes more of the stack, and more instructions, of a
+// tick in place.
 fn column_at(row: &[u32; 54], first: usize) -> [u32; 16]
     requires { first ≤ 38 }
     ensures { result ≡ column row.now first }
 {
     let mut x = [0; 16];
-    x.copy_from_slice(&row[first..first + 16]);
+    for i in 0..16 {
+        x[i] = row[first + i];
+    }
     x
 }
 
