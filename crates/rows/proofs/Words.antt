@@ -1,12 +1,9 @@
 -- A plan read from rows. Assumes nothing.
 use mathlib.Core.Path.{◌≡◌, sym, ◌∙◌, ap}
 use mathlib.Core.List.{List, []}
-use Prim.Native.Nat.{ℕ, ◌+◌, ◌*◌, ◌/◌, ◌%◌, ◌<◌, ◌≤◌}
+use Prim.Native.Nat.{ℕ, ◌+◌, ◌*◌, ◌/◌, ◌%◌, ◌<◌}
 use native.Mathlib.Decide.{ℕ_discrete}
 use native.Mathlib.Omega.{arith}
-use Rattle.lists.specs.Places.{nth}
-use Rattle.std.specs.List.{between}
-use Rattle.std.proofs.lemmas.List.Edits.{length-between, get_or-between}
 use lib.ListN.{length, get_or, set, length-set}
 use lib.Seq.{ext_get_or, get_or-set_same, get_or-set_other}
 use Rattle.lists.specs.Table.{table}
@@ -14,21 +11,13 @@ use Rattle.plan.specs.declared.Guest.{Guest}
 use Rattle.plan.specs.declared.Plan.{Plan}
 use Rattle.plan.specs.Placed.{with_guest}
 use Rattle.plan.specs.Records.{absent, guest_at}
-use Rattle.rows.specs.Words.{column, guest_of, guests_of, plan_of}
+use Rattle.rows.specs.Words.{guest_of, guests_of, plan_of}
 use Rattle.lists.proofs.Table.{table_length, table_at, table_ext}
 
 -- the guest at place k of a plan that is read from rows
 pub guest_is : (count : ℕ) (rows : List (List ℕ)) (k : ℕ) → k < 8
     → guest_of (get_or rows k []) ≡ guest_at (plan_of count rows).guests k
 guest_is count rows k h = sym (table_at (λ j. guest_of (get_or rows j [])) absent 8 k h)
-
--- the words of a part of a row are a column
-pub column_is : (row : List ℕ) (first : ℕ) → length row ≡ 54 → first ≤ 38 → between first (first + 16) row ≡ column row first
-unfolding column
-column_is row first l h =
-    let n : length (between first (first + 16) row) ≡ 16 = omega (arith, length-between row first (first + 16) (omega arith)) in
-    ext_get_or 0 (between first (first + 16) row) (table (λ i. nth row (first + i)) 16) (n ∙ sym (table_length (λ i. nth row (first + i)) 16))
-    (λ i b. get_or-between row first (first + 16) i 0 (omega arith) ∙ sym (table_at (λ i. nth row (first + i)) 0 16 i (omega arith)))
 
 -- a list is the table of its places
 pub table_of : {A : Type 0} (d : A) (l : List A) (n : ℕ) → length l ≡ n → table (λ i. get_or l i d) n ≡ l

@@ -103,7 +103,6 @@ fn take(
 }
 
 // All pairs in order, each answered in its place: by the number that refuses it, or 0.
-
 pub fn take_all(
     pairs: &[u64],
     answers: &mut [u32],
