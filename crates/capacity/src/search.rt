@@ -2,7 +2,7 @@
 ghost use Rattle.std.specs.Prelude.{◌≡◌, ◌+◌, ◌-◌, ◌≤◌, ◌<◌};
 ghost use Rattle.lists.specs.Search.{least};
 ghost use Rattle.plan.specs.Ranges.{longest};
-ghost use Rattle.capacity.specs.Search.{fits_in, meets_in, next_try, Known, Narrows, SearchIn};
+ghost use Rattle.capacity.specs.Search.{fits_in, meets_in, next_try, smallest_of, Known, Narrows, SearchIn};
 
 use response::{Servers, Tasks, gaps_of, guest_response, task_response};
 
@@ -91,19 +91,31 @@ impl Search<'_> {
         Span { lo: c + 1, ..left }
     }
 
+    // The smallest of the capacities left at which the guest is fitted and task i is met, or else the best so far. The
+    // call of itself comes last and hands on what is left alone, so that the compiler may reuse the frame.
+    fn smallest_in(&self, i: usize, left: Span) -> Option<u32>
+        requires within { SearchIn self.now × (i < self.now.tasks.now.count) }
+        requires bounds { (1 ≤ left.lo) × (left.hi ≤ self.now.period + 1) }
+        requires known { Known (fits_in self.now) left.hi left.best }
+        ensures { result ≡ smallest_of (meets_in self.now i) left.lo left.hi left.best }
+    {
+        if left.hi <= left.lo {
+            return left.best;
+        }
+        let fewer = self.narrowed(i, left);
+        self.smallest_in(i, fewer)
+    }
+
     // The smallest capacity from lo on at which the guest is fitted and task i is met.
     pub fn smallest_from(&self, i: usize, lo: u32) -> Option<u32>
         requires { SearchIn self.now × ((i < self.now.tasks.now.count) × ((1 ≤ lo) × (lo ≤ self.now.period + 1))) }
         ensures { result ≡ least (meets_in self.now i) (self.now.period + 1 - lo) lo }
     {
-        let mut left = Span {
+        let all = Span {
             lo,
             hi: self.period + 1,
             best: None,
         };
-        while left.lo < left.hi {
-            left = self.narrowed(i, left);
-        }
-        left.best
+        self.smallest_in(i, all)
     }
 }

@@ -60,9 +60,9 @@ returns c =
     let fits = sym c.fits.ensures ∙ c.if-not-fits.false in (
       turn_right _ _ (search_halving a.self.now a.i c.requires.within) _ a.left _ c.requires.bounds.0
           c.next_try-c.ensures (
-        fits,
-        meets_tried (above_of _ _) _ _ _ t.run t.every (nth t.deadline) _ a.i fits c.gaps_of-late.ensures (omega arith)
-            (ap is_some (sym c.task_response-response.ensures) ∙ sym c.is_some.ensures ∙ c.if-is_some.false),
-      ),
+            fits,
+            meets_tried (above_of _ _) _ _ _ t.run t.every (nth t.deadline) _ a.i fits c.gaps_of-late.ensures (omega arith)
+                (ap is_some (sym c.task_response-response.ensures) ∙ sym c.is_some.ensures ∙ c.if-is_some.false),
+          ),
       c.requires.known,
     )
