@@ -4,7 +4,6 @@ ghost use Rattle.amendment.specs.Promises.{LocatesIn};
 ghost use Rattle.coreshare.specs.Promises.{TellsGuestIn, TellsTaskIn, TellsPair, TellsCapacityIn};
 
 use crate::Verdict;
-use crate::telling::{tell_capacity, tell_guest, tell_plan, tell_task};
 use amendment::Located;
 
 #[unsafe(no_mangle)]
@@ -18,26 +17,26 @@ pub extern "C" fn cs_amended_find(plan: &[u8], sheet: &[u8], id: u32) -> Located
 pub extern "C" fn cs_amended_guest_verdict(plan: &[u8], sheet: &[u8], id: u32) -> Verdict
     ensures { TellsGuestIn plan.now sheet.now id result }
 {
-    tell_guest(amendment::guest_verdict(plan, sheet, id))
+    amendment::guest_verdict(plan, sheet, id).into()
 }
 
 #[unsafe(no_mangle)]
 pub extern "C" fn cs_amended_task_verdict(plan: &[u8], sheet: &[u8], id: u32, task: u32) -> Verdict
     ensures { TellsTaskIn plan.now sheet.now id task result }
 {
-    tell_task(amendment::task_verdict(plan, sheet, id, task))
+    amendment::task_verdict(plan, sheet, id, task).into()
 }
 
 #[unsafe(no_mangle)]
 pub extern "C" fn cs_amended_accept(plan: &[u8], sheet: &[u8]) -> Verdict
     ensures { TellsPair plan.now sheet.now result }
 {
-    tell_plan(amendment::accept(plan, sheet))
+    amendment::accept(plan, sheet).into()
 }
 
 #[unsafe(no_mangle)]
 pub extern "C" fn cs_amended_smallest_capacity(plan: &[u8], sheet: &[u8], id: u32) -> Verdict
     ensures { TellsCapacityIn plan.now sheet.now id result }
 {
-    tell_capacity(amendment::smallest_capacity(plan, sheet, id))
+    amendment::smallest_capacity(plan, sheet, id).into()
 }

@@ -19,36 +19,38 @@ const NOTHING: Told = Told {
 };
 
 // A tick's answer is told as a number for its case, with the case's values.
-#[tactic(auto, unfolding(crate::specs::Told::told))]
-pub fn tell(answer: Answer) -> Told
-    ensures { result ≡ told answer }
-{
-    match answer {
-        Answer::Silent => NOTHING,
-        Answer::Nobody => Told { kind: 1, ..NOTHING },
-        Answer::Idled(guest) => Told {
-            kind: 2,
-            guest,
-            ..NOTHING
-        },
-        Answer::Worked(guest, task) => Told {
-            kind: 3,
-            guest,
-            task,
-            ..NOTHING
-        },
-        Answer::Finished {
-            guest,
-            task,
-            age,
-            margin,
-        } => Told {
-            kind: 4,
-            guest,
-            task,
-            age,
-            margin,
-        },
+impl From<Answer> for Told {
+    ghost from_gives = { λ answer r. r ≡ told answer };
+
+    #[tactic(auto, unfolding(crate::specs::Told::told))]
+    fn from(answer: Answer) -> Told {
+        match answer {
+            Answer::Silent => NOTHING,
+            Answer::Nobody => Told { kind: 1, ..NOTHING },
+            Answer::Idled(guest) => Told {
+                kind: 2,
+                guest,
+                ..NOTHING
+            },
+            Answer::Worked(guest, task) => Told {
+                kind: 3,
+                guest,
+                task,
+                ..NOTHING
+            },
+            Answer::Finished {
+                guest,
+                task,
+                age,
+                margin,
+            } => Told {
+                kind: 4,
+                guest,
+                task,
+                age,
+                margin,
+            },
+        }
     }
 }
 
@@ -81,7 +83,7 @@ pub extern "C" fn cs_tick(state: Dispatcher) -> Tick
     let ticked = state.tick();
     Tick {
         refusal: ticked.refusal,
-        answer: tell(ticked.answer),
+        answer: ticked.answer.into(),
         state: ticked.state,
     }
 }
@@ -95,7 +97,7 @@ pub extern "C" fn cs_run(state: Dispatcher, ticks: u32) -> Run
     Run {
         refusal: ran.refusal,
         done: ran.done,
-        answer: tell(ran.answer),
+        answer: ran.answer.into(),
         state: ran.state,
     }
 }

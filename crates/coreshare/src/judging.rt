@@ -3,7 +3,6 @@ ghost use Rattle.rows.specs.Words.{plan_of};
 ghost use Rattle.coreshare.specs.Promises.{TellsGuest, TellsTask, TellsPlan, TellsCapacity};
 
 use crate::Verdict;
-use crate::telling::{tell_capacity, tell_guest, tell_plan, tell_task};
 use plan::Plan;
 use rows::Rows;
 
@@ -11,21 +10,21 @@ use rows::Rows;
 pub extern "C" fn cs_guest_verdict(plan: Plan, id: u32) -> Verdict
     ensures { TellsGuest plan id result }
 {
-    tell_guest(verdict::guest_verdict(&plan, id))
+    verdict::guest_verdict(&plan, id).into()
 }
 
 #[unsafe(no_mangle)]
 pub extern "C" fn cs_guest_verdict_in(count: u32, rows: &[[u32; 54]; 8], id: u32) -> Verdict
     ensures { TellsGuest (plan_of count rows.now) id result }
 {
-    tell_guest(verdict::guest_verdict(&Rows { count, rows }, id))
+    verdict::guest_verdict(&Rows { count, rows }, id).into()
 }
 
 #[unsafe(no_mangle)]
 pub extern "C" fn cs_task_verdict(plan: Plan, id: u32, task: u32) -> Verdict
     ensures { TellsTask plan id task result }
 {
-    tell_task(verdict::task_verdict(&plan, id, task))
+    verdict::task_verdict(&plan, id, task).into()
 }
 
 #[unsafe(no_mangle)]
@@ -37,33 +36,33 @@ pub extern "C" fn cs_task_verdict_in(
 ) -> Verdict
     ensures { TellsTask (plan_of count rows.now) id task result }
 {
-    tell_task(verdict::task_verdict(&Rows { count, rows }, id, task))
+    verdict::task_verdict(&Rows { count, rows }, id, task).into()
 }
 
 #[unsafe(no_mangle)]
 pub extern "C" fn cs_accept(plan: Plan) -> Verdict
     ensures { TellsPlan plan result }
 {
-    tell_plan(verdict::accept(&plan))
+    verdict::accept(&plan).into()
 }
 
 #[unsafe(no_mangle)]
 pub extern "C" fn cs_accept_in(count: u32, rows: &[[u32; 54]; 8]) -> Verdict
     ensures { TellsPlan (plan_of count rows.now) result }
 {
-    tell_plan(verdict::accept(&Rows { count, rows }))
+    verdict::accept(&Rows { count, rows }).into()
 }
 
 #[unsafe(no_mangle)]
 pub extern "C" fn cs_smallest_capacity(plan: Plan, id: u32) -> Verdict
     ensures { TellsCapacity plan id result }
 {
-    tell_capacity(capacity::smallest_capacity(&plan, id))
+    capacity::smallest_capacity(&plan, id).into()
 }
 
 #[unsafe(no_mangle)]
 pub extern "C" fn cs_smallest_capacity_in(count: u32, rows: &[[u32; 54]; 8], id: u32) -> Verdict
     ensures { TellsCapacity (plan_of count rows.now) id result }
 {
-    tell_capacity(capacity::smallest_capacity(&Rows { count, rows }, id))
+    capacity::smallest_capacity(&Rows { count, rows }, id).into()
 }

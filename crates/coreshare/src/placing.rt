@@ -8,7 +8,6 @@ ghost use Rattle.dispatcher.specs.Promises.{StartsIn, Releases};
 ghost use Rattle.sheet.specs.Promises.{Sheets};
 ghost use Rattle.coreshare.specs.Promises.{TellsTick, TellsRun};
 
-use crate::dispatching::tell;
 use crate::{RunIn, TickIn};
 use dispatcher::{Answer, release_in, run_in, start_in};
 use plan::Refusal;
@@ -128,11 +127,11 @@ pub extern "C" fn cs_tick_in(
     match run_in(&plan, left, position, rest, wait, age, usage, 1) {
         Ok(outcome) => TickIn {
             number: 0,
-            answer: tell(outcome.answer),
+            answer: outcome.answer.into(),
         },
         Err(number) => TickIn {
             number,
-            answer: tell(Answer::Silent),
+            answer: Answer::Silent.into(),
         },
     }
 }
@@ -168,12 +167,12 @@ pub extern "C" fn cs_run_in(
         Ok(outcome) => RunIn {
             number: 0,
             done: outcome.done,
-            answer: tell(outcome.answer),
+            answer: outcome.answer.into(),
         },
         Err(number) => RunIn {
             number,
             done: 0,
-            answer: tell(Answer::Silent),
+            answer: Answer::Silent.into(),
         },
     }
 }

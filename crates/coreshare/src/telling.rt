@@ -7,14 +7,16 @@ use plan::Refusal;
 use verdict::{Acceptance, GuestVerdict, TaskVerdict};
 
 // A refusal is told by its number and place.
-pub fn refuse(r: Refusal) -> Verdict
-    ensures { result ≡ refusing r.number r.place }
-{
-    Verdict {
-        number: r.number,
-        place: r.place,
-        verdict: 0,
-        ticks: 0,
+impl From<Refusal> for Verdict {
+    ghost from_gives = { λ r told. told ≡ refusing r.number r.place };
+
+    fn from(r: Refusal) -> Verdict {
+        Verdict {
+            number: r.number,
+            place: r.place,
+            verdict: 0,
+            ticks: 0,
+        }
     }
 }
 
@@ -44,50 +46,58 @@ pub fn tell_refusal(outcome: Result<(), Refusal>) -> Refusal
 }
 
 // A guest's verdict.
-#[tactic(auto, unfolding(crate::specs::Told::guest_told))]
-pub fn tell_guest(v: Result<GuestVerdict, Refusal>) -> Verdict
-    ensures { result ≡ guest_told v }
-{
-    match v {
-        Err(r) => refuse(r),
-        Ok(GuestVerdict::Fitted(x)) => say(1, x),
-        Ok(GuestVerdict::Unfit) => say(2, 0),
+impl From<Result<GuestVerdict, Refusal>> for Verdict {
+    ghost from_gives = { λ v told. told ≡ guest_told v };
+
+    #[tactic(auto, unfolding(crate::specs::Told::guest_told))]
+    fn from(v: Result<GuestVerdict, Refusal>) -> Verdict {
+        match v {
+            Err(r) => r.into(),
+            Ok(GuestVerdict::Fitted(x)) => say(1, x),
+            Ok(GuestVerdict::Unfit) => say(2, 0),
+        }
     }
 }
 
 // A task's verdict.
-#[tactic(auto, unfolding(crate::specs::Told::task_told))]
-pub fn tell_task(v: Result<TaskVerdict, Refusal>) -> Verdict
-    ensures { result ≡ task_told v }
-{
-    match v {
-        Err(r) => refuse(r),
-        Ok(TaskVerdict::Met(r)) => say(1, r),
-        Ok(TaskVerdict::UnmetAt(r)) => say(2, r),
-        Ok(TaskVerdict::Unmet) => say(2, 0),
-        Ok(TaskVerdict::Unjudged) => say(3, 0),
+impl From<Result<TaskVerdict, Refusal>> for Verdict {
+    ghost from_gives = { λ v told. told ≡ task_told v };
+
+    #[tactic(auto, unfolding(crate::specs::Told::task_told))]
+    fn from(v: Result<TaskVerdict, Refusal>) -> Verdict {
+        match v {
+            Err(r) => r.into(),
+            Ok(TaskVerdict::Met(r)) => say(1, r),
+            Ok(TaskVerdict::UnmetAt(r)) => say(2, r),
+            Ok(TaskVerdict::Unmet) => say(2, 0),
+            Ok(TaskVerdict::Unjudged) => say(3, 0),
+        }
     }
 }
 
 // The acceptance of a plan.
-#[tactic(auto, unfolding(crate::specs::Told::plan_told))]
-pub fn tell_plan(a: Result<Acceptance, Refusal>) -> Verdict
-    ensures { result ≡ plan_told a }
-{
-    match a {
-        Err(r) => refuse(r),
-        Ok(Acceptance::Accepted) => say(1, 0),
-        Ok(Acceptance::NotAccepted) => say(2, 0),
+impl From<Result<Acceptance, Refusal>> for Verdict {
+    ghost from_gives = { λ a told. told ≡ plan_told a };
+
+    #[tactic(auto, unfolding(crate::specs::Told::plan_told))]
+    fn from(a: Result<Acceptance, Refusal>) -> Verdict {
+        match a {
+            Err(r) => r.into(),
+            Ok(Acceptance::Accepted) => say(1, 0),
+            Ok(Acceptance::NotAccepted) => say(2, 0),
+        }
     }
 }
 
 // The smallest capacity.
-#[tactic(auto, unfolding(crate::specs::Told::capacity_told))]
-pub fn tell_capacity(a: Result<u32, Refusal>) -> Verdict
-    ensures { result ≡ capacity_told a }
-{
-    match a {
-        Err(r) => refuse(r),
-        Ok(ticks) => say(1, ticks),
+impl From<Result<u32, Refusal>> for Verdict {
+    ghost from_gives = { λ a told. told ≡ capacity_told a };
+
+    #[tactic(auto, unfolding(crate::specs::Told::capacity_told))]
+    fn from(a: Result<u32, Refusal>) -> Verdict {
+        match a {
+            Err(r) => r.into(),
+            Ok(ticks) => say(1, ticks),
+        }
     }
 }

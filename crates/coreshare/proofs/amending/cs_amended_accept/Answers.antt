@@ -8,5 +8,5 @@ use Rattle.coreshare.proofs.amending.cs_amended_accept.Goals as goal
 pub returns : goal.returns
 unfolding pair_or plan_told
 returns c =
-    c.tell_plan.ensures ∙ ap plan_told c.accept.ensures
+    c.into.ensures ∙ ap plan_told c.accept.ensures
     ∙ refused_told plan_told refusing_answer _ _ _ _ refl

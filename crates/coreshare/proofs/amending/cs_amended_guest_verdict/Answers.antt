@@ -8,5 +8,5 @@ use Rattle.coreshare.proofs.amending.cs_amended_guest_verdict.Goals as goal
 pub returns : goal.returns
 unfolding pair_or guest_told
 returns c =
-    c.tell_guest.ensures ∙ ap guest_told c.guest_verdict.ensures
+    c.into.ensures ∙ ap guest_told c.guest_verdict.ensures
     ∙ refused_told guest_told refusing_answer _ _ _ _ refl

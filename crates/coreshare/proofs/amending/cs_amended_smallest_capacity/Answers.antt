@@ -8,5 +8,5 @@ use Rattle.coreshare.proofs.amending.cs_amended_smallest_capacity.Goals as goal
 pub returns : goal.returns
 unfolding pair_or capacity_told
 returns c =
-    c.tell_capacity.ensures ∙ ap capacity_told c.smallest_capacity.ensures
+    c.into.ensures ∙ ap capacity_told c.smallest_capacity.ensures
     ∙ refused_told capacity_told refusing_answer _ _ _ _ refl

@@ -8,5 +8,5 @@ use Rattle.coreshare.proofs.amending.cs_amended_task_verdict.Goals as goal
 pub returns : goal.returns
 unfolding pair_or task_told
 returns c =
-    c.tell_task.ensures ∙ ap task_told c.task_verdict.ensures
+    c.into.ensures ∙ ap task_told c.task_verdict.ensures
     ∙ refused_told task_told refusing_answer _ _ _ _ refl
