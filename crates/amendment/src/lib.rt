@@ -21,7 +21,7 @@ pub struct Located {
     pub sheet: u32,
 }
 
-// Where the block stands that counts for a guest, or the refusal.
+// Where the block stands that counts for a guest, or the refusal: one struct for both, since C is handed it so.
 pub fn find_place(plan: &[u8], sheet: &[u8], id: u32) -> Located
     ensures { LocatesIn plan.now sheet.now id result }
 {
@@ -38,6 +38,7 @@ pub fn find_place(plan: &[u8], sheet: &[u8], id: u32) -> Located
 pub fn find<'a>(plan: &'a [u8], sheet: &'a [u8], id: u32) -> &'a [u8]
     ensures { FindsIn plan.now sheet.now id result.now }
 {
+    // Number 0 says that a block was found, as C is told.
     let r = find_place(plan, sheet, id);
     if 0 < r.number {
         return &plan[..0];

@@ -32,7 +32,7 @@ pub fn grow(age: &mut [u32; 128], rest: &[u32; 128], n: usize)
     }
 }
 
-// The first of the first n tasks of guest k with run left, or n.
+// The first of the first n tasks of guest k with run left, or n, as the specs' `first_from` counts.
 pub fn worker(rest: &[u32; 128], k: usize, n: usize) -> usize
     requires { (k < 8) × (n ≤ 16) }
     ensures { result ≡ first_from (has_run rest.now k) n 0 }

@@ -22,7 +22,7 @@ pub fn refill(left: &mut [u32; 8], position: &[u32; 8], columns: &Columns, n: us
     }
 }
 
-// The first guest with capacity left, or n.
+// The first guest with capacity left, or n, as the specs' `first_from` counts.
 pub fn holder(left: &[u32; 8], n: usize) -> usize
     requires { n ≤ 8 }
     ensures { result ≡ first_from (has_left left.now) n 0 }

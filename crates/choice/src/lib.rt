@@ -7,8 +7,8 @@ use plan::{Plan, Refusal};
 
 mod capacities;
 
-// The answer: the refusal, whose number is 0 where there is none, and the plan with the numbers chosen, or on a refusal
-// as it was.
+// The answer, as it crosses to C: the refusal, whose number is 0 where there is none, and the plan with the numbers
+// chosen, or on a refusal as it was.
 #[repr(C)]
 #[derive(Clone, Copy)]
 pub struct Chosen {

@@ -1,4 +1,5 @@
-// The public entries for C and Rust: numbers and structs by value, the case of an enum as a number.
+// The public entries for C and Rust: numbers and structs by value, the case of an enum as a number. C has neither enums
+// with values nor Results, so a refusal's number, 0 for none, stands beside the values.
 // Of what the finder gives, the place alone crosses.
 #![tactic(auto)]
 

@@ -51,6 +51,8 @@ pub struct RunOutcome {
     pub answer: Answer,
 }
 
+// What a fresh start gives, as it crosses to C. Here and below the state comes back on a refusal too, whose number is 0
+// where there is none: a Result would hold it in one case alone.
 #[repr(C)]
 #[derive(Clone, Copy)]
 pub struct Started {
@@ -58,6 +60,7 @@ pub struct Started {
     pub state: Dispatcher,
 }
 
+// What a release gives, as it crosses to C.
 #[repr(C)]
 #[derive(Clone, Copy)]
 pub struct Released {
@@ -65,6 +68,7 @@ pub struct Released {
     pub state: Dispatcher,
 }
 
+// What a tick gives: as above, and who had it.
 #[derive(Clone, Copy)]
 pub struct Ticked {
     pub state: Dispatcher,
@@ -72,6 +76,7 @@ pub struct Ticked {
     pub answer: Answer,
 }
 
+// What a run gives: as above, and how many ticks were done.
 #[derive(Clone, Copy)]
 pub struct Ran {
     pub refusal: Refusal,

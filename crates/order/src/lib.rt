@@ -12,8 +12,8 @@ mod trying;
 
 pub use placing::propose_in; // Inner: for the calls in place.
 
-// The answer: the refusal, whose number is 0 where there is none, and the plan with the guest's tasks in the order
-// proposed, or on a refusal as it was.
+// The answer, as it crosses to C: the refusal, whose number is 0 where there is none, and the plan with the guest's
+// tasks in the order proposed, or on a refusal as it was.
 #[repr(C)]
 #[derive(Clone, Copy)]
 pub struct Ordered {

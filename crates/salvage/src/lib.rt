@@ -15,8 +15,8 @@ mod kept;
 mod mover;
 mod sifter;
 
-// What becomes of a block: number 0 and its new place where it is kept, or the number that it is dropped by and place
-// 0.
+// What becomes of a block, as it crosses to C: number 0 and its new place where it is kept, or the number that it is
+// dropped by and place 0.
 #[repr(C)]
 #[derive(Clone, Copy)]
 pub struct Fate {
@@ -24,8 +24,8 @@ pub struct Fate {
     pub place: u32,
 }
 
-// A file salvaged: the refusal, number 0 for none, how many bytes were written, how many blocks the list has, and the
-// list.
+// A file salvaged, as it crosses to C: the refusal, number 0 for none, how many bytes were written, how many blocks the
+// list has, and the list, which comes on a refusal too.
 #[repr(C)]
 #[derive(Clone, Copy)]
 pub struct Salvaged {

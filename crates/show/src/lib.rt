@@ -9,7 +9,7 @@ use plan::{Plan, Refusal};
 use std::{fmt, io};
 use verdict::{Acceptance, GuestVerdict, TaskVerdict};
 
-// A guest's line has its id first, a task's its number.
+// A guest's line has its id first, a task's its number. A refusal is a line among the others, so this is no Result.
 #[derive(Clone, Copy)]
 pub enum Line {
     Refused(u32, u32),

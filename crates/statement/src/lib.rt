@@ -29,8 +29,8 @@ pub struct Statement {
     pub late: [u32; 128],
 }
 
-// The outcome of a call: its refusal, number 0 for none, and the next statement; how many blocks of the log were passed
-// over, and the position in it and the number of the first that was, both 0 if none was.
+// The outcome of a call, as it crosses to C: its refusal, number 0 for none, and the next statement; how many blocks of
+// the log were passed over, and the position in it and the number of the first that was, both 0 if none was.
 #[repr(C)]
 #[derive(Clone, Copy)]
 pub struct Stated {

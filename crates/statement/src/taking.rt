@@ -52,6 +52,7 @@ pub fn stated(running: Statement, plan: &Plan, log: &[u8]) -> Stated
     };
     for k in 0..log.len() / SIZE {
         if let Err(number) = take(&mut stated.statement, &by, blockfile::block_at(log, k)) {
+            // Number 0 says that no block was passed over yet, as C is told.
             if stated.number < 1 {
                 stated.position = k as u64;
                 stated.number = number;

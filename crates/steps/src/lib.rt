@@ -6,7 +6,9 @@ mod stepping;
 
 pub use running::steps;
 
-// Who had a tick, as a step notes it: the guest's place and its task's, and the run left that the task had.
+// Who had a tick, as a step notes it: the guest's place and its task's, and the run left that the task had. Three
+// numbers and no enum, since the definitions of a step (`Serves`, `StepsOn`) speak of them: nobody is a place past the
+// guests.
 #[derive(Clone, Copy)]
 pub struct Turn {
     pub guest: usize,

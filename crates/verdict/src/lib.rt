@@ -9,7 +9,7 @@ use response::{Seat, guest_accepted, response_at, seat_of, servers_of};
 
 mod judge;
 
-// The verdict of a guest: fitted with its response; unfit.
+// The verdict of a guest: fitted with its response; unfit. No Option, whose `None` would read as no verdict.
 #[derive(Clone, Copy, PartialEq, Eq)]
 pub enum GuestVerdict {
     Fitted(u32),
