@@ -1,5 +1,5 @@
 // Amendments tried against a standing plan: the pair of a plan and a sheet of blocks, both lent, answered for as the
-// plan with those blocks in the place of its own.
+// plan with those blocks in the place of its own. Plan and sheet go side by side, as the promises and C have them.
 #![tactic(auto)]
 
 ghost use Rattle.amendment.specs.Promises.{LocatesIn, FindsIn, GuestJudgedIn, TaskJudgedIn, AcceptsPair, SizedIn};

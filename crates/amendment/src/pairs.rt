@@ -72,6 +72,7 @@ pub fn check_pair(plan: &[u8], sheet: &[u8]) -> Result<(), Located>
 }
 
 // Where a block was found, in the sheet if it has one; refusal 7 where in neither.
+// One struct for both cases, as the definition has it and C is handed it.
 #[tactic(auto, unfolding(crate::specs::Finder::standing))]
 pub fn standing(sheet: Option<u32>, plan: Option<u32>) -> Located
     ensures { result ≡ standing sheet plan }

@@ -1,4 +1,5 @@
 // What plan blocks and log blocks have in common when they are written: an entry of three words, and the check. Inner.
+// The buffer is a slice and no array of 512, since the promises say what stands behind the block too.
 #![tactic(auto)]
 
 ghost use Rattle.std.specs.Prelude.{◌≡◌, ◌+◌, ◌*◌, ◌≤◌, length};

@@ -1,4 +1,4 @@
-// The search for one task: an interval of capacities is narrowed, and each is tried off columns that are lent.
+// The search for one task: an interval of capacities is narrowed, each tried off servers and tasks that are lent.
 ghost use Rattle.std.specs.Prelude.{◌≡◌, ◌+◌, ◌-◌, ◌≤◌, ◌<◌};
 ghost use Rattle.lists.specs.Search.{least};
 ghost use Rattle.plan.specs.Ranges.{longest};
@@ -9,7 +9,8 @@ use response::{Servers, Tasks, gaps_of, guest_response, task_response};
 // The capacities up to this one are tried one by one.
 const FEW: u32 = 32;
 
-// What a search reads: the servers above the guest at a place, and that guest's period, marks and tasks.
+// What a search reads: the servers above the guest at a place, and that guest's period, marks and tasks. That these are
+// in their ranges, `SearchIn`, is said of all of it at once, so the methods ask for it.
 #[derive(Clone, Copy)]
 pub struct Search<'a> {
     pub servers: &'a Servers,

@@ -14,7 +14,8 @@ use response::{Servers, all_fitted, first_unmet, gaps_of, guest_response, tasks_
 impl Search<'_> {
     // The smallest capacity that meets all tasks, task by task from the highest: a task that is met stays met at each
     // larger fitted capacity, so the search for a task begins where the one above it ended, and past it, that capacity
-    // being tried on all tasks in one go. Where 1 is unfit all are.
+    // being tried on all tasks in one go. Where 1 is unfit all are. No `for` over the tasks: `first_unmet` skips those
+    // that are met.
     fn settled(&self) -> Option<u32>
         requires { SearchIn self.now }
         ensures { result ≡ least (works_in self.now) self.now.period 1 }

@@ -7,6 +7,7 @@ use std::io;
 
 // Writes what becomes of block k.
 fn fate(rt: &impl Print, k: usize, f: Fate) -> io::Result<()> {
+    // Number 0 says that the block is kept, as C is told.
     if 0 < f.number {
         println!(rt; "block {k} dropped by {}", f.number)
     } else {

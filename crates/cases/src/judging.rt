@@ -32,6 +32,7 @@ pub fn smallest(rt: &impl Print, p: &Plan, row: Row) -> io::Result<()> {
 pub fn ordered(rt: &impl Print, p: &Plan, row: Row) -> io::Result<Plan> {
     let r = order::propose(*p, row.numbers[0]);
     let refusal = r.refusal;
+    // Number 0 says that there is none, as C is told.
     if 0 < refusal.number {
         println!(rt; ": {}", Line::Refused(refusal.number, refusal.place))?;
     } else {

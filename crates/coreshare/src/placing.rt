@@ -124,6 +124,7 @@ pub extern "C" fn cs_tick_in(
         }) }
 {
     let plan = Rows { count, rows };
+    // `TickIn` and `RunIn` are C's structs, so each outcome is told field by field.
     match run_in(&plan, left, position, rest, wait, age, usage, 1) {
         Ok(outcome) => TickIn {
             number: 0,

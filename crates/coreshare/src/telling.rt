@@ -33,6 +33,7 @@ fn say(verdict: u32, ticks: u32) -> Verdict
 }
 
 // A refusal, or none, as number and place: those of none are 0.
+// No From: neither type is this crate's.
 pub fn tell_refusal(outcome: Result<(), Refusal>) -> Refusal
     ensures { result ≡ refusal_told outcome }
 {

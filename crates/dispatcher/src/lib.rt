@@ -15,6 +15,7 @@ pub use starting::start_in; // Inner: as above.
 // The plan's records; for each guest the capacity left and the position in its period;
 // for task t of guest g, at place 16 g + t, the run left, the wait and the age.
 // Beside them where the ticks went: guest g's at place g, those of them that it idled away at 8 + g, nobody's at 16.
+// It crosses to C as it is.
 #[repr(C)]
 #[derive(Clone, Copy)]
 pub struct Dispatcher {

@@ -1,4 +1,5 @@
-// Fresh start: the records' order, then 23, then a state with nothing in it.
+// Fresh start: the records' order, then 23, then a state with nothing in it. A refusal gives the state of a blank plan by
+// value, and the state as it was in place: two ends of `start_check`.
 ghost use Rattle.std.specs.Prelude.{◌≡◌};
 ghost use Rattle.dispatcher.specs.Fresh.{idle};
 ghost use Rattle.dispatcher.specs.InPlace.{refusal_of};

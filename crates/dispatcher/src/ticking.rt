@@ -1,4 +1,4 @@
-// One tick: a run of one.
+// One tick: a run of one. It is not `run(1)`, through whose outcome the state would be copied once more.
 ghost use Rattle.dispatcher.specs.Promises.{Ticks};
 
 use crate::running::{NO_TICK, run_in};

@@ -21,7 +21,7 @@ pub struct Entry {
     pub age: u32,
 }
 
-// The jobs of a log block: its first `count` entries.
+// The jobs of a log block, as they cross to C: its first `count` entries.
 #[repr(C)]
 #[derive(Clone, Copy)]
 pub struct Entries {

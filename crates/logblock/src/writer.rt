@@ -11,7 +11,8 @@ ghost use Rattle.logblock.specs.Writing.{log_of, log_number};
 use crate::reader::{age_ok, count_ok};
 use crate::{Entries, layout};
 
-// Whether each of the first n ages is in its range.
+// Whether each of the first n ages is in its range. The reader asks it of bytes; one over either form would need a trait
+// for this loop alone.
 #[tactic(auto, unfolding(lists::specs::All::all_to))]
 fn ages_in(jobs: &Entries, n: usize) -> bool
     requires { n ≤ most_jobs }

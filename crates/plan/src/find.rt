@@ -9,7 +9,8 @@ ghost use Rattle.plan.specs.Ranges.{most_guests};
 
 use crate::{AsPlan, Columns, Refusal, check};
 
-// The first place of the first n whose id is `id`, or n where there is none: the specs' `first_from` counts so.
+// The first place of the first n whose id is `id`, or n where there is none: the specs' `first_from` counts so, and the
+// loop's invariant is in its words.
 #[tactic(auto, unfolding(lists::specs::Search::first_from), using(lists::proofs::Search::first_skip))]
 pub fn place_of(ids: &[u32; 16], n: usize, id: u32) -> usize
     requires { n ≤ 16 }

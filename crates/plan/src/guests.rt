@@ -1,4 +1,4 @@
-// The number that one guest of a plan is refused by.
+// Whether one guest of a plan passes, or the number that it is refused by.
 ghost use Rattle.std.specs.Prelude.{◌≡◌, ◌<◌};
 ghost use Rattle.lists.specs.Places.{nth};
 ghost use Rattle.lists.specs.Refusals.{unless_number};

@@ -23,7 +23,7 @@ pub use ranges::{LONGEST, count_ok, head_ok, tasks_ok};
 pub use starting::start_check;
 
 // A guest: its server, its tasks' marks, and a column for each number of its tasks. The server is Deferrable where
-// `deferrable` is not 0, and else Periodic. `every` is each task's period.
+// `deferrable` is not 0, and else Periodic. `every` is each task's period. It and a plan cross to C as they are.
 #[repr(C)]
 #[derive(Clone, Copy)]
 pub struct Guest {
@@ -101,7 +101,7 @@ pub fn charged_run(run: u32, charge: u16) -> u64
     u64::from(run) + 2 * u64::from(charge)
 }
 
-// The records' refusal: 1, then 4 and 6 guest by guest.
+// Whether the records pass, or else their refusal: 1, then 4 and 6 guest by guest.
 pub fn check<P: AsPlan>(plan: &P) -> Result<(), Refusal>
     ensures { Checks (P.plan plan.now) result }
 {

@@ -22,7 +22,7 @@ fn all_periodic(deferrable: &[u32; 16], n: usize) -> bool
     ok
 }
 
-// The refusal of a fresh start: the records' order, then 23.
+// Whether records may be started, or else the refusal: the records' order, then 23.
 #[tactic(auto, using(crate::proofs::Order::check_order, crate::proofs::PeriodicLaws::start_refused))]
 pub fn start_check<P: AsPlan>(plan: &P) -> Result<(), Refusal>
     ensures { result ≡ unless_refused (start_refusal (P.plan plan.now)) tt }

@@ -19,7 +19,7 @@ pub struct Lent<'a> {
     pub age: &'a [u32; 128],
 }
 
-// Columns that are lent to be filled.
+// What stands in columns before they are lent to be filled.
 pub const NO_COLUMNS: Columns = Columns {
     ids: [0; 16],
     capacities: [0; 16],

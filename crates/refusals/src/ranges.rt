@@ -39,7 +39,7 @@ fn job_ok(used: bool, run: u32, charge: u16, every: u32, rest: u32, wait: u32, a
         & (age <= bound(used, LONGEST))
 }
 
-// The 16 places of guest k, which has `many` tasks. No early way out: a state in its ranges is tested whole anyway.
+// The 16 places of guest g, at place k. No early way out: a state in its ranges is tested whole anyway.
 #[tactic(auto, unfolding(lists::specs::All::all_to))]
 fn jobs_ok(lent: &Lent, g: &Guest, k: usize) -> bool
     requires { (k < 8) × ((t : ℕ) → t < g.now.tasks → nth g.now.run t ≤ longest) }

@@ -10,7 +10,8 @@ use crate::Lent;
 use crate::ranges::{blank_ok, guest_ok};
 use plan::{AsPlan, Columns};
 
-// Whether the plan's guests are in their ranges, place by place, and their columns.
+// Whether the plan's guests are in their ranges, place by place; their columns go into those that are lent. The five
+// stores are those of `plan::columns_of`, in the pass that tests each record: a record is made once.
 #[tactic(auto, using(crate::proofs::Check::columns_begin), unfolding(lists::specs::All::all_to))]
 fn guests_ok<P: AsPlan>(plan: &P, n: usize, lent: &Lent, columns: &mut Columns) -> bool
     requires { n ≤ most_guests }

@@ -1,4 +1,4 @@
-// The responses of guests and tasks, off lent columns: what verdicts and capacities are made of. Inner.
+// The responses of guests and tasks, off lent servers and tasks: what verdicts and capacities are made of. Inner.
 #![tactic(auto)]
 
 mod gaps;

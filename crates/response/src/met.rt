@@ -1,4 +1,4 @@
-// Which tasks of a guest are met, off lent columns.
+// Which tasks of a guest are met, off lent servers and tasks.
 ghost use Rattle.std.specs.Prelude.{◌≡◌, ℕ, ◌≤◌, ◌<◌};
 ghost use Rattle.lists.specs.Places.{nth};
 ghost use Rattle.response.specs.Columns.{system_at};

@@ -4,7 +4,8 @@ ghost use Rattle.response.specs.Seat.{Sits};
 use crate::servers::{Servers, servers_of};
 use plan::{AsPlan, Refusal, columns_of, look_up};
 
-// A guest that was looked up by its id: its place, and the servers of its plan.
+// A guest that was looked up by its id: its place, and the servers of its plan. No record is in it, since acceptance and
+// choices go through all guests under one plan's servers.
 #[derive(Clone, Copy)]
 pub struct Seat {
     pub place: usize,

@@ -9,7 +9,8 @@ ghost use Rattle.response.specs.Columns.{ServersOf};
 
 use plan::Columns;
 
-// Three numbers of each guest of a plan, a column for each number: only a Deferrable guest has a jitter.
+// Three numbers of each guest of a plan, a column for each number, since the edges of quotients go along columns: only a
+// Deferrable guest has a jitter. How many of the guests stand above is each call's, so `AboveIn` stays in the contracts.
 #[derive(Clone, Copy)]
 pub struct Servers {
     pub capacities: [u32; 16],

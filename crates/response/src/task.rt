@@ -1,4 +1,4 @@
-// The response of a task, off lent columns.
+// The response of a task, off lent servers and tasks.
 ghost use Rattle.std.specs.Prelude.{◌≡◌, ◌⊎◌, ◌-◌, ◌*◌, ◌≤◌, ◌<◌};
 ghost use Rattle.lists.specs.Places.{nth};
 ghost use Rattle.equation.specs.Guest.{guest_side};

@@ -4,7 +4,8 @@ ghost use Rattle.response.specs.Ready.{TasksIn};
 
 use plan::{Guest, charged_run};
 
-// The charged runs, periods and deadlines of a guest's tasks, a column for each, and how many they are.
+// The charged runs, periods and deadlines of a guest's tasks, a column for each, and how many they are: the library has
+// no heap, and the edges of quotients go along columns.
 #[derive(Clone, Copy)]
 pub struct Tasks {
     pub run: [u32; 16],

@@ -14,8 +14,8 @@ mod placing;
 
 pub use placing::release_all_in; // Inner: for the calls in place.
 
-// What a sheet looks at, gathered once: the plan's n guests, the tasks that may not be released where the guests stand,
-// and what a taken release sets at each place.
+// What a sheet looks at, gathered once: the columns of the plan's n guests, the tasks that may not be released where the
+// guests stand, and what a taken release sets at each place.
 #[derive(Clone, Copy)]
 pub struct Gathered<'a> {
     n: usize,

@@ -25,7 +25,7 @@ fn guest_of(pair: u64) -> u32
     u32::try_from(pair / PAIR_BASE).unwrap_or(0)
 }
 
-// The task number that a pair names.
+// The task number that a pair names: a rest below 65,536, so the cast loses nothing.
 fn task_of(pair: u64) -> u32
     ensures { result ≡ pair_task pair }
 {

@@ -40,7 +40,7 @@ fn deadlines_of(plan: &Plan) -> [u32; 128]
     deadlines
 }
 
-// A plan in order gathered.
+// A plan in order gathered. That it is in order is known of the call, and no type of a checked plan crosses crates.
 pub fn gather(plan: &Plan) -> Gathered
     requires { (plan_refusal plan.now).number ≡ 0 }
     ensures { result.plan.now ≡ plan.now }

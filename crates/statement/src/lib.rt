@@ -18,7 +18,7 @@ mod taking;
 pub use logblock::{Entries, Entry, write_log};
 
 // The blocks counted, and for task t of guest g, at line 16 g + t, the sum of the margins, the jobs counted, the
-// longest age, and how many were late.
+// longest age, and how many were late. It crosses to C as it is.
 #[repr(C)]
 #[derive(Clone, Copy)]
 pub struct Statement {

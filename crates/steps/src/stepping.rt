@@ -1,5 +1,6 @@
 // One tick over lent arrays: it copies neither record nor array, so a run of ticks costs no more than its loops.
-// The arrays are lent one by one: a struct of references was tried, and what its lender finds there was not proved.
+// The arrays are lent one by one: a struct of references was tried, and what its lender finds there was not proved. So
+// are they in all calls in place, to which C lends them so.
 ghost use Rattle.arrays.specs.Place.{Small};
 ghost use Rattle.steps.specs.Step.{Serves, Steps};
 

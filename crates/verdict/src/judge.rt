@@ -12,7 +12,7 @@ use crate::{GuestVerdict, TaskVerdict};
 use plan::Guest;
 use response::{Servers, all_fitted, gaps_of, task_response, tasks_of};
 
-// The verdict of a guest's response.
+// The verdict of a guest's response. No `From`: the definition has this name, and an Option alone is no verdict.
 pub fn guest_says(f: Option<u32>) -> GuestVerdict
     ensures { result ≡ guest_says f }
 {
