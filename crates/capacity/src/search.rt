@@ -92,19 +92,20 @@ impl Search<'_> {
         Span { lo: c + 1, ..left }
     }
 
-    // The smallest of the capacities left at which the guest is fitted and task i is met, or else the best so far. The
-    // call of itself comes last and hands on what is left alone, so that the compiler may reuse the frame.
-    fn smallest_in(&self, i: usize, left: Span) -> Option<u32>
+    // The smallest of the capacities from lo on and below hi at which the guest is fitted and task i is met, or else the
+    // best so far. The call of itself comes last and hands on numbers alone, so that the compiler reuses the frame: with
+    // a struct it takes 17 KB of stack.
+    fn smallest_in(&self, i: usize, lo: u32, hi: u32, best: Option<u32>) -> Option<u32>
         requires within { SearchIn self.now × (i < self.now.tasks.now.count) }
-        requires bounds { (1 ≤ left.lo) × (left.hi ≤ self.now.period + 1) }
-        requires known { Known (fits_in self.now) left.hi left.best }
-        ensures { result ≡ smallest_of (meets_in self.now i) left.lo left.hi left.best }
+        requires bounds { (1 ≤ lo) × (hi ≤ self.now.period + 1) }
+        requires known { Known (fits_in self.now) hi best }
+        ensures { result ≡ smallest_of (meets_in self.now i) lo hi best }
     {
-        if left.hi <= left.lo {
-            return left.best;
+        if hi <= lo {
+            return best;
         }
-        let fewer = self.narrowed(i, left);
-        self.smallest_in(i, fewer)
+        let left = self.narrowed(i, Span { lo, hi, best });
+        self.smallest_in(i, left.lo, left.hi, left.best)
     }
 
     // The smallest capacity from lo on at which the guest is fitted and task i is met.
@@ -112,11 +113,6 @@ impl Search<'_> {
         requires { SearchIn self.now × ((i < self.now.tasks.now.count) × ((1 ≤ lo) × (lo ≤ self.now.period + 1))) }
         ensures { result ≡ least (meets_in self.now i) (self.now.period + 1 - lo) lo }
     {
-        let all = Span {
-            lo,
-            hi: self.period + 1,
-            best: None,
-        };
-        self.smallest_in(i, all)
+        self.smallest_in(i, lo, self.period + 1, None)
     }
 }

@@ -3,4 +3,4 @@ use Rattle.std.specs.Prelude.{◌-◌}
 use Rattle.capacity.proofs.search.Search.+smallest_in.Given as goal
 
 abbrev pub decreases-smallest_in : goal.decreases-smallest_in
-decreases-smallest_in l = l.left.hi - l.left.lo
+decreases-smallest_in l = l.hi - l.lo
