@@ -1,5 +1,5 @@
 // A release: its refusals in order, then the task's run left, wait and age set.
-ghost use Rattle.std.specs.Prelude.{List, ℕ};
+ghost use Rattle.std.specs.Prelude.{List, ℕ, ◌<◌, IfErr};
 ghost use Rattle.dispatcher.specs.InPlace.{released_in};
 ghost use Rattle.dispatcher.specs.Lent.{state_of};
 ghost use Rattle.dispatcher.specs.Promises.{Releases};
@@ -9,7 +9,9 @@ use plan::{AsPlan, Refusal};
 use refusals::{Lent, aim_by_id};
 
 // A release in place, over a state that is lent beside its plan. Where a number refuses it the state comes back as it
-// was, whatever the usage, which is not looked at.
+// was, whatever the usage, which is not looked at. It stays a call of its own: taken into a call by value it leaves zeros
+// of a whole state there, which are written at each release and never read.
+#[inline(never)]
 pub fn release_in<P: AsPlan>(
     plan: &P,
     left: &[u32; 8],
@@ -20,7 +22,7 @@ pub fn release_in<P: AsPlan>(
     guest: u32,
     task: u32,
 ) -> Result<(), u32>
-    ensures { (usage : List ℕ)
+    ensures released { (usage : List ℕ)
         → Releases
         (state_of (P.plan plan.now) left.now position.now rest.old
         wait.old age.old usage)
@@ -28,6 +30,7 @@ pub fn release_in<P: AsPlan>(
         (released_in result
         (state_of (P.plan plan.now) left.now position.now rest.new
         wait.new age.new usage)) }
+    ensures number { IfErr result (λ n. 0 < n) }
 {
     let lent = Lent {
         left,

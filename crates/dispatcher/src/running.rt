@@ -1,4 +1,5 @@
 // A run of ticks: its checks once, then steps over the state's arrays.
+ghost use Rattle.std.specs.Prelude.{◌<◌, IfErr};
 ghost use Rattle.dispatcher.specs.InPlace.{ran_in};
 ghost use Rattle.dispatcher.specs.Lent.{state_of};
 ghost use Rattle.dispatcher.specs.Promises.{Runs};
@@ -30,13 +31,14 @@ pub fn run_in<P: AsPlan>(
     usage: &mut [u64; 17],
     ticks: u32,
 ) -> Result<RunOutcome, u32>
-    ensures { Runs
+    ensures ran { Runs
         (state_of (P.plan plan.now) left.old position.old rest.old
         wait.old age.old usage.old)
         ticks
         (ran_in result
         (state_of (P.plan plan.now) left.new position.new rest.new
         wait.new age.new usage.new)) }
+    ensures number { IfErr result (λ n. 0 < n) }
 {
     let lent = Lent {
         left,

@@ -1,6 +1,6 @@
 // Fresh start: the records' order, then 23, then a state with nothing in it. A refusal gives the state of a blank plan by
 // value, and the state as it was in place: two ends of `start_check`.
-ghost use Rattle.std.specs.Prelude.{◌≡◌};
+ghost use Rattle.std.specs.Prelude.{◌≡◌, ◌<◌, IfErr};
 ghost use Rattle.dispatcher.specs.Fresh.{idle};
 ghost use Rattle.dispatcher.specs.InPlace.{refusal_of};
 ghost use Rattle.dispatcher.specs.Lent.{state_of};
@@ -35,12 +35,13 @@ pub fn start_in<P: AsPlan>(
     age: &mut [u32; 128],
     usage: &mut [u64; 17],
 ) -> Result<(), Refusal>
-    ensures { StartsIn
+    ensures started { StartsIn
         (state_of (P.plan plan.now) left.old position.old rest.old
         wait.old age.old usage.old)
         (refusal_of result)
         (state_of (P.plan plan.now) left.new position.new rest.new
         wait.new age.new usage.new) }
+    ensures number { IfErr result (λ r. 0 < r.number) }
 {
     start_check(plan)?;
     *left = [0; 8];

@@ -1,5 +1,5 @@
 // A sheet in place.
-ghost use Rattle.std.specs.Prelude.{◌≡◌, List, [], ◌∷◌, ℕ, leb};
+ghost use Rattle.std.specs.Prelude.{◌≡◌, List, [], ◌∷◌, ℕ, ◌<◌, leb, IfErr};
 ghost use Rattle.lists.specs.Refusals.{refusal, unless_number, ◌or_refuse◌};
 ghost use Rattle.dispatcher.specs.InPlace.{released_in};
 ghost use Rattle.dispatcher.specs.Lent.{state_of};
@@ -42,7 +42,7 @@ pub fn release_all_in<P: AsPlan>(
     pairs: &[u64],
     answers: &mut [u32],
 ) -> Result<(), u32>
-    ensures { (usage : List ℕ)
+    ensures released { (usage : List ℕ)
         → Sheets
         (state_of (P.plan plan.now) left.now position.now rest.old
         wait.old age.old usage)
@@ -51,6 +51,7 @@ pub fn release_all_in<P: AsPlan>(
         (state_of (P.plan plan.now) left.now position.now rest.new
         wait.new age.new usage))
         answers.new }
+    ensures number { IfErr result (λ n. 0 < n) }
 {
     let lent = Lent {
         left,

@@ -5,4 +5,4 @@ use Rattle.dispatcher.proofs.Dispatcher.release.Goals as goal
 pub returns : goal.returns
 returns c =
     rw (c.unwrap_or-number.ensures, c.err.ensures.value)
-    (told_by_number c.release_in-refused.result _ (c.release_in-refused.ensures c.args.self.usage))
+    (told_by_number c.release_in-refused.result _ (c.release_in-refused.ensures.released c.args.self.usage))

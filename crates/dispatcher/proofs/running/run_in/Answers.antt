@@ -39,21 +39,21 @@ was_in_range g c = examines (before g c) (Some c.examine.new.columns) (rw c.if-n
 went : (g : Over) (c : After-steps-went g) → Gone (before g c) c.args.ticks c.steps-went.result.done c.steps-went.result.turn (after g c)
 went g c = gone_in (was_in_range g c) (rw c.count-n.ensures at c.steps-went.ensures)
 
-pub returns-then-not-examine : goal.returns-then-not-examine
-returns-then-not-examine g c = run_refused _ _ (examines _ None (rw c.if-not-examine.true at c.examine.ensures))
+pub returns-then-not-examine-clause-ran : goal.returns-then-not-examine-clause-ran
+returns-then-not-examine-clause-ran g c = run_refused _ _ (examines _ None (rw c.if-not-examine.true at c.examine.ensures))
 
-pub returns-then-ticks-gt-LONGEST_RUN : goal.returns-then-ticks-gt-LONGEST_RUN
-returns-then-ticks-gt-LONGEST_RUN g c =
-    run_long _ _ (in_range g (goal.at.returns-then-ticks-gt-LONGEST_RUN g c).Else-not-examine).okay c.if-ticks-gt-LONGEST_RUN.true
+pub returns-then-ticks-gt-LONGEST_RUN-clause-ran : goal.returns-then-ticks-gt-LONGEST_RUN-clause-ran
+returns-then-ticks-gt-LONGEST_RUN-clause-ran g c =
+    run_long _ _ (in_range g (goal.at.returns-then-ticks-gt-LONGEST_RUN-clause-ran g c).Else-not-examine).okay c.if-ticks-gt-LONGEST_RUN.true
 
 pub steps-went-requires : goal.steps-went-requires
 steps-went-requires g c =
     let x = in_range g (goal.at.steps-went-requires g c).Else-not-examine in
     rw c.count-n.ensures (small_tasks (ok_plan _ x.okay) x.columns)
 
-pub returns-then-went-lt1 : goal.returns-then-went-lt1
-returns-then-went-lt1 g c =
-    let s = (goal.at.returns-then-went-lt1 g c).After-steps-went in
+pub returns-then-went-lt1-clause-ran : goal.returns-then-went-lt1-clause-ran
+returns-then-went-lt1-clause-ran g c =
+    let s = (goal.at.returns-then-went-lt1-clause-ran g c).After-steps-went in
     run_idle (was_in_range g s).okay c.if-ticks-gt-LONGEST_RUN.false (went g s) c.if-went-lt1.true
 
 pub finished-requires : goal.finished-requires
@@ -61,9 +61,9 @@ finished-requires g c =
     let s = (goal.at.finished-requires g c).After-steps-went in
     fits (ending (ok_plan _ (was_in_range g s).okay) ((went g s).last c.if-went-lt1.false) c.if-went-eq1.true)
 
-pub returns-then-went-eq1 : goal.returns-then-went-eq1
-returns-then-went-eq1 g c =
-    let s = (goal.at.returns-then-went-eq1 g c).After-steps-went in
+pub returns-then-went-eq1-clause-ran : goal.returns-then-went-eq1-clause-ran
+returns-then-went-eq1-clause-ran g c =
+    let s = (goal.at.returns-then-went-eq1-clause-ran g c).After-steps-went in
     let w = went g s in
     let o = (was_in_range g s).okay in
     run_done o c.if-ticks-gt-LONGEST_RUN.false w c.if-went-lt1.false
@@ -80,9 +80,9 @@ unfinished-requires-clause-small g c =
     let x = was_in_range g s in
     λ h. task_small (telling (ok_plan _ x.okay) ((went g s).last c.if-went-lt1.false) c.count-n.ensures x.columns c.if-went-eq1.false) h
 
-pub returns : goal.returns
-returns g c =
-    let s = (goal.at.returns g c).After-steps-went in
+pub returns-clause-ran : goal.returns-clause-ran
+returns-clause-ran g c =
+    let s = (goal.at.returns-clause-ran g c).After-steps-went in
     let w = went g s in
     let x = was_in_range g s in
     run_done x.okay c.if-ticks-gt-LONGEST_RUN.false w c.if-went-lt1.false

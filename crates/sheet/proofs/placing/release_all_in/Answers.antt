@@ -7,15 +7,15 @@ use Rattle.sheet.proofs.Whole.{state_refuses, room_refuses, room_none, whole_tak
 use Rattle.sheet.proofs.Whole.{plan_fine, small, sheet_columns}
 use Rattle.sheet.proofs.placing.release_all_in.Goals as goal
 
-pub returns-then-not-examine : goal.returns-then-not-examine
-returns-then-not-examine g c =
+pub returns-then-not-examine-clause-released : goal.returns-then-not-examine-clause-released
+returns-then-not-examine-clause-released g c =
     let a = c.args in
     λ usage.
     let d = state_of (g.P.AsPlan.plan a.plan.now) a.left.now a.position.now a.rest.now a.wait.now a.age.now usage in
     state_refuses d a.pairs.now a.answers.now (examines d None (rw c.if-not-examine.true at c.examine.ensures))
 
-pub returns-in_err-room_for : goal.returns-in_err-room_for
-returns-in_err-room_for g c =
+pub returns-in_err-room_for-clause-released : goal.returns-in_err-room_for-clause-released
+returns-in_err-room_for-clause-released g c =
     let a = c.args in
     let e = err_from_is_err_and c.from_residual.result c.from_residual.ensures.1 in
     λ usage.
@@ -44,8 +44,8 @@ take_all-requires g c =
     let E = examines d (Some c.examine.new.columns) (rw c.if-not-examine.false at c.examine.ensures) in
     room_enough d a.pairs.now a.answers.now E (room_none d a.pairs.now a.answers.now E c.in_ok-room_for.ensures)
 
-pub returns : goal.returns
-returns g c =
+pub returns-clause-released : goal.returns-clause-released
+returns-clause-released g c =
     let a = c.args in
     let p = g.P.AsPlan.plan a.plan.now in
     λ usage.
