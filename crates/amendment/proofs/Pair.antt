@@ -6,6 +6,7 @@ use Prim.Native.Nat.{ℕ, zero, suc, ◌≤◌, ◌<◌}
 use native.Mathlib.Omega.{arith}
 use Rattle.std.proofs.Common.{Ok, Err}
 use Rattle.plan.specs.declared.Refusal.{Refusal}
+use Rattle.plan.specs.Ranges.{most_guests}
 use Rattle.plan.specs.First.{first_refused, refused_by}
 use Rattle.blockfile.specs.File.{blocks_in, blocks_refusal, file_refusal}
 use Rattle.amendment.specs.declared.Located.{Located}
@@ -139,3 +140,10 @@ module _ (plan sheet : List ℕ) (r : Located) (e : r ≡ pair_refusal plan shee
         known_by plan sheet k
         (none_refused (foreign_number plan sheet) (blocks_in sheet) 0 passes.1 k (omega arith) (omega arith));
   }
+
+  -- Neither has more blocks than a plan has guests, as making the amended plan asks.
+  pub sizes : (blocks_in plan ≤ most_guests) × (blocks_in sheet ≤ most_guests)
+  sizes =
+      let p = pair_in.plan.size in
+      let s = pair_in.sheet.size in
+      (omega arith, omega arith)

@@ -2,7 +2,7 @@
 use Rattle.std.specs.Prelude.{List, ℕ, Result, Err}
 use Rattle.plan.specs.declared.Plan.{Plan}
 use Rattle.plan.specs.declared.Refusal.{Refusal}
-use Rattle.plan.specs.First.{refused, refused_by, unless_refused}
+use Rattle.plan.specs.First.{refused, refused_by}
 use Rattle.verdict.specs.declared.GuestVerdict.{GuestVerdict}
 use Rattle.verdict.specs.declared.TaskVerdict.{TaskVerdict}
 use Rattle.verdict.specs.declared.Acceptance.{Acceptance}
@@ -17,11 +17,11 @@ pair_or refuse plan sheet answer =
     let r = pair_refusal plan sheet in
     refused_by refuse r.number r.place (answer (amended plan sheet))
 
--- A pair read: the amended plan, or the refusal.
-abbrev pub pair_read : (plan sheet : List ℕ) → Result Plan Refusal
-pair_read plan sheet =
+-- The pair's refusal as an answer has it, which does not say whether its place is one in the sheet.
+abbrev pub answer_refusal : (plan sheet : List ℕ) → Refusal
+answer_refusal plan sheet =
     let r = pair_refusal plan sheet in
-    unless_refused (refused r.number r.place) (amended plan sheet)
+    refused r.number r.place
 
 -- An answer that is refused.
 abbrev pub refusing_answer : {A : Type 0} → (number place : ℕ) → Result A Refusal

@@ -4,12 +4,15 @@
 
 ghost use Rattle.amendment.specs.Promises.{LocatesIn, FindsIn, GuestJudgedIn, TaskJudgedIn, AcceptsPair, SizedIn};
 
+use pairs::check_for_answer;
 use plan::Refusal;
-use records::read;
+use records::amended;
 use verdict::{Acceptance, GuestVerdict, TaskVerdict};
 
 mod pairs;
 mod records;
+
+pub use records::read; // Inner: for crates above that go on with the amended plan; none does yet.
 
 // A refusal's number and place, or number 0 and a found block's place; `sheet` is 1 where the place is one in the
 // sheet, 0 where it is one in the plan. It crosses to C as it is.
@@ -49,30 +52,37 @@ pub fn find<'a>(plan: &'a [u8], sheet: &'a [u8], id: u32) -> &'a [u8]
     blockfile::block_at(plan, r.place as usize)
 }
 
+// The four answers check the pair first and make the amended plan where they borrow it: as part of a result it would be
+// copied once more on the stack.
+
 // The verdict of the guest with an id.
 pub fn guest_verdict(plan: &[u8], sheet: &[u8], id: u32) -> Result<GuestVerdict, Refusal>
     ensures { GuestJudgedIn plan.now sheet.now id result }
 {
-    verdict::guest_verdict(&read(plan, sheet)?, id)
+    check_for_answer(plan, sheet)?;
+    verdict::guest_verdict(&amended(plan, sheet), id)
 }
 
 // The verdict of task number `task`, from 1, of the guest with an id.
 pub fn task_verdict(plan: &[u8], sheet: &[u8], id: u32, task: u32) -> Result<TaskVerdict, Refusal>
     ensures { TaskJudgedIn plan.now sheet.now id task result }
 {
-    verdict::task_verdict(&read(plan, sheet)?, id, task)
+    check_for_answer(plan, sheet)?;
+    verdict::task_verdict(&amended(plan, sheet), id, task)
 }
 
 // Whether all guests are fitted and all tasks met.
 pub fn accept(plan: &[u8], sheet: &[u8]) -> Result<Acceptance, Refusal>
     ensures { AcceptsPair plan.now sheet.now result }
 {
-    verdict::accept(&read(plan, sheet)?)
+    check_for_answer(plan, sheet)?;
+    verdict::accept(&amended(plan, sheet))
 }
 
 // The smallest capacity of the guest with an id.
 pub fn smallest_capacity(plan: &[u8], sheet: &[u8], id: u32) -> Result<u32, Refusal>
     ensures { SizedIn plan.now sheet.now id result }
 {
-    capacity::smallest_capacity(&read(plan, sheet)?, id)
+    check_for_answer(plan, sheet)?;
+    capacity::smallest_capacity(&amended(plan, sheet), id)
 }

@@ -1,10 +1,12 @@
-// What a pair is refused by, and where a guest's block stands. It meets specs/Pair.antt and specs/Finder.antt.
+// What a pair is refused by, and where a guest's block stands. It meets specs/Pair.antt and specs/Finder.antt, and of
+// specs/Verdict.antt the refusal of an answer.
 ghost use Rattle.std.specs.Prelude.{◌≡◌, ◌≤◌, ◌<◌};
 ghost use Rattle.plan.specs.First.{first_refused, unless_refused};
 ghost use Rattle.plan.specs.Ranges.{most_guests};
 ghost use Rattle.blockfile.specs.File.{blocks_in};
 ghost use Rattle.amendment.specs.Pair.{known_at, foreign_number, sheet_refusal, pair_refusal, unless_located};
 ghost use Rattle.amendment.specs.Finder.{standing};
+ghost use Rattle.amendment.specs.Verdict.{answer_refusal};
 
 use crate::Located;
 use block::layout::SIZE;
@@ -69,6 +71,13 @@ pub fn check_pair(plan: &[u8], sheet: &[u8]) -> Result<(), Located>
         return Err(located(r, 1));
     }
     Ok(())
+}
+
+// The same for an answer, whose refusal does not say whether its place is one in the sheet.
+pub fn check_for_answer(plan: &[u8], sheet: &[u8]) -> Result<(), Refusal>
+    ensures { result ≡ unless_refused (answer_refusal plan.now sheet.now) tt }
+{
+    check_pair(plan, sheet).map_err(|Located { number, place, .. }| Refusal { number, place })
 }
 
 // Where a block was found, in the sheet if it has one; refusal 7 where in neither.

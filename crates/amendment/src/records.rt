@@ -5,12 +5,12 @@ ghost use Rattle.block.specs.Reading.{guest_of};
 ghost use Rattle.blockfile.specs.File.{blocks_in};
 ghost use Rattle.blockfile.specs.Records.{records_of};
 ghost use Rattle.amendment.specs.Amended.{amended_block, amended};
-ghost use Rattle.amendment.specs.Verdict.{pair_read};
+ghost use Rattle.amendment.specs.Pair.{pair_refusal, unless_located};
 
 use crate::Located;
 use crate::pairs::check_pair;
 use block::layout::SIZE;
-use plan::{Guest, Plan, Refusal};
+use plan::{Guest, Plan};
 
 // The record of the block that counts for the guest at place k of the plan.
 fn guest_at(plan: &[u8], sheet: &[u8], k: usize) -> Guest
@@ -37,7 +37,7 @@ fn guests_of(plan: &[u8], sheet: &[u8], n: usize) -> [Guest; 8]
 
 // The amended plan.
 #[tactic(auto, unfolding(crate::specs::Amended::amended))]
-fn amended(plan: &[u8], sheet: &[u8]) -> Plan
+pub fn amended(plan: &[u8], sheet: &[u8]) -> Plan
     requires { (blocks_in plan.now ≤ most_guests) × (blocks_in sheet.now ≤ most_guests) }
     ensures { result ≡ amended plan.now sheet.now }
 {
@@ -49,12 +49,10 @@ fn amended(plan: &[u8], sheet: &[u8]) -> Plan
     }
 }
 
-// A pair read: the amended plan, or the refusal. An answer's refusal does not say whether its place is in the sheet.
-pub fn read(plan: &[u8], sheet: &[u8]) -> Result<Plan, Refusal>
-    ensures { result ≡ pair_read plan.now sheet.now }
+// A pair read: the amended plan, or the refusal, which says whether its place is one in the sheet.
+pub fn read(plan: &[u8], sheet: &[u8]) -> Result<Plan, Located>
+    ensures { result ≡ unless_located (pair_refusal plan.now sheet.now) (amended plan.now sheet.now) }
 {
-    if let Err(Located { number, place, .. }) = check_pair(plan, sheet) {
-        return Err(Refusal { number, place });
-    }
+    check_pair(plan, sheet)?;
     Ok(amended(plan, sheet))
 }

@@ -2,16 +2,21 @@
 use Rattle.std.proofs.Common.{◌≡◌, Err, ◌∙◌, rules}
 use Rattle.verdict.specs.Verdict.{guest_verdict}
 use Rattle.amendment.specs.Verdict.{refusing_answer}
-use Rattle.amendment.proofs.Verdict.{read_refuses, read_answers}
+use Rattle.amendment.proofs.Verdict.{check_refuses, check_sizes, check_answers}
 use Rattle.amendment.proofs.guest_verdict.Goals as goal
 
-pub returns-in_err-read : goal.returns-in_err-read
-returns-in_err-read c =
-    let q : c.from_residual.result ≡ Err c.in_err-read.field-0.0 = search rules in
-    q ∙ read_refuses c.args.plan.now c.args.sheet.now (λ p. guest_verdict p c.args.id) c.in_err-read.ensures
+pub returns-in_err-check_for_answer : goal.returns-in_err-check_for_answer
+returns-in_err-check_for_answer c =
+    let q : c.from_residual.result ≡ Err c.in_err-check_for_answer.field-0.0 = search rules in
+    q
+    ∙ check_refuses c.args.plan.now c.args.sheet.now (λ p. guest_verdict p c.args.id)
+    c.in_err-check_for_answer.ensures
+
+pub amended-requires : goal.amended-requires
+amended-requires c = check_sizes c.args.plan.now c.args.sheet.now c.in_ok-check_for_answer.ensures
 
 pub returns : goal.returns
 returns c =
     c.guest_verdict.ensures
-    ∙ read_answers refusing_answer c.args.plan.now c.args.sheet.now (λ p. guest_verdict p c.args.id)
-    c.in_ok-read.ensures
+    ∙ check_answers refusing_answer c.args.plan.now c.args.sheet.now (λ p. guest_verdict p c.args.id)
+    c.in_ok-check_for_answer.ensures c.amended.ensures
