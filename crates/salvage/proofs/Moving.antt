@@ -1,5 +1,5 @@
 -- A block moved, word by word, and how the code comes to it. Assumes nothing.
-use Rattle.std.proofs.Common.{◌≡◌, ℕ, ◌+◌, ◌*◌, ◌/◌, ◌%◌, ◌<◌, ◌≤◌, true, List, ◌++◌, length, sym, refl, ◌∙◌, mod-eq_of_lt, arith, eqb-true}
+use Rattle.std.proofs.Common.{◌≡◌, ℕ, zero, suc, ◌+◌, ◌*◌, ◌/◌, ◌%◌, ◌<◌, ◌≤◌, true, List, [], ◌∷◌, ◌++◌, length, take, drop, set, sym, refl, ap, ◌∙◌, mod-eq_of_lt, add-one, arith, take_all, eqb-true}
 use Rattle.lists.specs.Places.{nth}
 use Rattle.lists.specs.Sum.{sum_to}
 use Rattle.words.specs.Word.{word_wrap, word}
@@ -16,6 +16,24 @@ use Rattle.blockfile.proofs.Joined.{joined_length}
 use Rattle.salvage.proofs.Keeping.{kept_in_lem}
 use Rattle.words.proofs.Wrap.{complement_only}
 use Rattle.words.proofs.WithWord.{with_length, with_front, word_with, word_beside}
+
+-- One byte more is copied.
+copy_next : (n : ℕ) (b o : List ℕ) → n < length b → n < length o
+    → set (take n b ++ drop n o) n (nth b n) ≡ take (suc n) b ++ drop (suc n) o
+copy_next zero (x ∷ b) (y ∷ o) h l = refl
+copy_next (suc n) (x ∷ b) (y ∷ o) h l = ap (λ (r : List ℕ). x ∷ r) (copy_next n b o (omega arith) (omega arith))
+copy_next n [] o h l = absurd (omega arith)
+copy_next n (x ∷ b) [] h l = absurd (omega arith)
+
+-- A loop's turn.
+pub copy_turn : (n : ℕ) (b o x : List ℕ) (v : ℕ) → n < length b → n < length o → x ≡ take n b ++ drop n o → v ≡ nth b n
+    → set x n v ≡ take (n + 1) b ++ drop (n + 1) o
+copy_turn n b o x v h l e q = rw (e, q, add-one n) (copy_next n b o h l)
+
+-- The loop's end: the whole block is copied.
+pub copy_done : (n : ℕ) (b o x : List ℕ) → n ≡ block_size → length b ≡ block_size → x ≡ take n b ++ drop n o
+    → x ≡ b ++ drop block_size o
+copy_done n b o x m h e = e ∙ rw (m, take_all block_size b (omega arith)) refl
 
 -- A moved block has 512 bytes.
 pub moved_length : (b : List ℕ) (p : ℕ) → length b ≡ block_size → length (moved b p) ≡ block_size

@@ -11,7 +11,7 @@ use Rattle.blockfile.specs.File.{block_at, blocks_in, most_bytes}
 use Rattle.salvage.specs.declared.Sifted.{Sifted}
 use Rattle.salvage.specs.Fates.{fates_of}
 use Rattle.salvage.specs.Moving.{moved_up}
-use Rattle.salvage.specs.Sifting.{sifted_of}
+use Rattle.salvage.specs.Sifting.{places_of, Sifts}
 use Rattle.salvage.specs.Outcome.{listed_in, kept_in, salvage_number, number_of, blocks_written, answer_of, salvaged_of, output_by}
 use Rattle.salvage.specs.Promises.{Salvages}
 use Rattle.salvage.proofs.Keeping.{kept_in_lem, kept_most, passing}
@@ -75,27 +75,27 @@ written_all x kept saved before e = rw e (refl, refl)
 -- What the code has once the blocks are gone through: how many are listed, and what was found.
 pub record GoneThrough (s : List ℕ) (n : ℕ) (t : Sifted) : Type 0 where
   pub whole : n ≡ listed_in (length s)
-  pub sifted : t ≡ sifted_of s n
+  pub sifted : Sifts s n t
 
 -- The outcome, from that.
 module _ {s : List ℕ} {n : ℕ} {t : Sifted} (g : GoneThrough s n t) where
   list_is : t.fates ≡ fates_of s n
-  list_is = ap (λ (r : Sifted). r.fates) g.sifted
+  list_is = g.sifted.1
 
-  kept_is : t.kept ≡ kept_in s
-  kept_is = ap (λ (r : Sifted). r.kept) g.sifted ∙ rw g.whole refl
+  kept_is : places_of t.kept ≡ kept_in s
+  kept_is = g.sifted.0 ∙ rw g.whole refl
 
   -- At most eight blocks are listed.
   pub few_listed : n ≤ most_guests
   few_listed = omega (arith, g.whole, (listed_most (length s)).0)
 
   -- At most eight are kept.
-  pub few_kept : length t.kept ≤ most_guests
+  pub few_kept : length (places_of t.kept) ≤ most_guests
   few_kept = omega (arith, ap length kept_is, kept_most s (listed_in (length s)), (listed_most (length s)).0)
 
   -- Each of them is a block of the file, and its words sum to zero.
-  pub each_kept : (j : ℕ) → j < length t.kept
-      → (nth t.kept j < blocks_in s) × (sums_to_zero (block_at s (nth t.kept j)) ≡ true)
+  pub each_kept : (j : ℕ) → j < length (places_of t.kept)
+      → (nth (places_of t.kept) j < blocks_in s) × (sums_to_zero (block_at s (nth (places_of t.kept) j)) ≡ true)
   each_kept j l =
       let k = kept_in_lem s (listed_in (length s)) j (rw kept_is at l) in
       rw kept_is (omega (arith, k.below, (listed_most (length s)).1), (passing s (nth (kept_in s) j) k.passes).sums)
@@ -104,11 +104,11 @@ module _ {s : List ℕ} {n : ℕ} {t : Sifted} (g : GoneThrough s n t) where
     -- A refusal writes nothing.
     pub outcome_refused :
         {x : ℕ}
-        → Err x ≡ unless_number (salvage_number (length s) (length t.kept) (length before)) (tt {0})
+        → Err x ≡ unless_number (salvage_number (length s) (length (places_of t.kept)) (length before)) (tt {0})
         → Salvages s before (answer_of x 0 n t.fates) before
     unfolding salvaged_of
     outcome_refused {x} q =
-        let e = err_number (salvage_number (length s) (length t.kept) (length before)) (tt {0}) q in
+        let e = err_number (salvage_number (length s) (length (places_of t.kept)) (length before)) (tt {0}) q in
         let z : x ≡ number_of s (length before) = rw kept_is at e.0 in
         let w =
         written_none (number_of s (length before)) (length (kept_in s)) (moved_up s (kept_in s)) before
@@ -116,18 +116,18 @@ module _ {s : List ℕ} {n : ℕ} {t : Sifted} (g : GoneThrough s n t) where
         (rw (list_is, z, g.whole, ← w.0) refl, w.1)
 
     module _ {w : Unit {0}}
-        (q : Ok w ≡ unless_number (salvage_number (length s) (length t.kept) (length before)) (tt {0})) where
-      no_number : salvage_number (length s) (length t.kept) (length before) ≡ 0
-      no_number = (ok_number (salvage_number (length s) (length t.kept) (length before)) q).0
+        (q : Ok w ≡ unless_number (salvage_number (length s) (length (places_of t.kept)) (length before)) tt) where
+      no_number : salvage_number (length s) (length (places_of t.kept)) (length before) ≡ 0
+      no_number = (ok_number (salvage_number (length s) (length (places_of t.kept)) (length before)) q).0
 
       -- Where nothing is refused, the output has room.
-      pub room_for : block_size * length t.kept ≤ length before
-      room_for = (salvage_in (length s) (length t.kept) (length before) no_number).fits
+      pub room_for : block_size * length (places_of t.kept) ≤ length before
+      room_for = (salvage_in (length s) (length (places_of t.kept)) (length before) no_number).fits
 
       -- Then the kept blocks are written.
       pub outcome_written : (y : List ℕ)
-          → y ≡ moved_up s t.kept ++ drop (block_size * length t.kept) before
-          → Salvages s before (answer_of 0 (length t.kept) n t.fates) y
+          → y ≡ moved_up s (places_of t.kept) ++ drop (block_size * length (places_of t.kept)) before
+          → Salvages s before (answer_of 0 (length (places_of t.kept)) n t.fates) y
       unfolding salvaged_of blocks_written
       outcome_written y e =
           let z : number_of s (length before) ≡ 0 = rw kept_is at no_number in

@@ -1,28 +1,21 @@
 // The places of the blocks that are kept, at most eight, in order.
-ghost use Rattle.std.specs.Prelude.{◌≡◌, ℕ, ◌<◌, ◌≤◌, List, [], ◌∷◌, ◌++◌, length, take};
+ghost use Rattle.std.specs.Prelude.{◌≡◌, ◌<◌, ◌≤◌, [], ◌∷◌, ◌++◌, length};
 ghost use Rattle.plan.specs.Ranges.{most_guests};
 
-use std::marker::Model;
-
-// A contract sees the list of the places.
-#[derive(Drop)]
+// A contract sees the list of the places, by `places_of`; what stands behind them says nothing.
+#[derive(Clone, Copy)]
 pub struct Kept {
-    places: [usize; 8],
-    count: usize,
-}
-
-impl Model for Kept {
-    ghost Value = { List ℕ };
-
-    ghost view = { λ s. take s.count s.places };
-
-    ghost invariant = { λ s. s.count ≤ 8 };
+    pub places: [usize; 8],
+    pub count: usize,
+    pub ghost few: { count ≤ 8 },
 }
 
 impl Kept {
+    ghost use Rattle.salvage.specs.Sifting.{places_of};
+
     // None is kept yet.
     pub(crate) fn none() -> Self
-        ensures { result ≡ [] }
+        ensures { places_of result ≡ [] }
     {
         Kept {
             places: [0; 8],
@@ -32,8 +25,8 @@ impl Kept {
 
     // One place more.
     pub(crate) fn push(&mut self, place: usize)
-        requires { length self.old < most_guests }
-        ensures { self.new ≡ self.old ++ place ∷ [] }
+        requires { length (places_of self.old) < most_guests }
+        ensures { places_of self.new ≡ places_of self.old ++ place ∷ [] }
     {
         self.places[self.count] = place;
         self.count += 1;
@@ -41,7 +34,7 @@ impl Kept {
 
     // The places.
     pub(crate) fn places(&self) -> &[usize]
-        ensures { result.now ≡ self.now }
+        ensures { result.now ≡ places_of self.now }
     {
         &self.places[..self.count]
     }

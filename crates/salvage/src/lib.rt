@@ -8,12 +8,13 @@ ghost use Rattle.salvage.specs.Outcome.{listed_in, salvage_number, answer_of};
 ghost use Rattle.salvage.specs.Promises.{Salvages};
 
 use block::layout;
-use kept::Kept;
 use plan::Refusal;
 
 mod kept;
 mod mover;
 mod sifter;
+
+pub use kept::Kept; // What `Sifted` holds, for who reads one.
 
 // What becomes of a block, as it crosses to C: number 0 and its new place where it is kept, or the number that it is
 // dropped by and place 0.
@@ -36,7 +37,7 @@ pub struct Salvaged {
 }
 
 // Blocks gone through: the places in the file of those that are kept, and the list.
-#[derive(Drop)]
+#[derive(Clone, Copy)]
 pub struct Sifted {
     pub kept: Kept,
     pub fates: [Fate; 8],

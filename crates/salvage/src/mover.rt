@@ -32,6 +32,17 @@ fn check_with(block: &[u8; SIZE], opening: u32) -> u32
     check.wrapping_add(old).wrapping_sub(opening)
 }
 
+// A block put into the first 512 bytes as it is. Not by `copy_from_slice`, since of that the compiler makes memmove, which
+// a host without a C library would have to bring for this call alone.
+fn copy_block(block: &[u8; SIZE], out: &mut [u8])
+    requires { block_size ≤ length out.old }
+    ensures { out.new ≡ block.now ++ drop block_size out.old }
+{
+    for i in 0..SIZE {
+        out[i] = block[i];
+    }
+}
+
 // A block put into the first 512 bytes, moved to a place.
 fn put_moved(block: &[u8; SIZE], place: u32, out: &mut [u8])
     requires { (sums_to_zero block.now ≡ true) × ((place ≤ last_place) × (block_size ≤ length out.old)) }
@@ -39,7 +50,7 @@ fn put_moved(block: &[u8; SIZE], place: u32, out: &mut [u8])
 {
     let opening = opening_at(block, place);
     let check = check_with(block, opening);
-    out[..SIZE].copy_from_slice(block);
+    copy_block(block, out);
     words::put_word(out, layout::KIND_PLACE, opening);
     words::put_word(out, layout::CHECK, check);
 }

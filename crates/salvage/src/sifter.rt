@@ -6,7 +6,7 @@ ghost use Rattle.lists.specs.Refusals.{unless_number};
 ghost use Rattle.plan.specs.Ranges.{most_guests};
 ghost use Rattle.blockfile.specs.File.{blocks_in};
 ghost use Rattle.salvage.specs.Keeping.{new_among, number_after};
-ghost use Rattle.salvage.specs.Sifting.{sifted_of};
+ghost use Rattle.salvage.specs.Sifting.{Sifts};
 
 use crate::kept::Kept;
 use crate::{Fate, Sifted};
@@ -37,7 +37,7 @@ fn number_after(file: &[u8], kept: &[usize], k: usize) -> Result<(), u32>
 // The first n blocks gone through.
 pub fn sift(file: &[u8], n: usize) -> Sifted
     requires { (n ≤ most_guests) × (n ≤ blocks_in file.now) }
-    ensures { result ≡ sifted_of file.now n }
+    ensures { Sifts file.now n result }
 {
     let mut kept = Kept::none();
     let mut fates = [Fate {
