@@ -49,12 +49,18 @@ pub fn place_of(b: &[u8; SIZE]) -> u32
     words::word_at(b, layout::KIND_PLACE) / layout::HALF
 }
 
-// Whether the words from one on, up to another, are zero.
+// Whether the words from one on, up to another, are zero. No early way out: a block in order is tested whole anyway, and
+// without one the loop takes several words at a time.
+#[tactic(auto, unfolding(crate::specs::Reading::zero_between, lists::specs::All::all_to))]
 pub fn zero_between(b: &[u8; SIZE], from: usize, to: usize) -> bool
     requires { (from ≤ to) × (to ≤ block_words) }
     ensures { result ≡ zero_between b.now from to }
 {
-    (from..to).all(|k| words::word_at(b, k) == 0)
+    let mut ok = true;
+    for k in 0..to - from {
+        ok &= words::word_at(b, from + k) == 0;
+    }
+    ok
 }
 
 // The number of tasks.

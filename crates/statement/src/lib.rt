@@ -3,6 +3,7 @@
 
 ghost use Rattle.std.specs.Prelude.{◌≡◌};
 ghost use Rattle.plan.specs.First.{unless_refused};
+ghost use Rattle.blockfile.specs.File.{file_refusal};
 ghost use Rattle.planfile.specs.Records.{read_of};
 ghost use Rattle.statement.specs.Call.{call_refusal};
 ghost use Rattle.statement.specs.Promises.{Extends};
@@ -41,11 +42,11 @@ pub struct Stated {
     pub number: u32,
 }
 
-// The plan of a call that is not refused, or the refusal.
-fn checked(running: &Statement, plan: &[u8], log: &[u8]) -> Result<Plan, Refusal>
-    ensures { result ≡ unless_refused (call_refusal running.now plan.now log.now) (read_of plan.now).plan }
+// Whether a call is not refused, or else its refusal: the plan's reading order, then 14, then 1.
+fn check(running: &Statement, plan: &[u8], log: &[u8]) -> Result<(), Refusal>
+    ensures { result ≡ unless_refused (call_refusal running.now plan.now log.now) tt }
 {
-    let records = planfile::read(plan)?;
+    blockfile::check_blocks(plan, true)?;
     if !ranges::statement_ok(running) {
         return Err(Refusal {
             number: 14,
@@ -58,21 +59,40 @@ fn checked(running: &Statement, plan: &[u8], log: &[u8]) -> Result<Plan, Refusal
             place: 0,
         });
     }
-    Ok(records)
+    Ok(())
+}
+
+// The plan of a call that is not refused. It is not `planfile::read`, so that a refused call makes no records and the
+// plan is not moved through a Result.
+fn records(plan: &[u8]) -> Plan
+    requires { (file_refusal plan.now).number ≡ 0 }
+    ensures { result ≡ (read_of plan.now).plan }
+{
+    let count = plan.len() / layout::SIZE;
+    let guests = blockfile::records_of(plan, count);
+    Plan {
+        count: count as u32,
+        guests,
+    }
 }
 
 // The log's blocks counted in the running statement, against the plan.
 pub fn extend(running: Statement, plan: &[u8], log: &[u8]) -> Stated
     ensures { Extends running plan.now log.now result }
 {
-    match checked(&running, plan, log) {
-        Ok(records) => taking::stated(running, &records, log),
-        Err(refusal) => Stated {
-            refusal,
-            statement: running,
-            passed: 0,
-            position: 0,
+    let mut stated = Stated {
+        refusal: Refusal {
             number: 0,
+            place: 0,
         },
+        statement: running,
+        passed: 0,
+        position: 0,
+        number: 0,
+    };
+    match check(&stated.statement, plan, log) {
+        Ok(()) => taking::count_log(&mut stated, &records(plan), log),
+        Err(refusal) => stated.refusal = refusal,
     }
+    stated
 }

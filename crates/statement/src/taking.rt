@@ -1,13 +1,14 @@
 // A log taken block by block: each block is counted or passed over.
 ghost use Rattle.std.specs.Prelude.{◌≡◌, true, ◌*◌};
 ghost use Rattle.lists.specs.Refusals.{unless_number};
+ghost use Rattle.plan.specs.First.{fine};
 ghost use Rattle.plan.specs.Order.{plan_refusal};
 ghost use Rattle.logblock.specs.Layout.{most_jobs};
 ghost use Rattle.blockfile.specs.File.{blocks_in};
 ghost use Rattle.statement.specs.Lines.{statement_ok};
 ghost use Rattle.statement.specs.Block.{block_number};
 ghost use Rattle.statement.specs.Log.{after_block};
-ghost use Rattle.statement.specs.Call.{stated_over};
+ghost use Rattle.statement.specs.Call.{stated_over, unstated};
 ghost use Rattle.statement.specs.Lent.{AtMost};
 
 use crate::columns::{Gathered, gather};
@@ -15,7 +16,7 @@ use crate::counting::{aim_all, count_all};
 use crate::ranges::MOST_BLOCKS;
 use crate::{Stated, Statement};
 use block::layout::SIZE;
-use plan::{Plan, Refusal};
+use plan::Plan;
 
 // One block: its entries are counted, or it is passed over by 2, 3, 18, 5, 7, 8 or 19.
 fn take(running: &mut Statement, by: &Gathered, b: &[u8; SIZE]) -> Result<(), u32>
@@ -34,22 +35,15 @@ fn take(running: &mut Statement, by: &Gathered, b: &[u8; SIZE]) -> Result<(), u3
     Ok(())
 }
 
-// The outcome of a call that is not refused.
-pub fn stated(running: Statement, plan: &Plan, log: &[u8]) -> Stated
-    requires { ((plan_refusal plan.now).number ≡ 0) × (statement_ok running ≡ true) }
-    ensures { result ≡ stated_over plan.now log.now (blocks_in log.now) running }
+// The log counted in an outcome that says nothing yet. The outcome stays where it is made, as a statement is large to
+// move. This stays a call of its own, so that a refused one makes none of what it needs.
+#[inline(never)]
+pub fn count_log(stated: &mut Stated, plan: &Plan, log: &[u8])
+    requires in_order { ((plan_refusal plan.now).number ≡ 0) × (statement_ok stated.old.statement ≡ true) }
+    requires nothing_said { stated.old ≡ unstated fine stated.old.statement }
+    ensures { stated.new ≡ stated_over plan.now log.now (blocks_in log.now) stated.old.statement }
 {
     let by = gather(plan);
-    let mut stated = Stated {
-        refusal: Refusal {
-            number: 0,
-            place: 0,
-        },
-        statement: running,
-        passed: 0,
-        position: 0,
-        number: 0,
-    };
     for k in 0..log.len() / SIZE {
         if let Err(number) = take(&mut stated.statement, &by, blockfile::block_at(log, k)) {
             // Number 0 says that no block was passed over yet, as C is told.
@@ -60,5 +54,4 @@ pub fn stated(running: Statement, plan: &Plan, log: &[u8]) -> Stated
             stated.passed += 1;
         }
     }
-    stated
 }

@@ -1,15 +1,18 @@
 -- A turn takes one block more or passes it over.
+use mathlib.Core.Path.{ap, ◌∙◌}
 use native.Mathlib.Omega.{arith}
-use borrow.Author.Rules.{rules}
+use Rattle.statement.specs.declared.Stated.{Stated}
 use Rattle.statement.proofs.Log.{log_none, room_now, log_taken, log_first, log_again}
-use Rattle.statement.proofs.taking.stated.Goals as goal
-use Rattle.statement.proofs.taking.stated.Goals.{in-Err, then-stated-lt1, else-stated-lt1, in_default}
+use Rattle.statement.proofs.taking.count_log.Goals as goal
+use Rattle.statement.proofs.taking.count_log.Goals.{in-Err, then-stated-lt1, else-stated-lt1, in_default}
 
 pub loop-k-init : goal.loop-k-init
-loop-k-init c = (search rules, log_none _ _ _)
+loop-k-init c =
+    let none = c.requires.nothing_said in
+    (omega (arith, ap (λ (t : Stated). t.passed) none), none ∙ log_none _ _ _)
 
 pub take-requires : goal.take-requires
-take-requires c = (room_now _ _ _ _ c.requires.0 c.requires.1 c.loop-k.invariant.1).lines
+take-requires c = (room_now _ _ _ _ c.requires.in_order.0 c.requires.in_order.1 c.loop-k.invariant.1).lines
 
 pub loop-k-preserved : goal.loop-k-preserved
 loop-k-preserved c =
