@@ -2,7 +2,7 @@
 ghost use Rattle.choice.specs.Capacities.{ComesTo};
 
 use capacity::smallest_at;
-use plan::{Plan, Refusal, columns_of, start_check};
+use plan::{Plan, Refusal, start_check};
 use response::servers_of;
 
 // The plan with each guest's smallest capacity under those above at theirs, or the refusal: that of a fresh start, then
@@ -13,7 +13,7 @@ pub fn choose(mut plan: Plan) -> Result<Plan, Refusal>
     ensures { ComesTo plan result }
 {
     start_check(&plan)?;
-    let mut servers = servers_of(&columns_of(&plan));
+    let mut servers = servers_of(&plan);
     for k in 0..plan.count as usize {
         match smallest_at(&plan.guests[k], &servers, k) {
             Some(c) => {

@@ -1,8 +1,7 @@
 -- What the way in leaves to the calls that name a guest: a refusal, or records in order with the guest at its place.
 -- Assumes nothing.
-use Rattle.std.proofs.Common.{◌≡◌, ℕ, ◌≤◌, ◌<◌, List, [], ◌∷◌, true, Ok, Err, refl, ap, ◌∙◌, arith, eqb}
-use borrow.Author.Tests.{le-ltb, lt-ltb, ltb-true}
-use Rattle.lists.specs.Places.{nth}
+use Rattle.std.proofs.Common.{◌≡◌, Bool, ℕ, ◌≤◌, ◌<◌, ◌-◌, List, [], ◌∷◌, true, Ok, Err, refl, sym, ap, ◌∙◌, arith, eqb}
+use borrow.Author.Tests.{eq-eqb, le-ltb, lt-ltb, ltb-true}
 use Rattle.lists.specs.Search.{first_from}
 use Rattle.lists.specs.Refusals.{Test, refusal, ◌or_refuse◌}
 use Rattle.plan.specs.declared.Plan.{Plan}
@@ -12,13 +11,12 @@ use Rattle.plan.specs.Order.{plan_refusal, records_then}
 use Rattle.plan.specs.Place.{place_of, has_guest}
 use Rattle.plan.specs.Ranges.{most_guests}
 use Rattle.plan.specs.Records.{guest_at}
-use Rattle.plan.specs.Filled.{Filled}
 use Rattle.plan.specs.Promises.{Checks}
 use Rattle.plan.specs.LookUp.{LooksUp}
+use Rattle.lists.proofs.Search.{first_hit, first_none}
 use Rattle.lists.proofs.Refusals.{none_left, go_on, stop, passed}
 use Rattle.plan.proofs.First.{refused_here, number_refuses, test_passes, ok_says, err_says, err_unless}
-use Rattle.plan.proofs.Place.{place_is}
-use Rattle.plan.proofs.Order.{PlanIn, plan_in, check_order, records_first, records_none, records_pass}
+use Rattle.plan.proofs.Order.{PlanIn, plan_in, records_first, records_none, records_pass}
 
 -- how the code comes to the way in
 module _ (p : Plan) (id : ℕ) where
@@ -33,30 +31,34 @@ module _ (p : Plan) (id : ℕ) where
       err_unless (records_then p here) _
       (s.0 ∙ refused_here (plan_refusal p).number (plan_refusal p).place (refused (refusal here) 0) s.1) (rw s.0 s.1)
 
-  module _ (e : Checks p (Ok tt)) {ids : List ℕ} {n k : ℕ} (m : n ≡ p.count)
-      (s : k ≡ first_from (λ j. eqb (nth ids j) id) n 0) (f : Filled ids (λ j. (guest_at p.guests j).id) most_guests) where
-    -- in records in order the search in the column of ids finds the place
-    place_found : k ≡ place_of p id
-    place_found = s ∙ ap (λ (n : ℕ). first_from (λ j. eqb (nth ids j) id) n 0) m ∙ place_is p ids id (check_order p e).few f
+  -- whether the guest at place k has the id
+  abbrev pub has_id : ℕ → Bool
+  has_id k = eqb (guest_at p.guests k).id id
 
+  -- records in order
+  module _ (e : Checks p (Ok tt)) where
     -- the way in of records in order has the number of the test of 7
     looked : (number : ℕ) → refusal here ≡ number → records_then p here ≡ refused number 0
     unfolding records_then or_else
     looked number q = rw ((ok_says (plan_refusal p) e).0, q) refl
 
-    -- the way in where the guest is in the plan
-    pub looked_found : k < n → LooksUp p id (Ok k)
-    unfolding has_guest
-    looked_found l =
-        let q = looked 0 (go_on 7 [] (lt-ltb (place_of p id) p.count (omega (arith, place_found, m))) ∙ none_left) in
-        rw (q, ← place_found) refl
+    -- a search has come to place k, and from there on finds the guest's place
+    module _ {k : ℕ} (s : first_from has_id (p.count - k) k ≡ place_of p id) where
+      -- the way in where the guest at the place has the id
+      pub looked_found : k < p.count → (guest_at p.guests k).id ≡ id → LooksUp p id (Ok k)
+      unfolding has_guest
+      looked_found l h =
+          let found = sym (first_hit has_id p.count k l (eq-eqb _ id h)) ∙ s in
+          let q = looked 0 (go_on 7 [] (lt-ltb (place_of p id) p.count (omega (arith, found))) ∙ none_left) in
+          rw (q, ← found) refl
 
-    -- the way in where there is no such guest
-    pub looked_missing : n ≤ k → LooksUp p id (Err (refused 7 0))
-    unfolding has_guest
-    looked_missing l =
-        let q = looked 7 (stop 7 [] (le-ltb (place_of p id) p.count (omega (arith, place_found, m)))) in
-        rw q refl
+      -- the way in where no place is left
+      pub looked_missing : p.count ≤ k → LooksUp p id (Err (refused 7 0))
+      unfolding has_guest
+      looked_missing l =
+          let found = sym (first_none has_id p.count k l) ∙ s in
+          let q = looked 7 (stop 7 [] (le-ltb (place_of p id) p.count (omega (arith, found)))) in
+          rw q refl
 
 -- a refusal of the way in is the call's, whatever it tests after 7
 pub look_refuses :

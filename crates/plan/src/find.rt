@@ -3,11 +3,9 @@ ghost use Rattle.std.specs.Prelude.{◌≡◌, ◌≤◌, eqb};
 ghost use Rattle.lists.specs.Places.{nth};
 ghost use Rattle.lists.specs.Search.{first_from};
 ghost use Rattle.plan.specs.Place.{has_number};
-ghost use Rattle.plan.specs.Filled.{ColumnsOf};
 ghost use Rattle.plan.specs.LookUp.{LooksUp};
-ghost use Rattle.plan.specs.Ranges.{most_guests};
 
-use crate::{AsPlan, Columns, Refusal, check};
+use crate::{AsPlan, Refusal, check};
 
 // The first place of the first n whose id is `id`, or n where there is none: the specs' `first_from` counts so, and the
 // loop's invariant is in its words.
@@ -31,19 +29,20 @@ pub fn has_task(tasks: u32, number: u32) -> bool
     (1 <= number) & (number <= tasks)
 }
 
-// The way in of each call that names a guest: the refusal of the plan's records, then 7, else the guest's place.
-#[tactic(auto, using(crate::proofs::Order::check_order, crate::proofs::LookUp::looked_refused))]
-pub fn look_up<P: AsPlan>(plan: &P, columns: &Columns, id: u32) -> Result<usize, Refusal>
-    ensures { ColumnsOf (P.plan plan.now).guests most_guests columns.now → LooksUp (P.plan plan.now) id result }
+// The way in of each call that names a guest: the refusal of the plan's records, then 7, else the guest's place. It reads
+// the ids where they lie, since a column of them is more to store than the search has to read.
+#[tactic(auto, unfolding(crate::specs::Place::place_of), using(crate::proofs::Order::check_order, crate::proofs::LookUp::looked_refused, crate::proofs::LookUp::looked_missing, lists::proofs::Search::first_skip))]
+pub fn look_up<P: AsPlan>(plan: &P, id: u32) -> Result<usize, Refusal>
+    ensures { LooksUp (P.plan plan.now) id result }
 {
     check(plan)?;
-    let n = plan.count() as usize;
-    let place = place_of(&columns.ids, n, id);
-    if n <= place {
-        return Err(Refusal {
-            number: 7,
-            place: 0,
-        });
+    for k in 0..plan.count() as usize {
+        if plan.guest(k).id == id {
+            return Ok(k);
+        }
     }
-    Ok(place)
+    Err(Refusal {
+        number: 7,
+        place: 0,
+    })
 }

@@ -112,9 +112,10 @@ pub fn check<P: AsPlan>(plan: &P) -> Result<(), Refusal>
             place: 0,
         });
     }
-    let columns = columns_of(plan);
+    // Only the ids are kept, so that the other columns are not stored.
+    let ids = columns_of(plan).ids;
     for k in 0..count as usize {
-        let new = new_id(&columns.ids, k);
+        let new = new_id(&ids, k);
         if let Err(number) = guest_passes(&plan.guest(k), new) {
             return Err(Refusal {
                 number,

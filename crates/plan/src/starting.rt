@@ -28,8 +28,8 @@ pub fn start_check<P: AsPlan>(plan: &P) -> Result<(), Refusal>
     ensures { result ≡ unless_refused (start_refusal (P.plan plan.now)) tt }
 {
     check(plan)?;
-    let columns = columns_of(plan);
-    if !all_periodic(&columns.deferrable, plan.count() as usize) {
+    let deferrable = columns_of(plan).deferrable;
+    if !all_periodic(&deferrable, plan.count() as usize) {
         return Err(Refusal {
             number: 23,
             place: 0,

@@ -2,7 +2,7 @@
 ghost use Rattle.response.specs.Seat.{Sits};
 
 use crate::servers::{Servers, servers_of};
-use plan::{AsPlan, Refusal, columns_of, look_up};
+use plan::{AsPlan, Refusal, look_up};
 
 // A guest that was looked up by its id: its place, and the servers of its plan. No record is in it, since acceptance and
 // choices go through all guests under one plan's servers.
@@ -16,10 +16,9 @@ pub struct Seat {
 pub fn seat_of<P: AsPlan>(plan: &P, id: u32) -> Result<Seat, Refusal>
     ensures { Sits (P.plan plan.now) id result }
 {
-    let columns = columns_of(plan);
-    let place = look_up(plan, &columns, id)?;
+    let place = look_up(plan, id)?;
     Ok(Seat {
         place,
-        servers: servers_of(&columns),
+        servers: servers_of(plan),
     })
 }

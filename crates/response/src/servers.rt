@@ -1,13 +1,11 @@
 // The servers of a plan's guests, which the equations below guests are read off.
-ghost use Rattle.std.specs.Prelude.{◌≡◌, List, ◌-◌};
+ghost use Rattle.std.specs.Prelude.{◌≡◌, ◌-◌};
 ghost use Rattle.lists.specs.Choice.{pick};
-ghost use Rattle.plan.specs.declared.Guest.{Guest};
-ghost use Rattle.plan.specs.Filled.{ColumnsOf};
 ghost use Rattle.plan.specs.Ranges.{most_guests};
 ghost use Rattle.plan.specs.Server.{says_deferrable};
 ghost use Rattle.response.specs.Columns.{ServersOf};
 
-use plan::Columns;
+use plan::AsPlan;
 
 // Three numbers of each guest of a plan, a column for each number, since the edges of quotients go along columns: only a
 // Deferrable guest has a jitter. How many of the guests stand above is each call's, so `AboveIn` stays in the contracts.
@@ -28,23 +26,21 @@ fn jitter_for(deferrable: u32, capacity: u32, period: u32) -> u32
     period.saturating_sub(capacity)
 }
 
-// The servers of all eight places of a plan, off its columns.
-pub fn servers_of(columns: &Columns) -> Servers
-    ensures { (gs : List Guest) → ColumnsOf gs most_guests columns.now → ServersOf gs most_guests result }
+// The servers of all eight places of a plan, each number stored once: a column that is copied as soon as it is filled
+// waits for its stores.
+pub fn servers_of<P: AsPlan>(plan: &P) -> Servers
+    ensures { ServersOf (P.plan plan.now).guests most_guests result }
 {
-    let Columns {
-        capacities,
-        periods,
-        deferrable,
-        ..
-    } = columns;
-    let mut jitters = [0u32; 16];
+    let mut servers = Servers {
+        capacities: [0; 16],
+        periods: [0; 16],
+        jitters: [0; 16],
+    };
     for k in 0..8 {
-        jitters[k] = jitter_for(deferrable[k], capacities[k], periods[k]);
+        let g = plan.guest(k);
+        servers.capacities[k] = g.capacity;
+        servers.periods[k] = g.period;
+        servers.jitters[k] = jitter_for(g.deferrable, g.capacity, g.period);
     }
-    Servers {
-        capacities: *capacities,
-        periods: *periods,
-        jitters,
-    }
+    servers
 }

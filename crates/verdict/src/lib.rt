@@ -4,7 +4,7 @@
 ghost use Rattle.verdict.specs.Promises.{GuestJudged, TaskJudged, Accepts};
 
 use judge::{guest_says, judge_task};
-use plan::{AsPlan, Refusal, check, columns_of, has_task};
+use plan::{AsPlan, Refusal, check, has_task};
 use response::{Seat, guest_accepted, response_at, seat_of, servers_of};
 
 mod judge;
@@ -61,7 +61,7 @@ pub fn accept<P: AsPlan>(plan: &P) -> Result<Acceptance, Refusal>
     ensures { Accepts (P.plan plan.now) result }
 {
     check(plan)?;
-    let servers = servers_of(&columns_of(plan));
+    let servers = servers_of(plan);
     for k in 0..plan.count() as usize {
         if !guest_accepted(&servers, k, &plan.guest(k)) {
             return Ok(Acceptance::NotAccepted);

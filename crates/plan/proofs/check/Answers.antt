@@ -25,7 +25,7 @@ returns-in-Err g c =
     let p = g.P.AsPlan.plan c.args.plan.now in
     let below : c.loop-k.k < p.count = omega (arith, c.count-count.ensures) in
     let e = err_number _ _ (sym c.in-Err.is ∙ c.guest_passes.ensures) in
-    let number = number_is p.guests _ c.loop-k.k (omega arith) c.columns_of-columns.ensures.ids c.guest.ensures c.new_id-new.ensures in
+    let number = number_is p.guests _ c.loop-k.k (omega arith) c.columns_of.ensures.ids c.guest.ensures c.new_id-new.ensures in
     err_unless _ _ (first_here _ p.count _ _ below (e.0 ∙ number) (omega (arith, e)) ∙ c.loop-k.invariant.left) (omega (arith, e))
 
 pub loop-k-preserved : goal.loop-k-preserved
@@ -33,7 +33,7 @@ loop-k-preserved g c =
     let p = g.P.AsPlan.plan c.args.plan.now in
     let below : c.loop-k.k < p.count = omega (arith, c.count-count.ensures) in
     let e = ok_number _ (sym c.in_default.is ∙ c.guest_passes.ensures) in
-    let number = number_is p.guests _ c.loop-k.k (omega arith) c.columns_of-columns.ensures.ids c.guest.ensures c.new_id-new.ensures in
+    let number = number_is p.guests _ c.loop-k.k (omega arith) c.columns_of.ensures.ids c.guest.ensures c.new_id-new.ensures in
     record { few = c.loop-k.invariant.few; left = first_next _ p.count _ _ below (sym e.0 ∙ number) (omega arith) ∙ c.loop-k.invariant.left }
 
 pub returns : goal.returns

@@ -28,7 +28,7 @@ pub guest_accepted-requires : goal.guest_accepted-requires
 guest_accepted-requires g c =
     let p = g.P.AsPlan.plan c.args.plan.now in
     rw c.guest.ensures
-    (seated_at p (c.servers_of-servers.ensures _ c.columns_of.ensures) (check_order p c.in_ok-check.ensures) _
+    (seated_at p c.servers_of-servers.ensures (check_order p c.in_ok-check.ensures) _
     (omega (arith, c.count-k-end.ensures)))
 
 pub returns-then-not-guest_accepted : goal.returns-then-not-guest_accepted
@@ -36,7 +36,7 @@ unfolding accept_says
 returns-then-not-guest_accepted g c =
     let p = g.P.AsPlan.plan c.args.plan.now in
     let accepted = rw c.guest.ensures at c.guest_accepted.ensures in
-    plan_accepted p c.in_ok-check.ensures (c.servers_of-servers.ensures _ c.columns_of.ensures)
+    plan_accepted p c.in_ok-check.ensures c.servers_of-servers.ensures
     (all_fails _ _ _ (omega (arith, c.count-k-end.ensures)) (sym accepted ∙ c.if-not-guest_accepted.true))
 
 pub loop-k-preserved : goal.loop-k-preserved
@@ -48,5 +48,5 @@ pub returns : goal.returns
 unfolding accept_says
 returns g c =
     let p = g.P.AsPlan.plan c.args.plan.now in
-    plan_accepted p c.in_ok-check.ensures (c.servers_of-servers.ensures _ c.columns_of.ensures)
+    plan_accepted p c.in_ok-check.ensures c.servers_of-servers.ensures
     (all_done _ _ _ (omega (arith, c.count-k-end.ensures)) c.loop-k.invariant)

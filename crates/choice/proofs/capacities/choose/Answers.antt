@@ -15,7 +15,7 @@ returns-in_err-start_check c =
 pub loop-k-init : goal.loop-k-init
 loop-k-init c =
     goes_first _ (ok_says (start_refusal c.args.plan) c.in_ok-start_check.ensures).0
-    (c.servers_of-servers.ensures _ c.columns_of.ensures)
+    c.servers_of-servers.ensures
 
 pub returns-in-None : goal.returns-in-None
 returns-in-None c =

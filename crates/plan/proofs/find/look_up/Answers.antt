@@ -1,11 +1,11 @@
--- `plan::look_up` meets its contract: in records in order 7, else the place in the column of ids. Assumes nothing.
-use Rattle.plan.proofs.LookUp.{looked_found, looked_missing}
+-- `plan::look_up` meets its contract: in records in order the first guest with the id, else 7. Assumes nothing.
+use Rattle.std.proofs.Common.{◌<◌, arith, ap, sym, ◌∙◌}
+use Rattle.plan.proofs.LookUp.{looked_found}
 use Rattle.plan.proofs.find.look_up.Goals as goal
 
-pub returns-then-n-place : goal.returns-then-n-place
-returns-then-n-place g c = λ f.
-    looked_missing _ _ c.in_ok-check.ensures c.count-n.ensures c.place_of-place.ensures f.ids c.if-n-place.true
-
-pub returns : goal.returns
-returns g c = λ f.
-    looked_found _ _ c.in_ok-check.ensures c.count-n.ensures c.place_of-place.ensures f.ids c.if-n-place.false
+pub returns-then-guest-id : goal.returns-then-guest-id
+returns-then-guest-id g c =
+    let p = g.P.AsPlan.plan c.args.plan.now in
+    let below : c.loop-k.k < p.count = omega (arith, c.count-k-end.ensures) in
+    let same = sym (ap (λ x. x.id) c.guest.ensures) ∙ c.if-guest-id.true in
+    looked_found p _ c.in_ok-check.ensures c.loop-k.invariant below same
