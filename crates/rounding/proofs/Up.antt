@@ -66,6 +66,14 @@ up_by_sum a (suc b) =
 pub up_ceil : (a b : ℕ) → 0 < b → up a b ≡ a / b + min 1 (a % b)
 up_ceil a b pos = up_is a b (a / b + min 1 (a % b)) pos (div_ceil_times a b pos).0 (div_ceil_times a b pos).1
 
+-- where nothing is left over the quotient stays as it is
+pub up_whole : (a b : ℕ) → 0 < b → a % b ≡ 0 → up a b ≡ a / b
+up_whole a b pos e = omega (arith, up_ceil a b pos)
+
+-- where something is left over the quotient is rounded up by one
+pub up_more : (a b : ℕ) → 0 < b → 0 < a % b → up a b ≡ a / b + 1
+up_more a b pos r = omega (arith, up_ceil a b pos)
+
 -- the quotient rounded up grows with a, for every divisor
 pub up_mono : (b : ℕ) {a a' : ℕ} → a ≤ a' → up a b ≤ up a' b
 up_mono zero {a} {a'} h = omega (arith, up_zero a, up_zero a')
