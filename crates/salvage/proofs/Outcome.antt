@@ -124,16 +124,17 @@ module _ {s : List ℕ} {n : ℕ} {t : Sifted} (g : GoneThrough s n t) where
       pub room_for : block_size * length (places_of t.kept) ≤ length before
       room_for = (salvage_in (length s) (length (places_of t.kept)) (length before) no_number).fits
 
-      -- Then the kept blocks are written.
-      pub outcome_written : (y : List ℕ)
+      -- Then the kept blocks are written, and counted.
+      pub outcome_written : {written : ℕ} (y : List ℕ)
+          → written ≡ length (places_of t.kept)
           → y ≡ moved_up s (places_of t.kept) ++ drop (block_size * length (places_of t.kept)) before
-          → Salvages s before (answer_of 0 (length (places_of t.kept)) n t.fates) y
+          → Salvages s before (answer_of 0 written n t.fates) y
       unfolding salvaged_of blocks_written
-      outcome_written y e =
+      outcome_written y m e =
           let z : number_of s (length before) ≡ 0 = rw kept_is at no_number in
           let w = written_all (number_of s (length before)) (length (kept_in s)) (moved_up s (kept_in s)) before z in
           let l : block_size * length (kept_in s) ≡ length (moved_up s (kept_in s)) =
           sym (up_length s (listed_in (length s)) (listed_most (length s)).1) in (
-            rw (list_is, g.whole, kept_is, z) refl,
+            rw (m, list_is, g.whole, kept_is, z) refl,
             e ∙ rw (kept_is, l) w.1,
           )

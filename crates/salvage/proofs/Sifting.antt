@@ -31,15 +31,16 @@ module _ (s : List ℕ) (k : ℕ) {kept : List ℕ} {fates : List Fate} (t : Sta
   module _ (h : k < most_guests) where
     -- Block k is kept.
     pub turn_kept :
-        {w : Unit {0}}
+        {w : Unit {0}} {place : ℕ}
+        → place ≡ length kept
         → Ok w ≡ unless_number (number_after s kept k) (tt {0})
-        → Standing s (k + 1) (kept ++ (k ∷ [])) (set fates k (record { number = 0; place = length kept }))
+        → Standing s (k + 1) (kept ++ (k ∷ [])) (set fates k (record { number = 0; place = place }))
     unfolding fate_by
-    turn_kept q =
+    turn_kept {place} l q =
         let z : drop_number s k ≡ 0 = rw t.places at (ok_number (number_after s kept k) q).0 in
         record {
           places = rw (add-one k, kept_on s k z, t.places) refl;
-          list = fates_next s k fates (record { number = 0; place = length kept }) h t.list (rw (z, t.places) refl);
+          list = fates_next s k fates (record { number = 0; place = place }) h t.list (rw (z, l, t.places) refl);
         }
 
     -- Block k is dropped.

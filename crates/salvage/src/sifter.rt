@@ -45,11 +45,12 @@ pub fn sift(file: &[u8], n: usize) -> Sifted
         place: 0,
     }; 8];
     for k in 0..n {
-        match number_after(file, kept.places(), k) {
+        let before = kept.places();
+        match number_after(file, before, k) {
             Ok(()) => {
                 fates[k] = Fate {
                     number: 0,
-                    place: kept.places().len() as u32,
+                    place: before.len() as u32,
                 };
                 kept.push(k);
             }

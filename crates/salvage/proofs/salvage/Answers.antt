@@ -1,5 +1,5 @@
 -- `salvage::salvage` meets its contract: what the number says is written, or nothing. Assumes nothing.
-use Rattle.std.proofs.Common.{length, ◌∙◌, arith}
+use Rattle.std.proofs.Common.{length, ap, ◌∙◌, arith}
 use Rattle.salvage.proofs.Outcome.{listed_most, GoneThrough, few_listed, few_kept, each_kept, room_for, outcome_refused, outcome_written}
 use Rattle.salvage.proofs.salvage.Goals as goal
 
@@ -38,7 +38,7 @@ pub told-requires-2 : goal.told-requires-2
 told-requires-2 c =
     let g : GoneThrough c.args.file.now c.listed_in-n.result c.sift-sifted.result =
     record { whole = c.listed_in-n.ensures; sifted = c.sift-sifted.ensures } in
-    rw c.places-kept.ensures (few_kept g, few_listed g)
+    omega (arith, ap length c.places-kept.ensures, few_kept g, few_listed g)
 
 pub returns : goal.returns
 returns c =
@@ -46,5 +46,5 @@ returns c =
     record { whole = c.listed_in-n.ensures; sifted = c.sift-sifted.ensures } in
     let w =
     outcome_written g c.args.out.now (rw c.places-kept.ensures at c.in_default.ensures) _
-    (rw c.places-kept.ensures at c.put_moved_up.ensures) in
-    (c.told-2.ensures ∙ rw c.places-kept.ensures w.0, w.1)
+    (omega (arith, ap length c.places-kept.ensures)) (rw c.places-kept.ensures at c.put_moved_up.ensures) in
+    (c.told-2.ensures ∙ w.0, w.1)
